@@ -3,23 +3,13 @@
 #![tactic(auto)]
 
 use mpx_comm::{Comm, Desk, Host};
-use mpx_node::Finished;
 use mpx_num::{Numbers, Op, Ops, Ty};
-use mpx_ranks::{Program, ranks};
-use mpx_value::Outcome;
+use mpx_ranks::{Program, numbers_of, ranks};
 use std::alloc::Global;
 use std::process::ExitCode;
 
 // So many turns a call waits at most.
 const TURNS: u64 = 1_000_000;
-
-// What a call gave this rank.
-fn numbers_of(finished: &Finished) -> &[i128] {
-    match &finished.outcome {
-        Outcome::Items(items) => items.nums(),
-        _ => &[],
-    }
-}
 
 struct FirstSum;
 
@@ -52,7 +42,7 @@ impl Program for FirstSum {
         let gathered = desk
             .gather(alloc, &half, 0, Ty::I64, Numbers::one(mine), TURNS, ops)
             .ok()?;
-        let (sum, all) = (numbers_of(&added), numbers_of(&gathered));
+        let (sum, all) = (numbers_of(&added).ok()?, numbers_of(&gathered).ok()?);
         format!(in alloc; "{sum:?}, {} of {}, {all:?}", half.rank(), half.size()).ok()
     }
 }

@@ -5,12 +5,13 @@ use crate::gates::{Both, Counting};
 use crate::lines::{number_of, word_at, words_of};
 use crate::statements::{last_statement, sizes, statements};
 use crate::streams::{Failing, Holding, Limited};
+use crate::terminals::{Leaping, Shown};
 use mpx_num::Ops;
 use mpx_program::{refuse, run_job, run_job_observed, status_of, write_message};
 use mpx_run::{Command, Gate, Job, Options, Unobserved, run_text, run_text_observed};
 use mpx_script::ReadScriptError;
-use mpx_trace::{Table, Trace};
-use mpx_words::{flags_behind, not_text};
+use mpx_shell::Seen;
+use mpx_words::not_text;
 use std::alloc::Global;
 use std::io::{self, Read, Write};
 use std::sync::Wait;
@@ -74,6 +75,8 @@ fn streamed<T: Threads + Wait + Sync>(
         length(rt, alloc, line, script, ops)
     } else if word == b"status".as_slice() {
         status(rt, alloc, line, script, ops)
+    } else if word == b"terminal".as_slice() {
+        on_terminal(rt, alloc, line, script, ops)
     } else if word == b"many".as_slice() {
         with_many(rt, alloc, line, script, first, ops)
     } else {
@@ -107,20 +110,43 @@ fn called_by<T: Threads + Wait + Sync, R: Read, W: Write>(
     out: &mut W,
     ops: &Ops,
 ) -> io::Result<Vec<u8>> {
-    let flags = flags_behind(words);
+    shown_on(rt, alloc, words, reader, out, false, ops)
+}
+
+// The same, where the run is shown on what is a terminal or isn't: what it was shown comes first, and then what the standard error is told.
+fn shown_on<T: Threads + Wait + Sync, R: Read, W: Write>(
+    rt: &T,
+    alloc: Global,
+    words: &[String],
+    reader: &mut R,
+    out: &mut W,
+    is_terminal: bool,
+    ops: &Ops,
+) -> io::Result<Vec<u8>> {
+    let shown = Shown {
+        text: Vec::new(alloc),
+        is_terminal,
+    };
     let mut said = Vec::new(alloc);
-    if flags.trace {
-        let mut trace = Trace::new(alloc, Vec::new(alloc));
-        let exit = run_job_observed(rt, alloc, words, reader, out, &mut said, &mut trace, ops);
-        return with_status(trace.into_writer(), &said, exit.status);
-    }
-    if flags.table {
-        let mut table = Table::new(alloc, Vec::new(alloc));
-        let exit = run_job_observed(rt, alloc, words, reader, out, &mut said, &mut table, ops);
-        return with_status(table.into_writer(), &said, exit.status);
-    }
-    let exit = run_job(rt, alloc, words, reader, out, &mut said, ops);
-    with_status(Vec::new(alloc), &said, exit.status)
+    let clock = Leaping::new();
+    let mut seen = Seen::of(words, alloc, &clock, shown);
+    let exit = run_job_observed(rt, alloc, words, reader, out, &mut said, &mut seen, ops);
+    with_status(seen.into_writer().text, &said, exit.status)
+}
+
+// `terminal WORDS`: what is told of the run as it goes on a terminal, whose clock leaps on by two seconds at each look.
+fn on_terminal<T: Threads + Wait + Sync>(
+    rt: &T,
+    alloc: Global,
+    line: &[u8],
+    script: &[u8],
+    ops: &Ops,
+) -> io::Result<Vec<u8>> {
+    let words = words_of(alloc, line, 2)?;
+    let mut out = Vec::new(alloc);
+    let mut reader = script;
+    let said = shown_on(rt, alloc, &words, &mut reader, &mut out, true, ops)?;
+    ended(out, &said)
 }
 
 // What was shown of a run and then said, with the status.

@@ -1,6 +1,6 @@
 //! Gates of runs in threads: one that counts steps, and one that holds two ranks until both have come.
 use mpx_group::Proc;
-use mpx_run::{Gate, Pass, Step};
+use mpx_run::{BusStep, Gate, Pass};
 use std::alloc::Global;
 use std::io;
 use std::io::Write;
@@ -24,18 +24,18 @@ struct StepCounts {
 }
 
 impl StepCounts {
-    fn count(&self, step: Step, nth: u64) {
+    fn count(&self, step: BusStep, nth: u64) {
         let (pops, pushes) = self.counts();
         let wanted = match step {
-            Step::Pop => (nth, nth),
-            Step::Push => (nth.wrapping_add(1), nth),
+            BusStep::Pop => (nth, nth),
+            BusStep::Push => (nth.wrapping_add(1), nth),
         };
         if (pops, pushes) != wanted {
             self.in_turn.store(false, Ordering::SeqCst);
         }
         match step {
-            Step::Pop => self.pops.fetch_add(1, Ordering::SeqCst),
-            Step::Push => self.pushes.fetch_add(1, Ordering::SeqCst),
+            BusStep::Pop => self.pops.fetch_add(1, Ordering::SeqCst),
+            BusStep::Push => self.pushes.fetch_add(1, Ordering::SeqCst),
         };
     }
 
@@ -93,15 +93,15 @@ impl Counting {
 
 impl Gate for Counting {
     ghost use Rattle.std.specs.Prelude.{◌≡◌};
-    ghost use Rattle.mpx_threads.specs.declared.gate.Step.TheVariants.{Push};
+    ghost use Rattle.mpx_threads.specs.declared.gate.BusStep.TheVariants.{Push};
 
     ghost gives_up = { λ _gate process step nth. (process ≡ 0) × ((step ≡ Push) × (nth ≡ 4)) };
 
-    fn pass(&self, process: Proc, step: Step, nth: u64) -> Pass {
+    fn pass(&self, process: Proc, step: BusStep, nth: u64) -> Pass {
         if let Some(steps) = self.steps.get(usize::from(process.number())) {
             steps.count(step, nth);
         }
-        if self.gives_up && process.number() == 0 && step == Step::Push && nth == 4 {
+        if self.gives_up && process.number() == 0 && step == BusStep::Push && nth == 4 {
             Pass::GiveUp
         } else {
             Pass::Go
@@ -133,12 +133,12 @@ impl Both {
 
 impl Gate for Both {
     ghost use Rattle.std.specs.Prelude.{◌≡◌};
-    ghost use Rattle.mpx_threads.specs.declared.gate.Step.TheVariants.{Pop};
+    ghost use Rattle.mpx_threads.specs.declared.gate.BusStep.TheVariants.{Pop};
 
     ghost gives_up = { λ _gate _process step nth. (step ≡ Pop) × (nth ≡ 0) };
 
-    fn pass(&self, process: Proc, step: Step, nth: u64) -> Pass {
-        if step == Step::Push || nth != 0 {
+    fn pass(&self, process: Proc, step: BusStep, nth: u64) -> Pass {
+        if step == BusStep::Push || nth != 0 {
             return Pass::Go;
         }
         match process.number() {

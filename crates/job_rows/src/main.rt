@@ -15,6 +15,7 @@ mod lines;
 mod more_runs;
 mod statements;
 mod streams;
+mod terminals;
 
 use crate::calls::told;
 use crate::lines::of_pieces;

@@ -34,9 +34,13 @@ impl From<AtOnceError> for OutOfMemory {
     }
 }
 
-/// Who can tell the tasks under way that they are to end, since others couldn't begin.
+/// Who stands by in the thread that has tasks done.
 pub trait Stop {
+    /// Tells the tasks under way that they are to end, since others couldn't begin.
     fn stop(&self);
+
+    /// What that thread does once all tasks have begun, before it joins them. It may wait for them.
+    fn meanwhile<R: Wait>(&self, _rt: &R) {}
 }
 
 /// Does the first task in a thread of its own, and the second in this one. Where that thread is refused neither is done.
@@ -118,17 +122,9 @@ pub fn all_at_once<
             requires { AllCan T.can_run (L.operations ops.now) tasks.items }
             ensures { IfOk result (λ all. AllGive T.gives tasks.items all.items) }
         {
-            let joined = match start_all(scope, alloc, tasks, ops) {
-                Ok(handles) => match join_all(rt, alloc, handles) {
-                    Ok(all) => Ok(all),
-                    Err(OutOfMemory) => Err(AtOnceError::OutOfMemory),
-                },
-                Err(refusal) => Err(refusal),
-            };
-            if joined.is_err() {
-                stop.stop();
-            }
-            joined
+            let handles = start_all(scope, rt, alloc, tasks, ops, stop)?;
+            stop.meanwhile(rt);
+            Ok(join_all(rt, alloc, handles, stop)?)
         },
     )
 }
@@ -166,37 +162,66 @@ fn start<
 fn start_all<
     's,
     E,
+    R: Threads,
     L: Listing + Sync + 's,
     A: Send + Drop + 's,
     T: Task<L, Output = A> + Send + Drop + 's,
+    S: Stop,
 >(
     scope: &Scope<'s, E>,
+    rt: &R,
     alloc: Global,
     tasks: Vec<T>,
     ops: &'s L,
+    stop: &S,
 ) -> Result<Vec<PromisedHandle<A, TaskPromise<L, T>>>, AtOnceError>
     requires { AllCan T.can_run (L.operations ops.now) tasks.items }
     ensures { IfOk result (λ handles. tasks_of handles.items ≡ tasks.items) }
 {
     let mut handles = Vec::new(alloc);
     for task in tasks {
-        let handle = start(scope, task, ops)?;
-        if handles.push(handle).is_err() {
+        let handle = match start(scope, task, ops) {
+            Ok(handle) => handle,
+            Err(refusal) => {
+                stop.stop();
+                let_go(rt, handles);
+                return Err(refusal);
+            }
+        };
+        if let Err(left) = handles.push(handle) {
+            stop.stop();
+            drop(left.value.join(rt));
+            let_go(rt, handles);
             return Err(AtOnceError::OutOfMemory);
         }
     }
     Ok(handles)
 }
 
-// What each thread gave.
-fn join_all<R: Threads, L: Listing, A: Send + Drop, T: Task<L, Output = A>>(
+// Joins threads that were told to stop, and drops what they gave: where a thread isn't joined, that is never freed.
+fn let_go<R: Threads, L: Listing, A: Send + Drop, T: Task<L, Output = A>>(
+    rt: &R,
+    handles: Vec<PromisedHandle<A, TaskPromise<L, T>>>,
+) {
+    for handle in handles {
+        drop(handle.join(rt));
+    }
+}
+
+// What each thread gave. Room for it is asked for before the first is joined.
+fn join_all<R: Threads, L: Listing, A: Send + Drop, T: Task<L, Output = A>, S: Stop>(
     rt: &R,
     alloc: Global,
     handles: Vec<PromisedHandle<A, TaskPromise<L, T>>>,
+    stop: &S,
 ) -> Result<Vec<A>, OutOfMemory>
     ensures { IfOk result (λ all. AllGive T.gives (tasks_of handles.items) all.items) }
 {
-    let mut all = Vec::new(alloc);
+    let Ok(mut all) = Vec::with_capacity(alloc, handles.len()) else {
+        stop.stop();
+        let_go(rt, handles);
+        return Err(OutOfMemory);
+    };
     for handle in handles {
         all.push(handle.join(rt))?;
     }

@@ -22,7 +22,7 @@ use Rattle.mpx_board.specs.Looks.{look, parts_of}
 use Rattle.mpx_board.specs.Parts.{PartsView}
 use Rattle.mpx_format.specs.Decoding.{IsSpelled}
 use Rattle.mpx_format.specs.declared.versions.Version.TheVariants.{Two}
-use Rattle.mpx_parts.specs.Facts.{OnlyFactsOf}
+use Rattle.mpx_delta.specs.Facts.{OnlyFactsOf}
 use Rattle.mpx_delta.specs.Digests.{HasUpTo, Numbers}
 use Rattle.mpx_node.specs.declared.finished.Finished.{Finished}
 use Rattle.mpx_node.specs.declared.node.Harvest.TheVariants as H

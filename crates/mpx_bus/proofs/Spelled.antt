@@ -10,7 +10,7 @@ use Rattle.mpx_format.specs.Decoding.{Spells, most_bytes}
 use Rattle.mpx_format.specs.declared.versions.Version.TheVariants.{Two}
 use Rattle.mpx_format.specs.Encoding.{is_too_long, length_told}
 use Rattle.mpx_format.proofs.Decoded.{decoded_again}
-use Rattle.mpx_parts.specs.Facts.{OnlyFactsOf}
+use Rattle.mpx_delta.specs.Facts.{OnlyFactsOf}
 use Rattle.mpx_bus.specs.Frames.{shown, part_of, AreSpelled}
 
 -- they show these boards

@@ -3,7 +3,7 @@ use Rattle.std.specs.Prelude.{◌≡◌, ◌≢◌, ◌≤◌, ℕ, All, List, [
 use Rattle.atomic_table.specs.Seated.{TableId}
 use Rattle.mpx_board.specs.declared.board.Board.{Board}
 use Rattle.mpx_board.specs.Boards.{join_all}
-use Rattle.mpx_parts.specs.Facts.{OnlyFactsOf}
+use Rattle.mpx_delta.specs.Facts.{OnlyFactsOf}
 use Rattle.mpx_node.specs.Nodes.{NodeView}
 use Rattle.mpx_node.specs.Deltas.{SaysWhatItHas, lacking_on}
 use Rattle.mpx_world.specs.Worlds.{ProcessView, Happening, MayGoOn}

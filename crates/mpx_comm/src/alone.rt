@@ -1,13 +1,13 @@
 //! A desk over a node alone, whose user carries the boards.
-ghost use Rattle.std.specs.Prelude.{◌≡◌, ◌≤◌, All, IfOk, IsTrue, OnOk, OnErr, is_ok, map, refl};
+ghost use Rattle.std.specs.Prelude.{ℕ, ◌≡◌, ◌≤◌, All, IfOk, IsTrue, OnOk, OnErr, is_ok, map, refl};
 ghost use Rattle.mpx_board.specs.Boards.{IsBoardBelow, join_all};
 ghost use Rattle.mpx_board.specs.Changes.{pruned_on};
 ghost use Rattle.mpx_board.specs.Looks.{look, parts_of};
 ghost use Rattle.mpx_format.specs.Decoding.{decoded, shown};
 ghost use Rattle.mpx_format.specs.Encoding.{length_told};
-ghost use Rattle.mpx_parts.specs.Facts.{OnlyFactsOf};
+ghost use Rattle.mpx_delta.specs.Facts.{OnlyFactsOf};
 ghost use Rattle.mpx_node.specs.laws.Bounded.{node_bounded};
-ghost use Rattle.mpx_node.specs.Deltas.{AreLacked, SaysWhatItHas, lacking_on};
+ghost use Rattle.mpx_node.specs.Deltas.{AreLacked, LackFrames, SaysWhatItHas, lacking_on};
 ghost use Rattle.mpx_node.specs.Nodes.{StopsTaking, learn, learn_some, prune_part};
 ghost use Rattle.mpx_comm.specs.Harvested.{HarvestsNext};
 
@@ -15,6 +15,7 @@ use crate::desk::Desk;
 use crate::host::Host;
 use join_core::OutOfMemory;
 use mpx_board::{Board, PruneError};
+use mpx_delta::NewFrames;
 use mpx_name::Name;
 use mpx_node::{Finished, Harvest, Node};
 use mpx_num::{Listing, Ops};
@@ -154,5 +155,34 @@ impl Desk<Node> {
         ensures requests { self.new.requests.keys ≡ self.old.requests.keys }
     {
         self.host.framed_deltas(alloc, limit, spare)
+    }
+
+    /// What [`Desk::framed_deltas`] stores and gives, made ahead from the desk as it stands, as [`Node::lacking_frames`] makes it.
+    /// [`Desk::say`] stores it. An `Err` is want of memory.
+    pub fn lacking_frames(
+        &mut self,
+        alloc: Global,
+        limit: usize,
+        spare: &mut Vec<Vec<u8>>,
+    ) -> Result<NewFrames, OutOfMemory>
+        requires least { 524288 ≤ limit }
+        requires most { limit ≤ 1048576 }
+        ensures node { node_of self.new.host ≡ node_of self.old.host }
+        ensures made { IfOk result (λ made. LackFrames limit (node_of self.old.host) made.said (map (λ frame. frame.items) made.frames.items)) }
+        ensures requests { self.new.requests.keys ≡ self.old.requests.keys }
+    {
+        self.host.lacking_frames(alloc, limit, spare)
+    }
+
+    /// Stores what [`Desk::lacking_frames`] made from the desk as it stands, and gives its frames. It takes no memory and can't fail.
+    pub fn say(&mut self, made: NewFrames) -> Vec<Vec<u8>>
+        requires made { (limit : ℕ) × LackFrames limit (node_of self.old.host) made.said (map (λ frame. frame.items) made.frames.items) }
+        ensures own { SaysWhatItHas (node_of self.old.host) (node_of self.new.host) }
+        ensures frames { (limit : ℕ) → LackFrames limit (node_of self.old.host) made.said (map (λ frame. frame.items) made.frames.items) → AreLacked limit (node_of self.new.host) (map (λ frame. frame.items) result.items) }
+        ensures requests { self.new.requests.keys ≡ self.old.requests.keys }
+    {
+        let NewFrames { said, frames } = made;
+        self.host.acknowledge(said);
+        frames
     }
 }

@@ -4,7 +4,14 @@ pub mod Signed
 pub mod Integers
 pub mod PostLimits
 pub mod RightRows
+mod Fours
 pub mod OneRow
 pub mod RaisedRows
 pub mod Taken
+mod Stricter
+mod RaisedCalls
+mod HeldFront
+mod JoinedParts
+mod FrontPosts
+pub mod NoParts
 pub mod NameFront

@@ -29,12 +29,12 @@ use Rattle.mpx_decode.proofs.Loop.{ReadSoFar, begins, goes_on, is_done}
 
 -- ENTRIES THAT ARE READ
 
-abbrev either : {V : Type 0} → Option V → Option V → Option V
+abbrev pub either : {V : Type 0} → Option V → Option V → Option V
 either None b = b
 either (Some a) b = Some a
 
 module _ {K V : Type 0} {R : K → K → Ordering} (o : IsTotalOrder R) where
-  find_append : (q : K) (front more : List (K × V)) → find R q (front ++ more) ≡ either (find R q front) (find R q more)
+  pub find_append : (q : K) (front more : List (K × V)) → find R q (front ++ more) ≡ either (find R q front) (find R q more)
   find_append q [] more = refl
   find_append q (e ∷ front) more = elim (answer (eq_by_cmp R q e.0)) [ yes t ↦ rw t refl | no n ↦ rw n (find_append q front more) ]
 
@@ -43,7 +43,7 @@ module _ {K V : Type 0} {R : K → K → Ordering} (o : IsTotalOrder R) where
   below_end x (y ∷ front) e h = below_end x front e (and_parts (is_lt (R x y.0)) (below_all R x (front ++ e ∷ [])) h).1
 
   -- a key above all is none of them
-  find_above : (front : List (K × V)) (e : K × V) → is_sorted R (front ++ e ∷ []) ≡ true → find R e.0 front ≡ None
+  pub find_above : (front : List (K × V)) (e : K × V) → is_sorted R (front ++ e ∷ []) ≡ true → find R e.0 front ≡ None
   find_above [] e h = refl
   find_above (x ∷ front) e h =
       let parts = and_parts (below_all R x.0 (front ++ e ∷ [])) (is_sorted R (front ++ e ∷ [])) h in
@@ -71,7 +71,7 @@ module _ {K V : Type 0} {R : K → K → Ordering} (o : IsTotalOrder R) (key : F
   each = entry R None key value always
 
   -- entries that are read rise
-  many_sorted : (n : ℕ) (before : List (K × V)) (bytes : List ℕ) (x : List (K × V) × List ℕ) → is_sorted R before ≡ true → many_read each n before bytes ≡ Ok x → is_sorted R (before ++ x.0) ≡ true
+  pub many_sorted : (n : ℕ) (before : List (K × V)) (bytes : List ℕ) (x : List (K × V) × List ℕ) → is_sorted R before ≡ true → many_read each n before bytes ≡ Ok x → is_sorted R (before ++ x.0) ≡ true
   unfolding many_read
   many_sorted zero before bytes x h e =
       let same : ([], bytes) ≡ x = ok_is ([], bytes) x e in
@@ -85,14 +85,14 @@ module _ {K V : Type 0} {R : K → K → Ordering} (o : IsTotalOrder R) (key : F
       subst (λ (y : List (K × V) × List ℕ). is_sorted R (before ++ y.0) ≡ true) same (subst (λ (l : List (K × V)). is_sorted R l ≡ true) (append_assoc before (a.0.0 ∷ []) b.0.0) rest)
 
 -- the entry that is read next, and those after it
-record Next {V : Type 0} (f : List V → Format V) (front : List V) (left : List ℕ) (all : List V) : Type 0 where
+pub record Next {V : Type 0} (f : List V → Format V) (front : List V) (left : List ℕ) (all : List V) : Type 0 where
   pub here : V
   pub after : List ℕ
   pub more : List V
   pub read : (f front).read left ≡ Ok (here, after)
   pub whole : all ≡ front ++ here ∷ more
 
-next_read : {V : Type 0} (f : List V → Format V) (front : List V) (count i : ℕ) (left bytes : List ℕ) (x : List V × List ℕ) → i < count → ReadSoFar f count i front left bytes → many_read f count [] bytes ≡ Ok x → Next f front left x.0
+pub next_read : {V : Type 0} (f : List V → Format V) (front : List V) (count i : ℕ) (left bytes : List ℕ) (x : List V × List ℕ) → i < count → ReadSoFar f count i front left bytes → many_read f count [] bytes ≡ Ok x → Next f front left x.0
 unfolding many_read
 next_read {V} f front count i left bytes x lt so_far e =
     let k : count - i ≡ suc (count - (i + 1)) = omega arith in
@@ -119,11 +119,11 @@ pub record SoFar {K J V : Type 0} (R : K → K → Ordering) (key : Format K) (v
   pub rise : is_sorted R front ≡ true
   pub joined : (q : K) → find R q (seen view now) ≡ option_join j (find R q (seen view old)) (find R q front)
 
-join_none : {V : Type 0} (j : Joining V) (a : Option V) → option_join j a None ≡ a
+pub join_none : {V : Type 0} (j : Joining V) (a : Option V) → option_join j a None ≡ a
 join_none j None = refl
 join_none j (Some a) = refl
 
-kept : {V : Type 0} (between : V → V → V → Type 0) (a m : Option V) → option_between between a None m → m ≡ a
+pub kept : {V : Type 0} (between : V → V → V → Type 0) (a m : Option V) → option_between between a None m → m ≡ a
 kept between None m h = h
 kept between (Some a) m h = h
 
@@ -132,12 +132,12 @@ module _ {K V : Type 0} (R : K → K → Ordering) (key : Format K) (value : For
   all_rows = rows R key value count
 
   -- entries are read where rows are
-  entries_read : (x : FinMap R V × List ℕ) → all_rows.read bytes ≡ Ok x → (y : List (K × V) × List ℕ) × (many_read (entry R None key value always) count [] bytes ≡ Ok y)
+  pub entries_read : (x : FinMap R V × List ℕ) → all_rows.read bytes ≡ Ok x → (y : List (K × V) × List ℕ) × (many_read (entry R None key value always) count [] bytes ≡ Ok y)
   entries_read x e =
       let a = bind_ok (many_read (entry R None key value always) count [] bytes) (λ (y : List (K × V) × List ℕ). Ok (from_sorted {R = R} y.0, y.1)) x e in
       (a.0, a.1)
 
-  rows_read : (y : List (K × V) × List ℕ) → many_read (entry R None key value always) count [] bytes ≡ Ok y → all_rows.read bytes ≡ Ok (from_sorted {R = R} y.0, y.1)
+  pub rows_read : (y : List (K × V) × List ℕ) → many_read (entry R None key value always) count [] bytes ≡ Ok y → all_rows.read bytes ≡ Ok (from_sorted {R = R} y.0, y.1)
   rows_read y e = rw e refl
 
 module _ {K J V : Type 0} {R : K → K → Ordering} (o : IsTotalOrder R) (exact : IsAntisymmetric R) (key : Format K) (value : Format V) (view : J → V) {j : Joining V} (count : ℕ) (bytes : List ℕ) (old : List (K × J)) where

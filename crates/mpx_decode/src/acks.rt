@@ -1,11 +1,11 @@
 //! Reading numbers of calls by process, and acknowledgements.
-ghost use Rattle.std.specs.Prelude.{◌≡◌, ℕ, true};
+ghost use Rattle.std.specs.Prelude.{◌≡◌, ◌≢◌, ℕ, IfErr, List, Ok, true};
 ghost use Rattle.std.specs.Ordering.{nat_cmp};
 ghost use Rattle.std.specs.FinMap.{FinMap};
 ghost use Rattle.join_nest.specs.Seen.{keyed_view};
 ghost use Rattle.mpx_name.specs.Order.{name_cmp};
 ghost use Rattle.mpx_board.specs.Views.{view_of_all_acks};
-ghost use Rattle.mpx_format.specs.Format.{Gives};
+ghost use Rattle.mpx_format.specs.Format.{Gives, byte};
 ghost use Rattle.mpx_format.specs.Fields.{process, name, some_calls, numbers, acks, all_acks, fronts};
 
 use crate::big_endian::read_u8;
@@ -51,12 +51,7 @@ impl WireValue for Max {
         true
     }
 
-    fn read<'a>(
-        _version: Version,
-        _alloc: Global,
-        _at_hand: Option<&Max>,
-        bytes: &'a [u8],
-    ) -> Result<(Max, &'a [u8]), ReadError> {
+    fn read(_version: Version, _alloc: Global, bytes: &[u8]) -> Result<(Max, &[u8]), ReadError> {
         let (number, rest) = read_some_calls(bytes)?;
         Ok((Max(number), rest))
     }
@@ -76,12 +71,11 @@ impl WireValue for VersionVector {
     }
 
     #[tactic(auto, unfolding(mpx_format::specs::Fields::numbers))]
-    fn read<'a>(
+    fn read(
         version: Version,
         alloc: Global,
-        _at_hand: Option<&VersionVector>,
-        bytes: &'a [u8],
-    ) -> Result<(VersionVector, &'a [u8]), ReadError> {
+        bytes: &[u8],
+    ) -> Result<(VersionVector, &[u8]), ReadError> {
         let (count, rest) = read_some_byte(bytes)?;
         let (entries, rest) = read_rows(version, alloc, count as usize, rest)?;
         Ok((Keyed::from_rising(entries), rest))
@@ -102,14 +96,9 @@ impl WireValue for Acks {
     }
 
     #[tactic(auto, unfolding(mpx_format::specs::Fields::acks))]
-    fn read<'a>(
-        version: Version,
-        alloc: Global,
-        _at_hand: Option<&Acks>,
-        bytes: &'a [u8],
-    ) -> Result<(Acks, &'a [u8]), ReadError> {
+    fn read(version: Version, alloc: Global, bytes: &[u8]) -> Result<(Acks, &[u8]), ReadError> {
         let (count, rest) = read_some_names(bytes)?;
-        let (entries, rest) = read_entries(version, alloc, &[], &None, count as usize, rest)?;
+        let (entries, rest) = read_entries(version, alloc, &None, count as usize, rest)?;
         Ok((Keyed::from_rising(entries), rest))
     }
 }
@@ -120,9 +109,10 @@ pub fn read_all_acks(
     alloc: Global,
     bytes: &[u8],
 ) -> Result<(Keyed<Proc, Acks>, &[u8]), ReadError>
-    ensures { Gives (λ x. (view_of_all_acks x.0, x.1.now)) result (all_acks.read bytes.now) }
+    ensures gives { Gives (λ x. (view_of_all_acks x.0, x.1.now)) result (all_acks.read bytes.now) }
+    ensures some { IfErr result (λ e. (rest : List ℕ) → byte.read bytes.now ≢ Ok (0, rest)) }
 {
     let (count, rest) = read_u8(bytes)?;
-    let (entries, rest) = read_entries(version, alloc, &[], &None, count as usize, rest)?;
+    let (entries, rest) = read_entries(version, alloc, &None, count as usize, rest)?;
     Ok((Keyed::from_rising(entries), rest))
 }

@@ -83,12 +83,7 @@ impl WireValue for Birth {
     }
 
     #[tactic(auto, unfolding(mpx_format::specs::Births::birth))]
-    fn read<'a>(
-        _version: Version,
-        alloc: Global,
-        _at_hand: Option<&Birth>,
-        bytes: &'a [u8],
-    ) -> Result<(Birth, &'a [u8]), ReadError> {
+    fn read(_version: Version, alloc: Global, bytes: &[u8]) -> Result<(Birth, &[u8]), ReadError> {
         let (members, rest) = read_members(alloc, bytes)?;
         let (topology, rest) = read_topology(members.len(), alloc, rest)?;
         Ok((Birth::from_parts(alloc, members, topology)?, rest))

@@ -1,5 +1,5 @@
 //! Reading the codes of versions, kinds, modes, operations and types, and bytes that say yes or no.
-ghost use Rattle.std.specs.Prelude.{◌≡◌, ◌<◌, ◌≤◌, nat_lt, IfOk, is_some, true};
+ghost use Rattle.std.specs.Prelude.{◌≡◌, ◌<◌, ◌≤◌, ◌≢◌, nat_lt, IfErr, IfOk, is_some, true};
 ghost use Rattle.std.specs.Option.{option_map_or};
 ghost use Rattle.mpx_num.specs.Operations.{fits};
 ghost use Rattle.mpx_kind.specs.Kinds.{may_be};
@@ -19,7 +19,8 @@ use mpx_num::{Op, Ty, may_stand};
 /// The version at the front of these bytes, which stand behind the magic of a frame, and the bytes after it. An `Err` says that
 /// they end there, or that the version is another one.
 pub fn read_version(bytes: &[u8]) -> Result<(Version, &[u8]), ReadError>
-    ensures { Gives (λ x. (x.0, x.1.now)) result (version_byte.read bytes.now) }
+    ensures gives { Gives (λ x. (x.0, x.1.now)) result (version_byte.read bytes.now) }
+    ensures memory { IfErr result (λ e. e ≢ ReadError.OutOfMemory) }
 {
     let (code, rest) = read_u8(bytes)?;
     if code == 1 {

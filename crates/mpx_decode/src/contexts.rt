@@ -1,5 +1,5 @@
 //! Reading what frames say of contexts.
-ghost use Rattle.std.specs.Prelude.{◌≡◌, true};
+ghost use Rattle.std.specs.Prelude.{◌≡◌, ◌≢◌, ℕ, IfErr, List, Ok, true};
 ghost use Rattle.join_core.specs.Flat.{FlatView};
 ghost use Rattle.join_core.specs.FlatSeen.{flat_view};
 ghost use Rattle.mpx_post.specs.Posts.{Given};
@@ -12,6 +12,7 @@ ghost use Rattle.mpx_format.specs.Fields.{fronts, call, name, name_count};
 ghost use Rattle.mpx_format.specs.Rising.{keyed};
 ghost use Rattle.mpx_name.specs.Order.{name_cmp};
 ghost use Rattle.mpx_board.specs.Views.{view_of_entries};
+ghost use Rattle.mpx_decode.specs.Raising.{no_parts};
 
 use crate::acks::read_all_acks;
 use crate::big_endian::{read_u8, read_u32};
@@ -23,38 +24,28 @@ use join_nest::{Keyed, Lift, Trunc};
 use mpx_birth::Birth;
 use mpx_board::{CallPosts, Entry, Lifted, Parts, VersionVector, is_said, is_told};
 use mpx_format::{ReadError, Version, out_of_limits};
-use mpx_group::Proc;
 use mpx_name::Name;
 use mpx_post::Post;
 use std::alloc::Global;
 
 // A value that is told once.
-fn read_told<'a, T: WireValue>(
+pub fn read_told<T: WireValue>(
     version: Version,
     alloc: Global,
-    at_hand: Option<&T>,
-    bytes: &'a [u8],
-) -> Result<(Flat<T>, &'a [u8]), ReadError>
+    bytes: &[u8],
+) -> Result<(Flat<T>, &[u8]), ReadError>
     ensures { Gives (λ x. (flat_view T.seen x.0, x.1.now)) result ((told (T.format version)).read bytes.now) }
 {
     let (form, rest) = read_u8(bytes)?;
     if form == 0 {
         Ok((Flat::Unknown, rest))
     } else if form == 1 {
-        let (value, rest) = T::read(version, alloc, at_hand, rest)?;
+        let (value, rest) = T::read(version, alloc, rest)?;
         Ok((Flat::Known(value), rest))
     } else if form == 2 {
         Ok((Flat::Clash, rest))
     } else {
         Err(out_of_limits(bytes))
-    }
-}
-
-// The post that is known.
-fn known_of(posted: Option<&Flat<Post>>) -> Option<&Post> {
-    match posted {
-        Some(Flat::Known(post)) => Some(post),
-        _ => None,
     }
 }
 
@@ -72,31 +63,17 @@ impl WireValue for Flat<Post> {
     }
 
     #[tactic(auto, unfolding(mpx_format::specs::Contexts::posted))]
-    fn read<'a>(
+    fn read(
         version: Version,
         alloc: Global,
-        at_hand: Option<&Flat<Post>>,
-        bytes: &'a [u8],
-    ) -> Result<(Flat<Post>, &'a [u8]), ReadError> {
-        let (posted, rest): (Flat<Post>, &[u8]) = read_told(
-            version,
-            alloc,
-            known_of(at_hand),
-            bytes,
-        )?;
+        bytes: &[u8],
+    ) -> Result<(Flat<Post>, &[u8]), ReadError> {
+        let (posted, rest): (Flat<Post>, &[u8]) = read_told(version, alloc, bytes)?;
         if is_told(&posted) {
             Ok((posted, rest))
         } else {
             Err(out_of_limits(bytes))
         }
-    }
-}
-
-// The posts of the call.
-fn posts_of(call: Option<&CallPosts>) -> &[(Proc, Flat<Post>)] {
-    match call {
-        Some(call) => call.entries(),
-        None => &[],
     }
 }
 
@@ -114,21 +91,13 @@ impl WireValue for CallPosts {
     }
 
     #[tactic(auto, unfolding(mpx_format::specs::Contexts::call_posts))]
-    fn read<'a>(
+    fn read(
         version: Version,
         alloc: Global,
-        at_hand: Option<&CallPosts>,
-        bytes: &'a [u8],
-    ) -> Result<(CallPosts, &'a [u8]), ReadError> {
+        bytes: &[u8],
+    ) -> Result<(CallPosts, &[u8]), ReadError> {
         let (count, rest) = read_some_byte(bytes)?;
-        let (entries, rest) = read_entries(
-            version,
-            alloc,
-            posts_of(at_hand),
-            &None,
-            count as usize,
-            rest,
-        )?;
+        let (entries, rest) = read_entries(version, alloc, &None, count as usize, rest)?;
         Ok((Keyed::from_rising(entries), rest))
     }
 }
@@ -154,50 +123,29 @@ impl WireKey for u32 {
     }
 }
 
-// The calls of the context.
-fn calls_of(entry: Option<&Entry>) -> &[(u32, CallPosts)] {
-    match entry {
-        Some(entry) => entry.second.second.entries(),
-        None => &[],
-    }
-}
-
 // The dropped front, and the calls at or above it.
 #[tactic(auto, unfolding(mpx_format::specs::Contexts::held, mpx_format::specs::Contexts::calls))]
-fn read_held<'a>(
+fn read_held(
     version: Version,
     alloc: Global,
-    at_hand: Option<&Entry>,
-    bytes: &'a [u8],
-) -> Result<(Trunc<CallPosts>, &'a [u8]), ReadError>
+    bytes: &[u8],
+) -> Result<(Trunc<CallPosts>, &[u8]), ReadError>
     ensures { Gives (λ x. (⟦<Trunc<CallPosts> as Exact>⟧.view x.0, x.1.now)) result ((held version).read bytes.now) }
 {
     let (dropped, rest) = read_u32(bytes)?;
     let (count, rest) = read_u32(rest)?;
-    let (calls, rest) = read_entries(
-        version,
-        alloc,
-        calls_of(at_hand),
-        &Some(dropped),
-        count as usize,
-        rest,
-    )?;
+    let (calls, rest) = read_entries(version, alloc, &Some(dropped), count as usize, rest)?;
     Ok((Trunc::from_rising(dropped, calls), rest))
 }
 
 // A live context.
 #[tactic(auto, unfolding(mpx_format::specs::Contexts::context, mpx_format::specs::Contexts::progress))]
-fn read_context<'a>(
-    version: Version,
-    alloc: Global,
-    at_hand: Option<&Entry>,
-    bytes: &'a [u8],
-) -> Result<(Entry, &'a [u8]), ReadError>
+fn read_context(version: Version, alloc: Global, bytes: &[u8]) -> Result<(Entry, &[u8]), ReadError>
     ensures { Gives (λ x. (⟦<Entry as Exact>⟧.view x.0, x.1.now)) result ((context version).read bytes.now) }
 {
-    let (birth, rest): (Flat<Birth>, &[u8]) = read_told(version, alloc, None, bytes)?;
+    let (birth, rest): (Flat<Birth>, &[u8]) = read_told(version, alloc, bytes)?;
     let (fronts, rest) = read_fronts(version, alloc, rest)?;
-    let (posts, rest) = read_held(version, alloc, at_hand, rest)?;
+    let (posts, rest) = read_held(version, alloc, rest)?;
     let second = Pair {
         first: fronts,
         second: posts,
@@ -211,24 +159,15 @@ fn read_context<'a>(
     ))
 }
 
-// What is known of the context, where it is live.
-fn live_of(lifted: Option<&Lifted>) -> Option<&Entry> {
-    match lifted {
-        Some(Lift::Live(entry)) => Some(entry),
-        _ => None,
-    }
-}
-
 // A live context, as one that may be dead and isn't.
-fn read_live<'a>(
+pub fn read_live(
     version: Version,
     alloc: Global,
-    at_hand: Option<&Lifted>,
-    bytes: &'a [u8],
-) -> Result<(Lifted, &'a [u8]), ReadError>
+    bytes: &[u8],
+) -> Result<(Lifted, &[u8]), ReadError>
     ensures { Gives (λ x. (⟦<Lifted as Exact>⟧.view x.0, x.1.now)) result ((lift_form (context version) 0).read bytes.now) }
 {
-    let (entry, rest) = read_context(version, alloc, live_of(at_hand), bytes)?;
+    let (entry, rest) = read_context(version, alloc, bytes)?;
     Ok((Lift::Live(entry), rest))
 }
 
@@ -247,18 +186,13 @@ impl WireValue for Lifted {
     }
 
     #[tactic(auto, unfolding(mpx_format::specs::Contexts::lifted))]
-    fn read<'a>(
-        version: Version,
-        alloc: Global,
-        at_hand: Option<&Lifted>,
-        bytes: &'a [u8],
-    ) -> Result<(Lifted, &'a [u8]), ReadError> {
+    fn read(version: Version, alloc: Global, bytes: &[u8]) -> Result<(Lifted, &[u8]), ReadError> {
         match version {
-            Version::One => read_live(version, alloc, at_hand, bytes),
+            Version::One => read_live(version, alloc, bytes),
             Version::Two => {
                 let (form, rest) = read_u8(bytes)?;
                 if form == 0 {
-                    read_live(version, alloc, at_hand, rest)
+                    read_live(version, alloc, rest)
                 } else if form == 1 {
                     Ok((Lift::Dead, rest))
                 } else {
@@ -269,31 +203,32 @@ impl WireValue for Lifted {
     }
 }
 
-// What is said of contexts, by name. What stands there as in one of those at hand may be copied of that in place of being read.
-pub fn read_contexts<'a>(
+// What is said of contexts, by name.
+fn read_contexts(
     version: Version,
     alloc: Global,
-    at_hand: &[(Name, Lifted)],
-    bytes: &'a [u8],
-) -> Result<(Keyed<Name, Lifted>, &'a [u8]), ReadError>
-    ensures { Gives (λ x. (view_of_entries x.0, x.1.now)) result ((keyed name_cmp name_count name (lifted version) says_something).read bytes.now) }
+    bytes: &[u8],
+) -> Result<(Keyed<Name, Lifted>, &[u8]), ReadError>
+    ensures gives { Gives (λ x. (view_of_entries x.0, x.1.now)) result ((keyed name_cmp name_count name (lifted version) says_something).read bytes.now) }
+    ensures some { IfErr result (λ e. (rest : List ℕ) → name_count.read bytes.now ≢ Ok (0, rest)) }
 {
     let (count, rest) = read_name_count(bytes)?;
-    let (entries, rest) = read_entries(version, alloc, at_hand, &None, count as usize, rest)?;
+    let (entries, rest) = read_entries(version, alloc, &None, count as usize, rest)?;
     Ok((Keyed::from_rising(entries), rest))
 }
 
 /// The parts of a board, as the version spells them, at the front of these bytes, and the bytes after them. An `Err` tells the first
-/// field that is wrong, or that memory is refused.
+/// field that is wrong, or that memory is refused; no parts take none.
 #[tactic(auto, unfolding(mpx_format::specs::Contexts::parts))]
 pub fn read_parts(
     version: Version,
     alloc: Global,
     bytes: &[u8],
 ) -> Result<(Parts, &[u8]), ReadError>
-    ensures { Gives (λ x. (⟦<Parts as Exact>⟧.view x.0, x.1.now)) result ((parts version).read bytes.now) }
+    ensures gives { Gives (λ x. (⟦<Parts as Exact>⟧.view x.0, x.1.now)) result ((parts version).read bytes.now) }
+    ensures some { IfErr result (λ e. bytes.now ≢ (parts version).spelling no_parts) }
 {
-    let (contexts, rest) = read_contexts(version, alloc, &[], bytes)?;
+    let (contexts, rest) = read_contexts(version, alloc, bytes)?;
     let (acks, rest) = read_all_acks(version, alloc, rest)?;
     Ok((
         Pair {

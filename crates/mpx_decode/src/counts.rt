@@ -24,19 +24,26 @@ impl Repeated for EachCount {
 
     ghost Within = { λ s n. n ≤ 4096 };
 
-    #[tactic(auto, unfolding(mpx_format::specs::Posts::count))]
     fn read<'a>(
         &self,
         _alloc: Global,
         _before: &[u16],
         bytes: &'a [u8],
     ) -> Result<(u16, &'a [u8]), ReadError> {
-        let (number, rest) = read_u16(bytes)?;
-        if number <= 4096 {
-            Ok((number, rest))
-        } else {
-            Err(out_of_limits(bytes))
-        }
+        read_count(bytes)
+    }
+}
+
+#[tactic(auto, unfolding(mpx_format::specs::Posts::count))]
+pub fn read_count(bytes: &[u8]) -> Result<(u16, &[u8]), ReadError>
+    ensures read { Gives (λ x. (x.0, x.1.now)) result (count.read bytes.now) }
+    ensures small { IfOk result (λ x. x.0 ≤ 4096) }
+{
+    let (number, rest) = read_u16(bytes)?;
+    if number <= 4096 {
+        Ok((number, rest))
+    } else {
+        Err(out_of_limits(bytes))
     }
 }
 
@@ -62,12 +69,11 @@ pub fn read_counts(had: bool, alloc: Global, bytes: &[u8]) -> Result<(Counts, &[
 }
 
 // The items, where there is a type.
-pub fn read_items_for<'a>(
+pub fn read_items_for(
     ty: Option<Ty>,
     alloc: Global,
-    at_hand: Option<&Items>,
-    bytes: &'a [u8],
-) -> Result<(Option<Items>, &'a [u8]), ReadError>
+    bytes: &[u8],
+) -> Result<(Option<Items>, &[u8]), ReadError>
     ensures read { Gives (λ x. (nums_of x.0, x.1.now)) result ((items_for ty).read bytes.now) }
     ensures ty { IfOk result (λ x. option_map (λ (items : ItemList). items.ty) x.0 ≡ ty) }
     ensures few { IfOk result (λ x. few_items x.0) }
@@ -75,7 +81,7 @@ pub fn read_items_for<'a>(
     match ty {
         None => Ok((None, bytes)),
         Some(ty) => {
-            let (items, rest) = read_items(ty, alloc, at_hand, bytes)?;
+            let (items, rest) = read_items(ty, alloc, bytes)?;
             Ok((Some(items), rest))
         }
     }

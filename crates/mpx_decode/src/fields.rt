@@ -1,5 +1,5 @@
 //! Reading the fields of frames that are one number each.
-ghost use Rattle.std.specs.Prelude.{◌≡◌, ◌<◌, ◌-◌, ◌^◌, IfOk};
+ghost use Rattle.std.specs.Prelude.{◌≡◌, ◌<◌, ◌-◌, ◌^◌, ◌≢◌, IfErr, IfOk};
 ghost use Rattle.std.specs.Int.{w16, w32};
 ghost use Rattle.mpx_format.specs.Format.{Gives};
 ghost use Rattle.mpx_format.specs.Fields.{process, call, colour, tag, some_calls, some_byte, name_count, some_names};
@@ -62,7 +62,8 @@ pub fn read_tag(bytes: &[u8]) -> Result<(u16, &[u8]), ReadError>
 
 #[tactic(auto, unfolding(mpx_format::specs::Fields::some_calls))]
 pub fn read_some_calls(bytes: &[u8]) -> Result<(u32, &[u8]), ReadError>
-    ensures { Gives (λ x. (x.0, x.1.now)) result (some_calls.read bytes.now) }
+    ensures gives { Gives (λ x. (x.0, x.1.now)) result (some_calls.read bytes.now) }
+    ensures memory { IfErr result (λ e. e ≢ ReadError.OutOfMemory) }
 {
     let (number, rest) = read_u32(bytes)?;
     if 0 < number {
@@ -74,7 +75,8 @@ pub fn read_some_calls(bytes: &[u8]) -> Result<(u32, &[u8]), ReadError>
 
 #[tactic(auto, unfolding(mpx_format::specs::Fields::some_byte))]
 pub fn read_some_byte(bytes: &[u8]) -> Result<(u8, &[u8]), ReadError>
-    ensures { Gives (λ x. (x.0, x.1.now)) result (some_byte.read bytes.now) }
+    ensures gives { Gives (λ x. (x.0, x.1.now)) result (some_byte.read bytes.now) }
+    ensures memory { IfErr result (λ e. e ≢ ReadError.OutOfMemory) }
 {
     let (number, rest) = read_u8(bytes)?;
     if 0 < number {
@@ -86,7 +88,8 @@ pub fn read_some_byte(bytes: &[u8]) -> Result<(u8, &[u8]), ReadError>
 
 #[tactic(auto, unfolding(mpx_format::specs::Fields::name_count))]
 pub fn read_name_count(bytes: &[u8]) -> Result<(u16, &[u8]), ReadError>
-    ensures { Gives (λ x. (x.0, x.1.now)) result (name_count.read bytes.now) }
+    ensures gives { Gives (λ x. (x.0, x.1.now)) result (name_count.read bytes.now) }
+    ensures memory { IfErr result (λ e. e ≢ ReadError.OutOfMemory) }
 {
     let (number, rest) = read_u16(bytes)?;
     if number <= 4096 {
@@ -98,7 +101,8 @@ pub fn read_name_count(bytes: &[u8]) -> Result<(u16, &[u8]), ReadError>
 
 #[tactic(auto, unfolding(mpx_format::specs::Fields::some_names))]
 pub fn read_some_names(bytes: &[u8]) -> Result<(u16, &[u8]), ReadError>
-    ensures { Gives (λ x. (x.0, x.1.now)) result (some_names.read bytes.now) }
+    ensures gives { Gives (λ x. (x.0, x.1.now)) result (some_names.read bytes.now) }
+    ensures memory { IfErr result (λ e. e ≢ ReadError.OutOfMemory) }
 {
     let (number, rest) = read_name_count(bytes)?;
     if 0 < number {

@@ -10,7 +10,7 @@ ghost use Rattle.mpx_format.specs.Posts.{integer, item_count, items};
 use crate::big_endian::read_u16;
 use mpx_format::{ReadError, SHORT, out_of_limits};
 use mpx_num::{Items, MOST_ITEMS, Numbers, Ty};
-use std::alloc::{AllocError, Global};
+use std::alloc::Global;
 
 /// A number of one type, the highest byte first.
 trait BigEndianNumber {
@@ -183,7 +183,7 @@ fn read_numbers(
 }
 
 #[tactic(auto, unfolding(mpx_format::specs::Posts::item_count))]
-fn read_item_count(bytes: &[u8]) -> Result<(u16, &[u8]), ReadError>
+pub fn read_item_count(bytes: &[u8]) -> Result<(u16, &[u8]), ReadError>
     ensures read { Gives (λ x. (x.0, x.1.now)) result (item_count.read bytes.now) }
     ensures few { IfOk result (λ x. x.0 ≤ 4096) }
 {
@@ -220,7 +220,7 @@ fn behind_all<'a, N: BigEndianNumber>(
 }
 
 // The bytes behind these numbers of the type, where just their bytes stand at the front.
-fn behind_numbers<'a>(ty: Ty, numbers: &[i128], bytes: &'a [u8]) -> Option<&'a [u8]>
+pub fn behind_numbers<'a>(ty: Ty, numbers: &[i128], bytes: &'a [u8]) -> Option<&'a [u8]>
     ensures { IfSome result (λ rest. many_read (λ before. integer ty) (length numbers.now) [] bytes.now ≡ Ok (numbers.now, rest.now)) }
 {
     match ty {
@@ -236,46 +236,14 @@ fn behind_numbers<'a>(ty: Ty, numbers: &[i128], bytes: &'a [u8]) -> Option<&'a [
     }
 }
 
-// A copy of the items at hand and the bytes behind them, where they are so many numbers of the type and just these stand at the front.
-fn copied_front<'a>(
-    ty: Ty,
-    count: usize,
-    at_hand: Option<&Items>,
-    bytes: &'a [u8],
-) -> Result<Option<(Items, &'a [u8])>, AllocError>
-    ensures read { IfOk result (λ made. IfSome made (λ x. many_read (λ before. integer ty) count [] bytes.now ≡ Ok (x.0.nums, x.1.now))) }
-    ensures ty { IfOk result (λ made. IfSome made (λ x. x.0.ty ≡ ty)) }
-    ensures len { IfOk result (λ made. IfSome made (λ x. length x.0.nums ≡ count)) }
-{
-    let Some(items) = at_hand else {
-        return Ok(None);
-    };
-    if items.ty() != ty || items.nums().len() != count {
-        return Ok(None);
-    }
-    match behind_numbers(ty, items.nums(), bytes) {
-        None => Ok(None),
-        Some(rest) => Ok(Some((items.copy()?, rest))),
-    }
-}
-
-// How many items, and the numbers of all of them: a copy of those at hand, where just these stand there.
+// How many items, and the numbers of all of them.
 #[tactic(auto, unfolding(mpx_format::specs::Posts::items))]
-pub fn read_items<'a>(
-    ty: Ty,
-    alloc: Global,
-    at_hand: Option<&Items>,
-    bytes: &'a [u8],
-) -> Result<(Items, &'a [u8]), ReadError>
+pub fn read_items(ty: Ty, alloc: Global, bytes: &[u8]) -> Result<(Items, &[u8]), ReadError>
     ensures read { Gives (λ x. (x.0.nums, x.1.now)) result ((items ty).read bytes.now) }
     ensures ty { IfOk result (λ x. x.0.ty ≡ ty) }
     ensures few { IfOk result (λ x. length x.0.nums ≤ MOST_ITEMS * item_len ty) }
 {
     let (count, rest) = read_item_count(bytes)?;
-    let many = count as usize * ty.item_len();
-    if let Some(copied) = copied_front(ty, many, at_hand, rest)? {
-        return Ok(copied);
-    }
-    let (list, rest) = read_numbers(ty, alloc, many, rest)?;
+    let (list, rest) = read_numbers(ty, alloc, count as usize * ty.item_len(), rest)?;
     Ok((Items::of(ty, Numbers::new(alloc, list)?), rest))
 }

@@ -8,7 +8,6 @@ use crate::counts::{read_counts, read_items_for};
 use crate::entries::WireValue;
 use crate::making::read_making;
 use mpx_format::{ReadError, Version};
-use mpx_num::Items;
 use mpx_post::Post;
 use std::alloc::Global;
 
@@ -26,12 +25,7 @@ impl WireValue for Post {
     }
 
     #[tactic(auto, unfolding(mpx_format::specs::Posts::post))]
-    fn read<'a>(
-        version: Version,
-        alloc: Global,
-        at_hand: Option<&Post>,
-        bytes: &'a [u8],
-    ) -> Result<(Post, &'a [u8]), ReadError> {
+    fn read(version: Version, alloc: Global, bytes: &[u8]) -> Result<(Post, &[u8]), ReadError> {
         let (kind, rest) = read_kind(version, bytes)?;
         let (mode, rest) = read_mode(kind, rest)?;
         let fields = kind.fields();
@@ -42,17 +36,9 @@ impl WireValue for Post {
         let (ty, rest) = read_type(fields.items, op, rest)?;
         let (scounts, rest) = read_counts(sent, alloc, rest)?;
         let (rcounts, rest) = read_counts(got, alloc, rest)?;
-        let (items, rest) = read_items_for(ty, alloc, items_of(at_hand), rest)?;
+        let (items, rest) = read_items_for(ty, alloc, rest)?;
         let (making, rest) = read_making(fields.makes, alloc, rest)?;
         let post = Post::new(kind, mode, root, op, scounts, rcounts, items, making);
         Ok((post, rest))
-    }
-}
-
-// The items of the post, where there is one that has such.
-fn items_of(post: Option<&Post>) -> Option<&Items> {
-    match post {
-        None => None,
-        Some(post) => post.items(),
     }
 }

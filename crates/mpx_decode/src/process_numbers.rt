@@ -26,7 +26,7 @@ pub fn read_rows(
 {
     match right_rows(alloc, count, bytes) {
         Err(_) => Err(ReadError::OutOfMemory),
-        Ok(None) => read_entries(version, alloc, &[], &None, count, bytes),
+        Ok(None) => read_entries(version, alloc, &None, count, bytes),
         Ok(Some(read)) => Ok(read),
     }
 }

@@ -1,27 +1,25 @@
 //! The parts of a board joined to another in place, as their bytes are read.
-ghost use Rattle.std.specs.Prelude.{◌≡◌, ℕ, IfOk, IsTrue, List, OnErr, OnOk, Ok};
-ghost use Rattle.join_nest.specs.Keyed.{keyed_joining};
-ghost use Rattle.join_nest.specs.Between.{keyed_between};
+ghost use Rattle.std.specs.Prelude.{◌≢◌, IfOk, OnErr};
 ghost use Rattle.mpx_board.specs.Looks.{parts_of};
-ghost use Rattle.mpx_board.specs.Parts.{PartsView, acks_between, acks_joining, lifted_between, lifted_joining, parts_between, parts_joining};
-ghost use Rattle.mpx_board.specs.Tidy.{are_tidy_acks, are_tidy_entries, is_tidy};
-ghost use Rattle.mpx_board.specs.Views.{view_of_entries};
+ghost use Rattle.mpx_board.specs.Parts.{parts_between, parts_joining};
+ghost use Rattle.mpx_board.specs.Tidy.{is_tidy};
+ghost use Rattle.mpx_board.specs.Views.{view_of_all_acks, view_of_entries};
 ghost use Rattle.mpx_format.specs.Contexts.{parts};
-ghost use Rattle.mpx_format.specs.Fields.{all_acks};
-ghost use Rattle.mpx_decode.specs.Raising.{JoinsFront, StandsTidy, StopsBetween};
+ghost use Rattle.mpx_decode.specs.Raising.{JoinsFront, StandsInFront, StandsTidy, StopsBetween, no_parts};
 
-use crate::contexts::read_contexts;
-use crate::raised::raise_all_acks;
-use join_core::{Join, OutOfMemory, Pair};
+use crate::join_acks::raise_all_acks;
+use crate::join_contexts::raise_contexts;
+use join_core::{OutOfMemory, Pair};
 use join_nest::Keyed;
-use mpx_board::{Board, Lifted};
+use mpx_board::{Acks, Board, Lifted};
 use mpx_format::Version;
+use mpx_group::Proc;
 use mpx_name::Name;
 use std::alloc::Global;
+use std::mem;
 
-/// Joins the parts at the front of these bytes, as the version spells them, to the board, and gives the bytes after them. What
-/// is said of contexts is read and then joined; acknowledgements are joined as they are read. An `Err` leaves a board between.
-#[tactic(auto, unfolding(mpx_format::specs::Contexts::parts))]
+/// Joins the parts at the front of these bytes, as the version spells them, to the board, as they are read, and gives the bytes
+/// after them. An `Err` leaves a board between. No parts take no memory.
 pub fn take_parts<'a>(
     version: Version,
     alloc: Global,
@@ -31,55 +29,31 @@ pub fn take_parts<'a>(
     requires { StandsTidy (parts version) is_tidy bytes.now }
     ensures ok { IfOk result (λ rest. JoinsFront (parts version) parts_joining bytes.now rest.now (parts_of board.old) (parts_of board.new)) }
     ensures err { OnErr result (StopsBetween (parts version) parts_between bytes.now (parts_of board.old) (parts_of board.new)) }
+    ensures some { OnErr result (bytes.now ≢ (parts version).spelling no_parts) }
 {
-    match read_contexts(version, alloc, board.pair().first.entries(), bytes) {
-        Err(_) => Err(OutOfMemory),
-        Ok((contexts, rest)) => {
-            take_contexts(alloc, board, contexts)?;
-            take_acks(version, alloc, board, rest)
-        }
-    }
-}
-
-// Joins these contexts; the acknowledgements stay.
-fn take_contexts(
-    alloc: Global,
-    board: &mut Board,
-    contexts: Keyed<Name, Lifted>,
-) -> Result<(), OutOfMemory>
-    requires { IsTrue (are_tidy_entries (view_of_entries contexts)) }
-    ensures ok { OnOk result ((parts_of board.new).0 ≡ (keyed_joining lifted_joining).join (parts_of board.old).0 (view_of_entries contexts)) }
-    ensures err { OnErr result (keyed_between lifted_between (parts_of board.old).0 (view_of_entries contexts) (parts_of board.new).0) }
-    ensures acks { (parts_of board.new).1 ≡ (parts_of board.old).1 }
-{
-    let part = Board::from_tidy(Pair {
-        first: contexts,
-        second: Keyed::new(alloc),
-    });
-    let mut held = Board::new(alloc);
-    board.swap_acks(&mut held);
-    let taken = board.join_in(alloc, &part);
-    board.swap_acks(&mut held);
+    let held = mem::replace(board, Board::new(alloc));
+    let Pair {
+        mut first,
+        mut second,
+    } = held.into_pair();
+    let taken = take_both(version, alloc, &mut first, &mut second, bytes);
+    *board = Board::from_tidy(Pair { first, second });
     taken
 }
 
-// Joins the acknowledgements at the front; the contexts stay.
-fn take_acks<'a>(
+// What is said of contexts, and then the acknowledgements.
+fn take_both<'a>(
     version: Version,
     alloc: Global,
-    board: &mut Board,
+    contexts: &mut Keyed<Name, Lifted>,
+    acks: &mut Keyed<Proc, Acks>,
     bytes: &'a [u8],
 ) -> Result<&'a [u8], OutOfMemory>
-    requires { StandsTidy all_acks are_tidy_acks bytes.now }
-    ensures ok { IfOk result (λ rest. JoinsFront all_acks (keyed_joining acks_joining) bytes.now rest.now (parts_of board.old).1 (parts_of board.new).1) }
-    ensures err { OnErr result (StopsBetween all_acks (keyed_between acks_between) bytes.now (parts_of board.old).1 (parts_of board.new).1) }
-    ensures contexts { (parts_of board.new).0 ≡ (parts_of board.old).0 }
+    requires { StandsInFront (parts version) bytes.now }
+    ensures ok { IfOk result (λ rest. JoinsFront (parts version) parts_joining bytes.now rest.now (view_of_entries contexts.old, view_of_all_acks acks.old) (view_of_entries contexts.new, view_of_all_acks acks.new)) }
+    ensures err { OnErr result (StopsBetween (parts version) parts_between bytes.now (view_of_entries contexts.old, view_of_all_acks acks.old) (view_of_entries contexts.new, view_of_all_acks acks.new)) }
+    ensures some { OnErr result (bytes.now ≢ (parts version).spelling no_parts) }
 {
-    let mut held = Board::new(alloc);
-    board.swap_acks(&mut held);
-    let Pair { first, mut second } = held.into_pair();
-    let raised = raise_all_acks(version, alloc, &mut second, bytes);
-    let mut held = Board::from_tidy(Pair { first, second });
-    board.swap_acks(&mut held);
-    raised
+    let rest = raise_contexts(version, alloc, contexts, bytes)?;
+    raise_all_acks(version, alloc, acks, rest)
 }

@@ -23,7 +23,7 @@ use Rattle.mpx_format.specs.declared.versions.Version.TheVariants.{Two}
 use Rattle.mpx_format.specs.Contexts.{frame}
 use Rattle.mpx_format.specs.Decoding.{Spells, most_bytes}
 use Rattle.mpx_format.specs.Encoding.{is_too_long, length_told}
-use Rattle.mpx_parts.specs.Facts.{OnlyFactsOf}
+use Rattle.mpx_delta.specs.Facts.{OnlyFactsOf}
 use Rattle.mpx_delta.specs.Digests.{IsDigest, Numbers, common_on, numbers_of, without}
 use Rattle.mpx_delta.specs.Keep.{keep}
 use Rattle.mpx_delta.specs.Lacking.{AreFramesOf, AreLacking, AreSpelled}

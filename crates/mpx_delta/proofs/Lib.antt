@@ -1,3 +1,13 @@
+pub mod FactsSaid
+pub mod Adding
+pub mod Sizes
+pub mod FieldSizes
+pub mod Made
+pub mod MadeSizes
+pub mod Rising
+pub mod Joining
+pub mod Halves
+pub mod RunsSay
 pub mod Kept
 pub mod Steps
 pub mod Leaning

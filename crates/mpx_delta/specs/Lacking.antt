@@ -8,8 +8,8 @@ use Rattle.mpx_board.specs.Raised.{Raises}
 use Rattle.mpx_format.specs.declared.versions.Version.TheVariants.{Two}
 use Rattle.mpx_format.specs.Decoding.{Spells}
 use Rattle.mpx_format.specs.Encoding.{length_told}
-use Rattle.mpx_parts.specs.Facts.{OnlyFactsOf}
-use Rattle.mpx_parts.specs.Pieces.{NoNeighboursFit}
+use Rattle.mpx_delta.specs.Facts.{OnlyFactsOf}
+use Rattle.mpx_delta.specs.Pieces.{NoNeighboursFit}
 use Rattle.mpx_delta.specs.Digests.{Acknowledges, common_on, without}
 
 -- the board `after` is the one on which the process has said what it has; the parts are those of that board, without the posts that all have

@@ -4,18 +4,18 @@ ghost use Rattle.mpx_board.specs.Boards.{Look, join, join_all};
 ghost use Rattle.mpx_board.specs.Looks.{look, parts_of};
 ghost use Rattle.mpx_board.specs.Views.{view_of_acks, view_of_call, view_of_calls, view_of_entries, view_of_entry, view_of_lifted, view_of_numbers};
 ghost use Rattle.mpx_format.specs.Encoding.{length_told};
-ghost use Rattle.mpx_parts.specs.Facts.{OnlyFactsOf};
-ghost use Rattle.mpx_parts.specs.Pieces.{NoNeighboursFit};
+ghost use Rattle.mpx_delta.specs.Facts.{OnlyFactsOf};
+ghost use Rattle.mpx_delta.specs.Pieces.{NoNeighboursFit};
 ghost use Rattle.mpx_delta.specs.Digests.{Covers, number_at, numbers_of, without};
 ghost use Rattle.mpx_delta.specs.Keep.{keep};
 ghost use Rattle.mpx_delta.specs.Lean.{lean_call, lean_calls, lean_context, lean_entry, lean_lifted, lean_post};
 
+use crate::packing::parts;
 use join_core::{Exact, OutOfMemory, Pair};
 use join_nest::{Keyed, Lift, Trunc};
 use mpx_board::{Acks, Board, CallPosts, Entry, Lifted, VersionVector, is_said};
 use mpx_group::Proc;
 use mpx_name::Name;
-use mpx_parts::parts;
 use std::alloc::Global;
 
 /// The board without the posts below the digest, in parts, each of which has only facts of the board and a frame of at

@@ -11,13 +11,13 @@ ghost use Rattle.mpx_delta.specs.Lacking.{AreFramesOf, AreLacking, AreSpelled};
 
 use crate::delta::lean_contexts;
 use crate::digest::digest_of;
+use crate::packing::parts;
 use crate::posted::common_of_posts;
 use join_core::{OutOfMemory, Pair};
 use join_nest::Keyed;
 use mpx_board::{Acks, Board, Raised};
 use mpx_encode::{EncodeError, encode, encode_over};
 use mpx_group::Proc;
-use mpx_parts::parts;
 use std::alloc::Global;
 
 /// What a process says that it has, to be stored on its board, and the frames of what others may lack of its board.

@@ -5,19 +5,19 @@ ghost use Rattle.mpx_board.specs.Looks.{look, parts_of};
 ghost use Rattle.mpx_board.specs.Tidy.{are_tidy_numbers};
 ghost use Rattle.mpx_board.specs.Views.{view_of_acks};
 ghost use Rattle.mpx_format.specs.Encoding.{length_told};
-ghost use Rattle.mpx_parts.specs.Facts.{OnlyFactsOf};
-ghost use Rattle.mpx_parts.specs.Pieces.{NoNeighboursFit};
+ghost use Rattle.mpx_delta.specs.Facts.{OnlyFactsOf};
+ghost use Rattle.mpx_delta.specs.Pieces.{NoNeighboursFit};
 ghost use Rattle.mpx_delta.specs.Digests.{Acknowledges, common_on, numbers_of, without};
 ghost use Rattle.mpx_delta.specs.Lacking.{IsLacking};
 
 use crate::delta::lean_board;
 use crate::digest::digest_of;
+use crate::packing::parts;
 use crate::posted::common_of_posts;
 use join_core::OutOfMemory;
 use mpx_board::{Acks, Board, Raised};
 use mpx_encode::frame_len;
 use mpx_group::Proc;
-use mpx_parts::parts;
 use std::alloc::Global;
 
 /// What a process says that it has, to be stored on its board, and what others may lack of its board, in parts.

@@ -9,7 +9,7 @@ use Rattle.std.proofs.lemmas.Option.{slice_get_within}
 use Rattle.mpx_num.specs.declared.own.Operation.{Operation}
 use Rattle.mpx_statement.specs.declared.statement.Statement.{Statement}
 use Rattle.mpx_meaning.specs.Ranks.{step}
-use Rattle.mpx_meaning.specs.Evaluation.{State, IsQuiet, IsReached, known, move, moves, or_stay, start}
+use Rattle.mpx_meaning.specs.Evaluation.{State, IsQuiet, IsReached, known, move, moves, or_stay, start_state}
 use Rattle.mpx_meaning.proofs.Ends.{move-quiet}
 use Rattle.mpx_meaning.proofs.Steps.{step_ends}
 use Rattle.mpx_meaning.proofs.Tells.{each-bound, each-me}
@@ -59,7 +59,7 @@ module _ (ops : List Operation) where
   moves-push ranks (q ∷ ps) p s = moves-push ranks ps p (move ops ranks s q)
 
   reached_on : (script : List (List Statement)) (ranks : ℕ) (s : State) (p : ℕ) → IsReached ops script ranks s → IsReached ops script ranks (move ops ranks s p)
-  reached_on script ranks s p r = record { order = r.order ++ p ∷ []; reached = moves-push ranks r.order p (start script ranks) ∙ ap (λ u. move ops ranks u p) r.reached }
+  reached_on script ranks s p r = record { order = r.order ++ p ∷ []; reached = moves-push ranks r.order p (start_state script ranks) ∙ ap (λ u. move ops ranks u p) r.reached }
 
   move_other : (ranks : ℕ) (s : State) (p q : ℕ) → (q ≡ p → ⊥) → move ops ranks s p q ≡ s q
   move_other ranks s p q other = by_test (q == p) refl where

@@ -7,7 +7,7 @@ use Rattle.mpx_value.specs.Histories.{Made, Results, has_freed}
 use Rattle.mpx_statement.specs.declared.statement.Posting.{Posting}
 use Rattle.mpx_statement.specs.declared.statement.Statement.{Statement}
 use Rattle.mpx_statement.specs.declared.statement.Statement.TheVariants.{Wait}
-use Rattle.mpx_statement.specs.Statements.{posted_on}
+use Rattle.mpx_statement.specs.Statements.{communicator_word}
 use Rattle.mpx_meaning.specs.Ranks.{Local, answers, awaited_by, doing, next_call, step}
 use Rattle.mpx_meaning.specs.Evaluation.{State, known, move, or_stay}
 use Rattle.mpx_meaning.proofs.Ends.{goes_on-at}
@@ -77,7 +77,7 @@ module _ (ops : List Operation) where
       by_test q false e = there q e
 
     pub born_so : (posting : Posting) (on : Option CommunicatorView) → IsOn (s p) posting on → IsBornSo ops ranks (posted_by s) on
-    born_so posting on is k e = b.born (posted_on posting) k.0 k.1 (is k e)
+    born_so posting on is k e = b.born (communicator_word posting) k.0 k.1 (is k e)
 
     known_now : (d : Held) → d ≡ c → known ops ranks s p ≡ answer_on ops (table_of d) r.me
     known_now d e = known_is ranks p s r (table_of c) b ∙ ap (λ x. answer_on ops (table_of x) r.me) (sym e)

@@ -9,7 +9,7 @@ use Rattle.mpx_name.specs.Name.{Name}
 use Rattle.mpx_statement.specs.declared.statement.Statement.{Statement}
 use Rattle.mpx_script.specs.ScriptView.{ScriptView}
 use Rattle.mpx_meaning.specs.Ranks.{doing}
-use Rattle.mpx_meaning.specs.Evaluation.{IsReached, start}
+use Rattle.mpx_meaning.specs.Evaluation.{IsReached, start_state}
 use Rattle.mpx_meaning.specs.Reports.{is_left, lines_in, which}
 use Rattle.mpx_meaning.proofs.Ends.{start_quiet}
 use Rattle.mpx_eval.specs.Evaluated.{IsEvaluated}
@@ -38,7 +38,7 @@ at_index [] p = refl
 at_index (x ∷ xs) zero = refl
 at_index (x ∷ xs) (suc p) = at_index xs p
 
-pub are_in_start : (ops : List Operation) (script : List (List Statement)) (ranks : ℕ) (rs : List TableRank) (t : Table) → length script ≡ ranks → Start script ranks ranks rs → ((name : Name) → t name ≡ None) → AreIn ops ranks rs t (start script ranks)
+pub are_in_start : (ops : List Operation) (script : List (List Statement)) (ranks : ℕ) (rs : List TableRank) (t : Table) → length script ≡ ranks → Start script ranks ranks rs → ((name : Name) → t name ≡ None) → AreIn ops ranks rs t (start_state script ranks)
 are_in_start ops script ranks rs t count s none = record {
   count = s.count_is;
   each = λ p r e.
@@ -61,7 +61,7 @@ are_in_start ops script ranks rs t count s none = record {
   quiet = start_quiet script ranks (omega (arith, count));
 }
 
-pub reached_start : (ops : List Operation) (script : List (List Statement)) (ranks : ℕ) → IsReached ops script ranks (start script ranks)
+pub reached_start : (ops : List Operation) (script : List (List Statement)) (ranks : ℕ) → IsReached ops script ranks (start_state script ranks)
 reached_start ops script ranks = record { order = []; reached = refl }
 
 -- THE END

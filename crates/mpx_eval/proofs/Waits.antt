@@ -20,7 +20,7 @@ use Rattle.mpx_statement.specs.declared.statement.Statement.TheVariants.{Post, W
 use Rattle.mpx_statement.specs.Statements.{bound_to, started_as}
 use Rattle.mpx_statement.specs.Lookups.{named}
 use Rattle.mpx_script.specs.ScriptView.{ScriptView}
-use Rattle.mpx_meaning.specs.Ranks.{Await, Bindings, Do, Line, Local, Requests, Todo, attempt, awaited_by, awaited_then, doing, next, next_call, next_of, posts_or_refuses, without}
+use Rattle.mpx_meaning.specs.Ranks.{Await, Bindings, Do, Line, Local, Requests, Todo, attempt, awaited_by, awaited_then, doing, next, next_call, next_by, posts_or_refuses, without}
 use Rattle.mpx_meaning.specs.Standing.{WaitView, awaited, closed, closed_all, looked_up, or_new, todo_of}
 use Rattle.mpx_meaning.specs.Evaluation.{bound_at_start, known, statements_of}
 use Rattle.mpx_meaning.specs.Reports.{is_left, which}
@@ -63,7 +63,7 @@ asks_so ops s = by_todo s.todo where
   by_result rest target request (Ok m) = refl
   by_result rest target request (Err refusal) = refl
 
-  by_todo : (todo : List Todo) → map place_of (asked_of (named s.requests) todo) ≡ calls_of (next_of ops s todo)
+  by_todo : (todo : List Todo) → map place_of (asked_of (named s.requests) todo) ≡ calls_of (next_by ops s todo)
   by_todo [] = refl
   by_todo (Do (Post posting) ∷ rest) = by_result rest (bound_to posting) (started_as posting) (attempt ops s.me s.bound s.made posting)
   by_todo (Do (Wait words) ∷ rest) = by_words words s.requests

@@ -6,46 +6,34 @@ use Rattle.mpx_birth.specs.Births.{of_members, upto}
 use Rattle.mpx_post.specs.declared.draft.Draft.{Draft}
 use Rattle.mpx_post.specs.declared.draft.PostError.{PostError}
 use Rattle.mpx_post.specs.Drafts.{at, checked, refusal_of}
-use Rattle.mpx_statement.specs.declared.statement.Posting.{Posting}
-use Rattle.mpx_statement.specs.declared.statement.Posting.TheVariants.{Call, Start, New, CreateGroup}
+use Rattle.mpx_statement.specs.Statements.{draft_of, communicator_word}
+use Rattle.mpx_statement.specs.declared.statement.Posting.TheVariants.{CreateGroup}
 use Rattle.mpx_statement.specs.declared.statement.Statement.{Statement}
-use Rattle.mpx_statement.specs.declared.statement.Statement.TheVariants.{Post, Wait, Ask}
+use Rattle.mpx_statement.specs.declared.statement.Statement.TheVariants.{Post}
 use Rattle.mpx_script.specs.ScriptView.{ScriptView}
 use Rattle.mpx_meaning.specs.Ranks.{Refused}
 use Rattle.mpx_meaning.specs.Transcripts.{line_text}
 use Rattle.mpx_eval.specs.Complaints.{ComplaintView, complaints_upto}
 use Rattle.mpx_eval.specs.Unheard.{complaint_by}
 
--- why a rank's draft is refused as its first call on `world`
-abbrev pub refused_first : List Operation → (ranks rank : ℕ) → Draft → Option PostError
-refused_first ops ranks rank draft = refusal_of (checked ops (of_members (upto ranks)) rank (at [] 0 false) draft)
-
+-- why a rank's draft is refused as its first call, where it is on `world`
 abbrev pub refused_on : List Operation → (ranks rank : ℕ) → (on : List ℕ) → Draft → Option PostError
-refused_on ops ranks rank on draft = cond (bytes_eq on (codes "world")) (refused_first ops ranks rank draft) None
+refused_on ops ranks rank on draft = cond (bytes_eq on (codes "world")) (refusal_of (checked ops (of_members (upto ranks)) rank (at [] 0 false) draft)) None
 
 -- why a statement is refused that posts there; of `create_group`, which posts on a gathering, nothing is told
-abbrev pub posting_refused : List Operation → (ranks rank : ℕ) → Posting → Option PostError
-posting_refused ops ranks rank (Call on draft) = refused_on ops ranks rank on draft
-posting_refused ops ranks rank (Start on draft request) = refused_on ops ranks rank on draft
-posting_refused ops ranks rank (New on draft to) = refused_on ops ranks rank on draft
-posting_refused ops ranks rank (CreateGroup on tag members to) = None
-
 abbrev pub statement_refused : List Operation → (ranks rank : ℕ) → Statement → Option PostError
-statement_refused ops ranks rank (Post posting) = posting_refused ops ranks rank posting
-statement_refused ops ranks rank (Wait words) = None
-statement_refused ops ranks rank (Ask question) = None
+statement_refused ops ranks rank (Post (CreateGroup on tag members to)) = None
+statement_refused ops ranks rank (Post posting) = refused_on ops ranks rank (communicator_word posting) (draft_of posting)
+statement_refused ops ranks rank statement = None
 
 -- the line that tells it
-abbrev pub refusal_text : Option PostError → Option (List ℕ)
-refusal_text refusal = option_map (λ e. line_text (Refused e)) refusal
-
 abbrev pub certain_at : List Operation → (ranks rank place : ℕ) → Statement → List ComplaintView
-certain_at ops ranks rank place statement = complaint_by rank place (refusal_text (statement_refused ops ranks rank statement))
+certain_at ops ranks rank place statement = complaint_by rank place (option_map (λ refusal. line_text (Refused refusal)) (statement_refused ops ranks rank statement))
 
 -- of the statements from a place on
 abbrev pub certain_from : List Operation → (ranks rank place : ℕ) → List Statement → List ComplaintView
 certain_from ops ranks rank place [] = []
-certain_from ops ranks rank place (statement ∷ more) = certain_at ops ranks rank place statement ++ certain_from ops ranks rank (place + 1) more
+certain_from ops ranks rank place (statement ∷ more) = complaint_by rank place (option_map (λ refusal. line_text (Refused refusal)) (statement_refused ops ranks rank statement)) ++ certain_from ops ranks rank (place + 1) more
 
 -- of all ranks
 abbrev pub certain_in : List Operation → ScriptView → List ComplaintView

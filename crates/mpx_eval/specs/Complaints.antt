@@ -1,9 +1,10 @@
 -- Which calls were refused, and which are faults, by the lines of an evaluation's transcripts.
 use Rattle.std.specs.Prelude.{ℕ, zero, suc, ◌-◌, ◌==◌, Bool, false, ◌||◌, cond, List, [], ◌∷◌, ◌++◌, bytes_eq, codes, length, slice_get, Option, Some, None}
 use Rattle.std.specs.List.{flat_map, position_or_len, starts_with, zip}
+use Rattle.std.specs.Option.{option_map_or}
 use Rattle.mpx_statement.specs.Statements.{request_of}
 use Rattle.mpx_statement.specs.declared.statement.Statement.{Statement}
-use Rattle.mpx_statement.specs.declared.statement.Statement.TheVariants.{Post, Wait, Ask}
+use Rattle.mpx_statement.specs.declared.statement.Statement.TheVariants.{Wait}
 use Rattle.mpx_meaning.specs.declared.origin.Origin.{Origin}
 use Rattle.mpx_meaning.specs.Evaluation.{State, statements_of}
 use Rattle.mpx_meaning.specs.Reports.{lines_in}
@@ -20,25 +21,14 @@ is_complaint text = starts_with ◌==◌ text (codes "refused ") || starts_with 
 
 -- THE STATEMENT OF A LINE'S CALL
 
-abbrev pub is_word : List ℕ → Option (List ℕ) → Bool
-is_word word None = false
-is_word word (Some other) = bytes_eq other word
-
 -- the place of the statement that starts this request
 abbrev pub started_at : List Statement → (request : List ℕ) → ℕ
-started_at statements request = position_or_len (λ statement. is_word request (request_of statement)) statements
-
--- the statement that starts this request of a wait, if the wait names it
-abbrev pub call_of_request : List Statement → (place : ℕ) → (request : Option (List ℕ)) → ℕ
-call_of_request statements place None = place
-call_of_request statements place (Some request) = started_at statements request
+started_at statements request = position_or_len (λ statement. option_map_or (λ word. bytes_eq word request) (request_of statement) false) statements
 
 -- of a statement's lines the one of this number tells of the statement's own call, of a wait's lines of that of one of its requests
 abbrev pub call_of_line : List Statement → (place nth : ℕ) → Option Statement → ℕ
-call_of_line statements place nth None = place
-call_of_line statements place nth (Some (Post posting)) = place
-call_of_line statements place nth (Some (Wait words)) = call_of_request statements place (slice_get words nth)
-call_of_line statements place nth (Some (Ask question)) = place
+call_of_line statements place nth (Some (Wait words)) = option_map_or (started_at statements) (slice_get words nth) place
+call_of_line statements place nth statement = place
 
 abbrev pub call_at : List Statement → Origin → ℕ
 call_at statements origin = call_of_line statements (length statements - origin.left) origin.nth (slice_get statements (length statements - origin.left))
@@ -60,4 +50,4 @@ complaints_upto complaints (suc n) = complaints_upto complaints n ++ complaints 
 
 -- all where the ranks stand so
 abbrev pub complaints_in : List (List Statement) → (ranks : ℕ) → State → List ComplaintView
-complaints_in script ranks s = complaints_upto (λ p. complaints_at p (statements_of script p) (lines_in s p) (s p).origins) ranks
+complaints_in script ranks s = complaints_upto (λ p. flat_map (complaint_in p (statements_of script p)) (zip (lines_in s p) (s p).origins)) ranks

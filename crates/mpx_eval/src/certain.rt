@@ -1,7 +1,7 @@
 //! Refusals that are certain before anything is evaluated: of calls on `world`, whose members the script's first line tells.
 ghost use Rattle.std.specs.Prelude.{◌≡◌, ◌<◌, ◌≤◌, ◌++◌, IfOk, OnOk, map, option_map, slice_index_or, string_bytes, []};
 ghost use Rattle.mpx_birth.specs.Births.{of_members, upto};
-ghost use Rattle.mpx_eval.specs.Certain.{certain_at, certain_from, certain_in, posting_refused, refusal_text, refused_first, refused_on, statement_refused};
+ghost use Rattle.mpx_eval.specs.Certain.{certain_at, certain_from, certain_in, refused_on, statement_refused};
 ghost use Rattle.mpx_eval.specs.Complaints.{complaints_upto};
 ghost use Rattle.mpx_eval.specs.Found.{complaint_view};
 

@@ -1,8 +1,9 @@
 //! The lines of ranks that say that a call was refused or is a fault, and the statements of these calls.
-ghost use Rattle.std.specs.Prelude.{◌≡◌, ◌≤◌, ◌++◌, IfOk, OnOk, Some, length, map, slice_get, string_bytes};
+ghost use Rattle.std.specs.Prelude.{◌≡◌, ◌≤◌, ◌++◌, IfOk, OnOk, Some, bytes_eq, false, length, map, slice_get, string_bytes};
+ghost use Rattle.std.specs.Option.{option_map_or};
 ghost use Rattle.mpx_statement.specs.Statements.{request_of};
 ghost use Rattle.mpx_eval.specs.Carrying.{shown};
-ghost use Rattle.mpx_eval.specs.Complaints.{call_at, complaint_in, complaints_at, complaints_upto, is_complaint, is_word, started_at};
+ghost use Rattle.mpx_eval.specs.Complaints.{call_at, complaint_in, complaints_at, complaints_upto, is_complaint, started_at};
 ghost use Rattle.mpx_eval.specs.Found.{complaint_view, complaints_found};
 
 use crate::table::Table;
@@ -139,7 +140,7 @@ pub fn started_at(statements: &[Statement], request: &[u8]) -> usize
 
 // Whether a statement starts this request.
 fn starts(statement: &Statement, request: &[u8]) -> bool
-    ensures { result ≡ is_word request.now (request_of statement.now) }
+    ensures { result ≡ option_map_or (λ word. bytes_eq word request.now) (request_of statement.now) false }
 {
     match statement.request() {
         Some(word) => word.as_bytes() == request,

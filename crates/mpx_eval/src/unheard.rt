@@ -1,5 +1,5 @@
 //! Faults of calls whose requests are open at the end of an evaluation: nobody has waited for them to the end, so no line tells of them.
-ghost use Rattle.std.specs.Prelude.{◌≡◌, ◌≤◌, ◌++◌, IfOk, OnOk, Some, length, map, option_map, slice_get, string_bytes};
+ghost use Rattle.std.specs.Prelude.{◌≡◌, ◌≤◌, ◌++◌, IfOk, OnOk, Some, length, map, option_and_then, option_map, slice_get, string_bytes};
 ghost use Rattle.std.specs.Option.{option_copied};
 ghost use Rattle.mpx_meaning.specs.Standing.{looked_up};
 ghost use Rattle.mpx_statement.specs.Statements.{request_of};
@@ -7,7 +7,7 @@ ghost use Rattle.mpx_eval.specs.Carrying.{shown};
 ghost use Rattle.mpx_eval.specs.Complaints.{complaints_upto};
 ghost use Rattle.mpx_eval.specs.Found.{complaint_view};
 ghost use Rattle.mpx_eval.specs.Tables.{answer_on, table_of};
-ghost use Rattle.mpx_eval.specs.Unheard.{answer_at, fault_line, fault_of, open_in, unheard_at, unheard_found, unheard_from};
+ghost use Rattle.mpx_eval.specs.Unheard.{answer_at, fault_line, fault_of, unheard_at, unheard_found, unheard_from};
 
 use crate::complaints::Complaint;
 use crate::table::Table;
@@ -143,7 +143,7 @@ fn fault_at(
     ops: &Ops,
 ) -> Result<Option<String>, OutOfMemory>
     ensures { IfOk result (λ text. option_map string_bytes text
-        ≡ fault_of (answer_at (answer_on (⟦<Ops as Listing>⟧.operations ops.now) (table_of table.now) me) (open_in (looked_up requests.now) (request_of statement.now)))) }
+        ≡ fault_of (answer_at (answer_on (⟦<Ops as Listing>⟧.operations ops.now) (table_of table.now) me) (option_and_then (looked_up requests.now) (request_of statement.now)))) }
 {
     let Some((name, call)) = open_call(statement, requests) else {
         return Ok(None);
@@ -159,7 +159,7 @@ fn open_call<'m>(
     statement: &Statement,
     requests: &'m BTreeMap<Word, (Name, u32)>,
 ) -> Option<&'m (Name, u32)>
-    ensures { option_copied result ≡ open_in (looked_up requests.now) (request_of statement.now) }
+    ensures { option_copied result ≡ option_and_then (looked_up requests.now) (request_of statement.now) }
 {
     match statement.request() {
         Some(word) => requests.get(word),

@@ -4,8 +4,8 @@ use Rattle.std.proofs.lemmas.Bool.Decides.{Decides-eqb}
 use Rattle.mpx_num.specs.declared.own.Operation.{Operation}
 use Rattle.mpx_statement.specs.declared.statement.Statement.{Statement}
 use Rattle.mpx_value.specs.Histories.{Results, Within}
-use Rattle.mpx_meaning.specs.Ranks.{Local, next, next_of, step_by, step}
-use Rattle.mpx_meaning.specs.Evaluation.{State, start, history, known, or_stay, goes_on, move, moves, IsMaximal, IsPrefixOf, IsReached, IsEvaluation}
+use Rattle.mpx_meaning.specs.Ranks.{Local, next, next_by, step_by, step}
+use Rattle.mpx_meaning.specs.Evaluation.{State, start_state, history, known, or_stay, rank_goes_on, move, moves, IsMaximal, IsPrefixOf, IsReached, IsEvaluation}
 use Rattle.mpx_value.proofs.Growth.{results-grow}
 use Rattle.mpx_meaning.proofs.Fronts.{prefix_itself, prefix_trans, history-grows}
 use Rattle.mpx_meaning.proofs.Ways.{Way, here, on, step-grows, step_by-adds, way-adds, way-step, way-stuck}
@@ -33,7 +33,7 @@ module _ (ops : List Operation) where
   or_stay_cases P s (Some t) f g = g t refl
 
   -- and by which rank goes on
-  pub goes_on_cases : (P : ℕ → Local → Type 0) (s : State) (p : ℕ) (told : Results) → ((q : ℕ) → P q (s q)) → ((t : Local) → step ops told (s p) ≡ Some t → P p t) → (q : ℕ) → P q (goes_on ops s p told q)
+  pub goes_on_cases : (P : ℕ → Local → Type 0) (s : State) (p : ℕ) (told : Results) → ((q : ℕ) → P q (s q)) → ((t : Local) → step ops told (s p) ≡ Some t → P p t) → (q : ℕ) → P q (rank_goes_on ops s p told q)
   goes_on_cases P s p told stays steps q = cond_cases (P q) (q == p) (or_stay (s q) (step ops told (s q))) (s q)
       (λ e. let same : q ≡ p = (Decides-eqb q p).0 e in
       subst (λ j. P j (or_stay (s j) (step ops told (s j)))) (sym same) (or_stay_cases (P p) (s p) (step ops told (s p)) (λ _. stays p) steps))
@@ -51,7 +51,7 @@ module _ (ops : List Operation) where
   on_way-moved ranks end stuck [] s w = w
   on_way-moved ranks end stuck (p ∷ order) s w = on_way-moved ranks end stuck order (move ops ranks s p) (on_way-next ranks end s stuck w p)
 
-  goes_on-adds : (s : State) (p : ℕ) (told : Results) (q : ℕ) → IsPrefixOf (s q).made (goes_on ops s p told q).made
+  goes_on-adds : (s : State) (p : ℕ) (told : Results) (q : ℕ) → IsPrefixOf (s q).made (rank_goes_on ops s p told q).made
   goes_on-adds s p told = goes_on_cases (λ q t. IsPrefixOf (s q).made t.made) s p told (λ q. prefix_itself (s q).made) (λ t e. (step_by-adds told (s p) (next ops (s p)) t e).0)
 
   -- one move before the way
@@ -68,11 +68,11 @@ module _ (ops : List Operation) where
   on_way-moves ranks [] s = record { each = λ p. here }
   on_way-moves ranks (p ∷ order) s = record { each = back ranks (moves ops ranks order (move ops ranks s p)) s p (on_way-moves ranks order (move ops ranks s p)) }
 
-  on_way-start : (script : List (List Statement)) (ranks : ℕ) (end : State) → IsReached ops script ranks end → IsOnWay ranks end (start script ranks)
-  on_way-start script ranks end e = subst (λ u. IsOnWay ranks u (start script ranks)) e.reached (on_way-moves ranks e.order (start script ranks))
+  on_way-start : (script : List (List Statement)) (ranks : ℕ) (end : State) → IsReached ops script ranks end → IsOnWay ranks end (start_state script ranks)
+  on_way-start script ranks end e = subst (λ u. IsOnWay ranks u (start_state script ranks)) e.reached (on_way-moves ranks e.order (start_state script ranks))
 
   pub on_way-reached : (script : List (List Statement)) (ranks : ℕ) (end s : State) → IsEvaluation ops script ranks end → IsReached ops script ranks s → IsOnWay ranks end s
-  on_way-reached script ranks end s e r = subst (IsOnWay ranks end) r.reached (on_way-moved ranks end e.maximal r.order (start script ranks) (on_way-start script ranks end e.reached))
+  on_way-reached script ranks end s e r = subst (IsOnWay ranks end) r.reached (on_way-moved ranks end e.maximal r.order (start_state script ranks) (on_way-start script ranks end e.reached))
 
   -- an end that is on its way to another is that
   one_end : (ranks : ℕ) (a b : State) → IsMaximal ops ranks a → IsOnWay ranks b a → IsOnWay ranks a b → (p : ℕ) → a p ≡ b p
@@ -87,4 +87,4 @@ module _ (ops : List Operation) where
 
   -- a rank that has nothing left is where it ends
   pub finished : (r : Results) (s u : Local) → Way ops r s u → s.todo ≡ [] → s ≡ u
-  finished r s u w e = way-stuck ops r s u w (ap (λ todo. step_by r s (next_of ops s todo)) e)
+  finished r s u w e = way-stuck ops r s u w (ap (λ todo. step_by r s (next_by ops s todo)) e)

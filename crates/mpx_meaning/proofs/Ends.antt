@@ -7,8 +7,8 @@ use Rattle.std.specs.Prelude.{unwrap_or, ◌⊎◌}
 use Rattle.mpx_num.specs.declared.own.Operation.{Operation}
 use Rattle.mpx_statement.specs.declared.statement.Statement.{Statement}
 use Rattle.mpx_value.specs.Histories.{Results}
-use Rattle.mpx_meaning.specs.Ranks.{Local, doing, next_of, step_by, step, weights}
-use Rattle.mpx_meaning.specs.Evaluation.{State, start, known, or_stay, goes_on, move, moves, IsMaximal, IsEvaluation, left, IsQuiet}
+use Rattle.mpx_meaning.specs.Ranks.{Local, doing, next_by, step_by, step, weights}
+use Rattle.mpx_meaning.specs.Evaluation.{State, start_state, known, or_stay, rank_goes_on, move, moves, IsMaximal, IsEvaluation, left, IsQuiet}
 use Rattle.mpx_meaning.proofs.Steps.{step-lowers}
 use Rattle.mpx_meaning.proofs.Ahead.{goes_on_cases}
 use Rattle.std.proofs.lemmas.Bool.{cases_lt}
@@ -46,7 +46,7 @@ mover ops ranks s (suc n) = elim (mover ops ranks s n) [
       let below : p ≤ n = omega arith in
       elim (eq-or-lt_of_le below) [ inl same ↦ subst (λ j. step ops (known ops ranks s j) (s j) ≡ None) (sym same) e | inr less ↦ none p less ])
 
-pub goes_on-at : (ops : List Operation) (s : State) (p : ℕ) (told : Results) (t : Local) → step ops told (s p) ≡ Some t → goes_on ops s p told p ≡ t
+pub goes_on-at : (ops : List Operation) (s : State) (p : ℕ) (told : Results) (t : Local) → step ops told (s p) ≡ Some t → rank_goes_on ops s p told p ≡ t
 goes_on-at ops s p told t e = ap (λ b. cond b (or_stay (s p) (step ops told (s p))) (s p)) ((Decides-eqb p p).1 refl) ∙ ap (or_stay (s p)) e
 
 module _ (ops : List Operation) (n : ℕ) (s : State) (p : ℕ) (within : p < n) (t : Local) (e : step ops (known ops n s p) (s p) ≡ Some t) where
@@ -60,7 +60,7 @@ module _ (ops : List Operation) (n : ℕ) (s : State) (p : ℕ) (within : p < n)
   move-quiet q = record { from = goes_on_cases ops (λ j u. n ≤ j → u.todo ≡ []) s p (known ops n s p) q.from (λ u f g. absurd (omega (arith, g, within))) }
 
 quiet_still : (ops : List Operation) (ranks n : ℕ) (s : State) → IsQuiet n s → ((p : ℕ) → p < n → step ops (known ops ranks s p) (s p) ≡ None) → IsMaximal ops ranks s
-quiet_still ops ranks n s q none p = elim (cases_lt p n) [ inl l ↦ none p l | inr g ↦ ap (λ todo. step_by (known ops ranks s p) (s p) (next_of ops (s p) todo)) (q.from p g) ]
+quiet_still ops ranks n s q none p = elim (cases_lt p n) [ inl l ↦ none p l | inr g ↦ ap (λ todo. step_by (known ops ranks s p) (s p) (next_by ops (s p) todo)) (q.from p g) ]
 
 -- moves that none extends. Only the number that bounds birth_of's world is ranks
 pub order_of : (ops : List Operation) (n fuel : ℕ) (s : State) → IsQuiet n s → left n s < fuel → (order : List ℕ) × IsMaximal ops n (moves ops n order s)
@@ -73,11 +73,11 @@ order_of ops n (suc fuel) s q l = elim (mover ops n s n) [
       (m.p ∷ rest.0, rest.1)
 ]
 
-pub start_quiet : (script : List (List Statement)) (ranks : ℕ) → length script ≤ ranks → IsQuiet ranks (start script ranks)
+pub start_quiet : (script : List (List Statement)) (ranks : ℕ) → length script ≤ ranks → IsQuiet ranks (start_state script ranks)
 start_quiet script ranks h = record { from = λ p g. ap (λ o. doing (unwrap_or o [])) (slice_get_past script p (omega (arith, h, g))) }
 
 -- every script has an evaluation
 pub eval_of : (ops : List Operation) (script : List (List Statement)) (ranks : ℕ) → length script ≤ ranks → (end : State) × IsEvaluation ops script ranks end
 eval_of ops script ranks h =
-    let found = order_of ops ranks (suc (left ranks (start script ranks))) (start script ranks) (start_quiet script ranks h) (omega arith) in
-    (moves ops ranks found.0 (start script ranks), record { reached = record { order = found.0; reached = refl }; maximal = found.1 })
+    let found = order_of ops ranks (suc (left ranks (start_state script ranks))) (start_state script ranks) (start_quiet script ranks h) (omega arith) in
+    (moves ops ranks found.0 (start_state script ranks), record { reached = record { order = found.0; reached = refl }; maximal = found.1 })

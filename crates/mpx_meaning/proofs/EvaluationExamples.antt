@@ -32,7 +32,7 @@ use Rattle.mpx_statement.specs.declared.statement.Statement.{Statement}
 use Rattle.mpx_statement.specs.declared.statement.Statement.TheVariants.{Post, Wait, Ask}
 use Rattle.mpx_meaning.specs.declared.asking.Relation.TheVariants.{Ident, Congruent}
 use Rattle.mpx_meaning.specs.Ranks.{Line, Compared, Idle, Near, StrayRank, Told, Translated, Refused}
-use Rattle.mpx_meaning.specs.Evaluation.{start, moves}
+use Rattle.mpx_meaning.specs.Evaluation.{start_state, moves}
 use Rattle.mpx_meaning.specs.Transcripts.{line_text}
 
 -- a blocking call of 64-bit numbers
@@ -76,15 +76,15 @@ tells_fault call what rank = Told [] call (O.Fault (record { what = what; rank =
 lines_after : List ℕ → (first second : List Statement) → List (List Line)
 lines_after order first second =
     let script : List (List Statement) = first ∷ second ∷ [] in
-    (moves [] 2 order (start script 2) 0).lines ∷ (moves [] 2 order (start script 2) 1).lines ∷ []
+    (moves [] 2 order (start_state script 2) 0).lines ∷ (moves [] 2 order (start_state script 2) 1).lines ∷ []
 
 -- the lines of a rank that is alone, with these statements
 lines_alone : List ℕ → List Statement → List Line
-lines_alone order statements = (moves [] 1 order (start (statements ∷ []) 1) 0).lines
+lines_alone order statements = (moves [] 1 order (start_state (statements ∷ []) 1) 0).lines
 
 -- the lines of the first of three ranks, where it and the last one have these statements
 lines_of_first : List ℕ → (first last : List Statement) → List Line
-lines_of_first order first last = (moves [] 3 order (start (first ∷ [] ∷ last ∷ []) 3) 0).lines
+lines_of_first order first last = (moves [] 3 order (start_state (first ∷ [] ∷ last ∷ []) 3) 0).lines
 
 record Examples : Type 0 where
   -- 1 and 2 make 3, and the greatest number and 1 make the least

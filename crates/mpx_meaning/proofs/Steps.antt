@@ -10,7 +10,7 @@ use Rattle.mpx_statement.specs.declared.statement.Posting.{Posting}
 use Rattle.mpx_statement.specs.declared.statement.Question.{Question}
 use Rattle.mpx_statement.specs.declared.statement.Statement.TheVariants.{Post, Wait, Ask}
 use Rattle.mpx_statement.specs.Statements.{bound_to, started_as}
-use Rattle.mpx_meaning.specs.Ranks.{Todo, Do, Await, Local, Act, NullCommunicator, Told, Refused, answered, answers, attempt, awaited_by, bind, bound_by, done, goes_out, next_call, next_of, posts_or_refuses, step_by, step, waited_lines, weights, without_all}
+use Rattle.mpx_meaning.specs.Ranks.{Todo, Do, Await, Local, Act, NullCommunicator, Told, Refused, answered, answers, attempt, awaited_by, bind, bound_by, done, goes_out, next_call, next_by, posts_or_refuses, step_by, step, waited_lines, weights, without_all}
 
 -- it hears an answer
 abbrev pub heard : Local → Name → (call : ℕ) → (target : Option (List ℕ)) → List Todo → Answer → Act
@@ -38,22 +38,22 @@ told_at_once s question rest = record { bound = s.bound; requests = s.requests; 
 
 module _ (ops : List Operation) (r : Results) (s : Local) where
   pub step_ends : s.todo ≡ [] → step ops r s ≡ None
-  step_ends e = ap (λ todo. step_by r s (next_of ops s todo)) e
+  step_ends e = ap (λ todo. step_by r s (next_by ops s todo)) e
 
   pub step_hears : (name : Name) (call : ℕ) (target : Option (List ℕ)) (rest : List Todo) (answer : Answer) → s.todo ≡ Await name call target ∷ rest → r name call ≡ Some answer → step ops r s ≡ Some (done s (heard s name call target rest answer))
-  step_hears name call target rest answer e f = ap (λ todo. step_by r s (next_of ops s todo)) e ∙ rw f
+  step_hears name call target rest answer e f = ap (λ todo. step_by r s (next_by ops s todo)) e ∙ rw f
 
   pub step_waits : (name : Name) (call : ℕ) (target : Option (List ℕ)) (rest : List Todo) → s.todo ≡ Await name call target ∷ rest → r name call ≡ None → step ops r s ≡ None
-  step_waits name call target rest e f = ap (λ todo. step_by r s (next_of ops s todo)) e ∙ rw f
+  step_waits name call target rest e f = ap (λ todo. step_by r s (next_by ops s todo)) e ∙ rw f
 
   pub step_passes : (words : List (List ℕ)) (rest : List Todo) (told : List Answer) → s.todo ≡ Do (Wait words) ∷ rest → answers r (awaited_by s.requests words) ≡ Some told → step ops r s ≡ Some (done s (waited s words rest told))
-  step_passes words rest told e f = ap (λ todo. step_by r s (next_of ops s todo)) e ∙ ap (option_and_then (λ (x : List Answer). Some (done s (waited s words rest x)))) f
+  step_passes words rest told e f = ap (λ todo. step_by r s (next_by ops s todo)) e ∙ ap (option_and_then (λ (x : List Answer). Some (done s (waited s words rest x)))) f
 
   pub step_stays : (words : List (List ℕ)) (rest : List Todo) → s.todo ≡ Do (Wait words) ∷ rest → answers r (awaited_by s.requests words) ≡ None → step ops r s ≡ None
-  step_stays words rest e f = ap (λ todo. step_by r s (next_of ops s todo)) e ∙ ap (option_and_then (λ (x : List Answer). Some (done s (waited s words rest x)))) f
+  step_stays words rest e f = ap (λ todo. step_by r s (next_by ops s todo)) e ∙ ap (option_and_then (λ (x : List Answer). Some (done s (waited s words rest x)))) f
 
   step_goes_out : (posting : Posting) (rest : List Todo) (m : Made) → s.todo ≡ Do (Post posting) ∷ rest → attempt ops s.me s.bound s.made posting ≡ Ok m → step ops r s ≡ Some (done s (goes_out s rest (bound_to posting) (started_as posting) m))
-  step_goes_out posting rest m e f = ap (λ todo. step_by r s (next_of ops s todo)) e ∙ ap (λ x. step_by r s (posts_or_refuses s rest (bound_to posting) (started_as posting) x)) f
+  step_goes_out posting rest m e f = ap (λ todo. step_by r s (next_by ops s todo)) e ∙ ap (λ x. step_by r s (posts_or_refuses s rest (bound_to posting) (started_as posting) x)) f
 
   pub step_posts : (posting : Posting) (rest : List Todo) (m : Made) → s.todo ≡ Do (Post posting) ∷ rest → started_as posting ≡ None → attempt ops s.me s.bound s.made posting ≡ Ok m → step ops r s ≡ Some (done s (posted s (bound_to posting) rest m))
   step_posts posting rest m e b f = step_goes_out posting rest m e f ∙ ap (λ w. let o : Option Local = Some (done s (goes_out s rest (bound_to posting) w m)) in o) b
@@ -62,10 +62,10 @@ module _ (ops : List Operation) (r : Results) (s : Local) where
   step_starts posting rest word m e b f = step_goes_out posting rest m e f ∙ ap (λ w. let o : Option Local = Some (done s (goes_out s rest (bound_to posting) w m)) in o) b
 
   pub step_refused : (posting : Posting) (rest : List Todo) (refusal : PostError) → s.todo ≡ Do (Post posting) ∷ rest → attempt ops s.me s.bound s.made posting ≡ Err refusal → step ops r s ≡ Some (done s (turned_down s (bound_to posting) rest refusal))
-  step_refused posting rest refusal e f = ap (λ todo. step_by r s (next_of ops s todo)) e ∙ ap (λ x. step_by r s (posts_or_refuses s rest (bound_to posting) (started_as posting) x)) f
+  step_refused posting rest refusal e f = ap (λ todo. step_by r s (next_by ops s todo)) e ∙ ap (λ x. step_by r s (posts_or_refuses s rest (bound_to posting) (started_as posting) x)) f
 
   pub step_asks : (question : Question) (rest : List Todo) → s.todo ≡ Do (Ask question) ∷ rest → step ops r s ≡ Some (done s (told_at_once s question rest))
-  step_asks question rest e = ap (λ todo. step_by r s (next_of ops s todo)) e
+  step_asks question rest e = ap (λ todo. step_by r s (next_by ops s todo)) e
 
 -- what holds of a rank after each kind of step holds after its step
 module _ (ops : List Operation) (r : Results) (s : Local) (P : Local → Type 0)

@@ -19,7 +19,7 @@ use Rattle.mpx_statement.specs.declared.statement.Statement.{Statement}
 use Rattle.mpx_statement.specs.Statements.{bound_to}
 use Rattle.mpx_statement.specs.Lookups.{named}
 use Rattle.mpx_meaning.specs.Ranks.{Bindings, Bound, Communicator, NullCommunicator, Told, Local, bind, bound_by, next, step}
-use Rattle.mpx_meaning.specs.Evaluation.{State, start, bound_at_start, world_of, history, known, move, moves, statements_of, IsReached, IsPrefixOf}
+use Rattle.mpx_meaning.specs.Evaluation.{State, start_state, bound_at_start, world_of, history, known, move, moves, statements_of, IsReached, IsPrefixOf}
 use Rattle.mpx_meaning.specs.Told.{Passes, none, CarriesOut, IsToldOf, IsMemberOf}
 use Rattle.mpx_meaning.proofs.Fronts.{prefix_itself, history-grows}
 use Rattle.mpx_meaning.proofs.Steps.{step_cases, step-keeps}
@@ -195,16 +195,16 @@ start-there ops ranks s p word name birth e = by_test (bytes_eq word (codes "wor
       }
   by_test false f = cc f
 
-start-carry_out : (ops : List Operation) (script : List (List Statement)) (ranks : ℕ) → AllCarryOut ops script ranks (start script ranks)
+start-carry_out : (ops : List Operation) (script : List (List Statement)) (ranks : ℕ) → AllCarryOut ops script ranks (start_state script ranks)
 start-carry_out ops script ranks = record {
   each = λ p. inl (record { passed = []; left = statements_of script p; all = refl; todo = refl; passes = none });
   me = λ p. refl;
   world = λ p. refl;
-  bound = start-there ops ranks (start script ranks);
+  bound = start-there ops ranks (start_state script ranks);
 }
 
 pub reached-carry_out : (ops : List Operation) (script : List (List Statement)) (ranks : ℕ) (s : State) → IsReached ops script ranks s → AllCarryOut ops script ranks s
-reached-carry_out ops script ranks s r = subst (AllCarryOut ops script ranks) r.reached (moved-carry_out ops script ranks r.order (start script ranks) (start-carry_out ops script ranks))
+reached-carry_out ops script ranks s r = subst (AllCarryOut ops script ranks) r.reached (moved-carry_out ops script ranks r.order (start_state script ranks) (start-carry_out ops script ranks))
 
 -- WHAT THEY TELL
 

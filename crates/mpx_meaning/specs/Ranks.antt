@@ -1,7 +1,8 @@
 -- One rank of a script, as an automaton over the answers that it asks for.
-use Rattle.std.specs.Prelude.{ℕ, zero, suc, ◌+◌, Bool, true, false, cond, not, List, [], ◌∷◌, ◌++◌, length, map, bytes_eq, Option, Some, None, option_and_then, Result, Ok, Err, ℤ}
-use Rattle.std.specs.List.{filter}
-use Rattle.std.specs.Option.{option_map}
+use Rattle.std.specs.Prelude.{ℕ, zero, suc, ◌+◌, Bool, true, false, cond, not, List, [], ◌∷◌, ◌++◌, length, map, bytes_eq, slice_get, Option, Some, None, option_and_then, Result, Ok, Err, ℤ}
+use Rattle.std.specs.List.{cons_option, filter}
+use Rattle.std.specs.Option.{option_map, option_map_or}
+use Rattle.std.specs.Result.{result_map_both}
 use Rattle.mpx_num.specs.declared.own.Operation.{Operation}
 use Rattle.mpx_group.specs.Group.{comparison_of}
 use Rattle.mpx_group.specs.Translation.{translated}
@@ -36,7 +37,7 @@ use Rattle.mpx_meaning.specs.declared.asking.Found.TheVariants as W
 use Rattle.mpx_meaning.specs.declared.asking.Relation.{Relation}
 use Rattle.mpx_meaning.specs.declared.origin.Origin.{Origin}
 use Rattle.mpx_meaning.specs.declared.asking.Relation.TheVariants.{Ident, Congruent, Similar, Unequal}
-use Rattle.mpx_statement.specs.Statements.{Gathers, bound_to, draft_of, gathers_of, posted_on, started_as}
+use Rattle.mpx_statement.specs.Statements.{Gathers, bound_to, draft_of, gathers_of, communicator_word, started_as}
 use Rattle.mpx_statement.specs.Lookups.{below, named}
 
 -- a line of a transcript: what a call of a context gave, why a post was refused, that a request is not open (any more),
@@ -115,8 +116,7 @@ abbrev pub next_call : Name → List Made → ℕ
 next_call name made = length (posts_on name made)
 
 abbrev pub made_on : Name → Result Given PostError → Result Made PostError
-made_on name (Ok given) = Ok (record { name = name; given = given })
-made_on name (Err refusal) = Err refusal
+made_on name given = result_map_both (λ (g : Given). record { name = name; given = g }) (λ (refusal : PostError). refusal) given
 
 -- by the job's own operations
 module _ (ops : List Operation) where
@@ -140,7 +140,7 @@ module _ (ops : List Operation) where
 
   -- what such a statement of a rank comes to, with these bindings and after these posts
   abbrev pub attempt : (me : ℕ) → Bindings → List Made → Posting → Result Made PostError
-  attempt me bound made posting = attempt_on me made posting (named bound (posted_on posting))
+  attempt me bound made posting = attempt_on me made posting (named bound (communicator_word posting))
 
 -- the neighbours of a rank on one side
 abbrev pub neighbours_at : Side → TopologyView → (rank : ℕ) → List Neighbour
@@ -149,13 +149,11 @@ neighbours_at Destinations topology rank = destinations_at topology rank
 
 -- the line that tells them, in a communicator with this topology
 abbrev pub told_by : Side → Option TopologyView → (rank : ℕ) → Line
-told_by side None rank = Refused NoTopology
-told_by side (Some topology) rank = Near topology.weighted (neighbours_at side topology rank)
+told_by side topology rank = option_map_or (λ (t : TopologyView). Near t.weighted (neighbours_at side t rank)) topology (Refused NoTopology)
 
 -- the same for a member
 abbrev pub told_to : Side → BirthView → (rank : Option ℕ) → Line
-told_to side birth None = Refused NotMember
-told_to side birth (Some rank) = told_by side birth.topology rank
+told_to side birth rank = option_map_or (told_by side birth.topology) rank (Refused NotMember)
 
 -- a communicator, where a word is bound to one: its name, and how it came to be
 abbrev pub communicator_of : Option Bound → Option (Name × BirthView)
@@ -197,7 +195,7 @@ line_of_two tell first second = Refused Closed
 
 -- the line of a rank's neighbours in a communicator
 abbrev pub neighbours_in : (me : ℕ) → Side → Name × BirthView → Line
-neighbours_in me side c = told_to side c.1 (rank_in me c.1.members)
+neighbours_in me side c = option_map_or (told_by side c.1.topology) (rank_in me c.1.members) (Refused NotMember)
 
 -- how two communicators compare: by their contexts, then by their groups (MPI 4.1, section 7.4.1)
 abbrev pub relation_of : (same_context : Bool) → Comparison → Relation
@@ -211,16 +209,14 @@ comparison_in c d = Compared (relation_of (same_name c.0 d.0) (comparison_of c.1
 
 -- a rank of a communicator of this size, or none
 abbrev pub rank_asked : (size : ℕ) → Option ℤ → Option Rank
-rank_asked size None = Some ProcNull
-rank_asked size (Some z) = option_map At (below size z)
+rank_asked size asked = option_map_or (λ z. option_map At (below size z)) asked (Some ProcNull)
 
 abbrev pub translated_told : (from to : List ℕ) → Option (List Rank) → Line
-translated_told from to None = StrayRank
-translated_told from to (Some ranks) = Translated (map (translated from to) ranks)
+translated_told from to ranks = option_map_or (λ asked. Translated (map (translated from to) asked)) ranks StrayRank
 
 -- the ranks in the second communicator of the processes with these ranks in the first (MPI 4.1, section 7.3.1)
 abbrev pub translation_in : List (Option ℤ) → (from to : Name × BirthView) → Line
-translation_in ranks from to = translated_told from.1.members to.1.members (all_of (rank_asked (length from.1.members)) ranks)
+translation_in ranks from to = option_map_or (λ asked. Translated (map (translated from.1.members to.1.members) asked)) (all_of (rank_asked (length from.1.members)) ranks) StrayRank
 
 -- the line that answers a question, where words stand for this
 abbrev pub answered_by : (me : ℕ) → (List ℕ → Found (Name × BirthView)) → Question → Line
@@ -243,14 +239,14 @@ abbrev pub without_all : List (List ℕ) → Requests → Requests
 without_all [] requests = requests
 without_all (word ∷ words) requests = without_all words (without word requests)
 
-abbrev pub awaited_then : Option (Name × ℕ) → List (Name × ℕ) → List (Name × ℕ)
-awaited_then None rest = rest
-awaited_then (Some place) rest = place ∷ rest
-
 -- the calls whose outcomes a wait for these words needs: those of the open requests, each once
 abbrev pub awaited_by : Requests → List (List ℕ) → List (Name × ℕ)
 awaited_by requests [] = []
-awaited_by requests (word ∷ words) = awaited_then (named requests word) (awaited_by (without word requests) words)
+awaited_by requests (word ∷ words) = cons_option (named requests word) (awaited_by (without word requests) words)
+
+-- a call before those of further words, where there is one
+abbrev pub awaited_then : Option (Name × ℕ) → List (Name × ℕ) → List (Name × ℕ)
+awaited_then place rest = cons_option place rest
 
 -- a word's line, and those behind it by the answers that are left
 abbrev pub line_then : Option (Name × ℕ) → List Answer → (List Answer → List Line) → List Line
@@ -279,13 +275,9 @@ bind (Some word) to bound = bound ++ (word, to) ∷ []
 abbrev pub at_once : Act → Next
 at_once a = Asks [] (λ _. a)
 
--- the first answer, of one that was asked for. The second case never comes
-abbrev pub first_or : (Answer → Act) → Act → List Answer → Act
-first_or f other (answer ∷ rest) = f answer
-first_or f other [] = other
-
+-- the answer of one call is asked for: there always is one
 abbrev pub awaits : Name → ℕ → (Answer → Act) → Next
-awaits name call f = Asks ((name, call) ∷ []) (first_or f (record { bound = []; requests = []; todo = []; made = []; lines = [] }))
+awaits name call f = Asks ((name, call) ∷ []) (λ told. option_map_or f (slice_get told 0) (record { bound = []; requests = []; todo = []; made = []; lines = [] }))
 
 -- an accepted post: its outcome is awaited next, or its request is open from now on
 abbrev pub goes_out : Local → List Todo → (target request : Option (List ℕ)) → Made → Act
@@ -294,18 +286,18 @@ goes_out s rest target (Some word) m = record { bound = s.bound; requests = s.re
 
 -- a statement that posts: its post, or the line of its refusal
 abbrev pub posts_or_refuses : Local → List Todo → (target request : Option (List ℕ)) → Result Made PostError → Next
-posts_or_refuses s rest target request (Ok m) = at_once (goes_out s rest target request m)
-posts_or_refuses s rest target request (Err refusal) = at_once (record { bound = bind target NullCommunicator s.bound; requests = s.requests; todo = rest; made = []; lines = Refused refusal ∷ [] })
+posts_or_refuses s rest target request (Ok m) = Asks [] (λ told. goes_out s rest target request m)
+posts_or_refuses s rest target request (Err refusal) = Asks [] (λ told. record { bound = bind target NullCommunicator s.bound; requests = s.requests; todo = rest; made = []; lines = Refused refusal ∷ [] })
 
-abbrev pub next_of : List Operation → Local → List Todo → Next
-next_of ops s [] = End
-next_of ops s (Do (Post posting) ∷ rest) = posts_or_refuses s rest (bound_to posting) (started_as posting) (attempt ops s.me s.bound s.made posting)
-next_of ops s (Do (Wait words) ∷ rest) = Asks (awaited_by s.requests words) (λ told. record { bound = s.bound; requests = without_all words s.requests; todo = rest; made = []; lines = waited_lines s.requests words told })
-next_of ops s (Do (Ask question) ∷ rest) = at_once (record { bound = s.bound; requests = s.requests; todo = rest; made = []; lines = answered s.me s.bound s.made question ∷ [] })
-next_of ops s (Await name call target ∷ rest) = awaits name call (λ (answer : Answer). record { bound = bind target (bound_by answer.outcome answer.born) s.bound; requests = s.requests; todo = rest; made = []; lines = Told name call answer.outcome ∷ [] })
+abbrev pub next_by : List Operation → Local → List Todo → Next
+next_by ops s [] = End
+next_by ops s (Do (Post posting) ∷ rest) = posts_or_refuses s rest (bound_to posting) (started_as posting) (attempt_on ops s.me s.made posting (named s.bound (communicator_word posting)))
+next_by ops s (Do (Wait words) ∷ rest) = Asks (awaited_by s.requests words) (λ told. record { bound = s.bound; requests = without_all words s.requests; todo = rest; made = []; lines = waited_lines s.requests words told })
+next_by ops s (Do (Ask question) ∷ rest) = Asks [] (λ told. record { bound = s.bound; requests = s.requests; todo = rest; made = []; lines = answered_by s.me (λ word. found_of s.made (named s.bound word)) question ∷ [] })
+next_by ops s (Await name call target ∷ rest) = awaits name call (λ (answer : Answer). record { bound = bind target (bound_by answer.outcome answer.born) s.bound; requests = s.requests; todo = rest; made = []; lines = Told name call answer.outcome ∷ [] })
 
 abbrev pub next : List Operation → Local → Next
-next ops s = next_of ops s s.todo
+next ops s = next_by ops s s.todo
 
 -- STEPS
 
@@ -319,7 +311,7 @@ step_by r s (Asks calls act) = option_and_then (λ told. Some (done s (act told)
 
 -- where the next move of a rank that knows these outcomes leads, where it has one, by the job's own operations
 abbrev pub step : List Operation → Results → Local → Option Local
-step ops r s = step_by r s (next ops s)
+step ops r s = step_by r s (next_by ops s s.todo)
 
 -- so many moves are left at most
 abbrev pub weight : Todo → ℕ
@@ -332,5 +324,4 @@ weights (x ∷ xs) = weight x + weights xs
 
 -- how a rank with these statements starts
 abbrev pub doing : List Statement → List Todo
-doing [] = []
-doing (x ∷ xs) = Do x ∷ doing xs
+doing statements = map Do statements

@@ -1,5 +1,5 @@
 -- The text of a transcript.
-use Rattle.std.specs.Prelude.{ℕ, zero, suc, ℤ, pos, Bool, true, false, List, [], ◌∷◌, ◌++◌, String, Vec, codes, map, string_bytes}
+use Rattle.std.specs.Prelude.{ℕ, zero, suc, pos, Bool, true, false, List, [], ◌∷◌, ◌++◌, String, Vec, codes, map, string_bytes}
 use Rattle.mpx_num.specs.Text.{number_text}
 use Rattle.mpx_post.specs.RefusalNames.{refusal_name}
 use Rattle.mpx_match.specs.declared.faults.FaultKind.{FaultKind}
@@ -17,15 +17,15 @@ use Rattle.mpx_meaning.specs.Ranks.{Line, Compared, Idle, Near, Refused, StrayRa
 abbrev pub as_text : {Z : Type 0} → Vec (String Z) Z → List (List ℕ)
 as_text lines = map string_bytes lines.items
 
--- each number with a space before it
-abbrev pub spaced : List ℤ → List ℕ
-spaced [] = []
-spaced (x ∷ xs) = (32 ∷ number_text x) ++ spaced xs
+-- the text of each with a space before it
+abbrev pub spaced : {A : Type 0} → (A → List ℕ) → List A → List ℕ
+spaced text [] = []
+spaced text (x ∷ xs) = (32 ∷ text x) ++ spaced text xs
 
--- numbers with one space between them
-abbrev pub numbers_text : List ℤ → List ℕ
-numbers_text [] = codes "empty"
-numbers_text (x ∷ xs) = number_text x ++ spaced xs
+-- their texts with one space between them; `empty` where there are none
+abbrev pub listed : {A : Type 0} → (A → List ℕ) → List A → List ℕ
+listed text [] = codes "empty"
+listed text (x ∷ xs) = text x ++ spaced text xs
 
 abbrev pub fault_name : FaultKind → List ℕ
 fault_name F.Kind = codes "Kind"
@@ -41,7 +41,7 @@ fault_name F.Groups = codes "Groups"
 abbrev pub outcome_text : Outcome → List ℕ
 outcome_text O.Nothing = codes "ok"
 outcome_text O.Absent = codes "none"
-outcome_text (O.Items items) = numbers_text items.nums
+outcome_text (O.Items items) = listed number_text items.nums
 outcome_text (O.NewComm name size rank) = codes "comm " ++ number_text (pos size) ++ 32 ∷ number_text (pos rank)
 outcome_text O.Null = codes "null"
 outcome_text (O.Fault fault) = codes "fault " ++ fault_name fault.what ++ codes " at " ++ number_text (pos fault.rank)
@@ -50,16 +50,6 @@ outcome_text (O.Fault fault) = codes "fault " ++ fault_name fault.what ++ codes 
 abbrev pub neighbour_text : (weighted : Bool) → Neighbour → List ℕ
 neighbour_text false neighbour = number_text (pos neighbour.rank)
 neighbour_text true neighbour = number_text (pos neighbour.rank) ++ 58 ∷ number_text (pos neighbour.weight)
-
--- each with a space before it
-abbrev pub spaced_neighbours : (weighted : Bool) → List Neighbour → List ℕ
-spaced_neighbours weighted [] = []
-spaced_neighbours weighted (n ∷ ns) = (32 ∷ neighbour_text weighted n) ++ spaced_neighbours weighted ns
-
--- neighbours with one space between them
-abbrev pub neighbours_text : (weighted : Bool) → List Neighbour → List ℕ
-neighbours_text weighted [] = codes "empty"
-neighbours_text weighted (n ∷ ns) = neighbour_text weighted n ++ spaced_neighbours weighted ns
 
 abbrev pub relation_text : Relation → List ℕ
 relation_text C.Ident = codes "ident"
@@ -72,24 +62,14 @@ translated_text (At rank) = number_text (pos rank)
 translated_text ProcNull = codes "null"
 translated_text Undefined = codes "undefined"
 
--- each with a space before it
-abbrev pub spaced_ranks : List Rank → List ℕ
-spaced_ranks [] = []
-spaced_ranks (r ∷ rs) = (32 ∷ translated_text r) ++ spaced_ranks rs
-
--- ranks with one space between them
-abbrev pub ranks_text : List Rank → List ℕ
-ranks_text [] = codes "empty"
-ranks_text (r ∷ rs) = translated_text r ++ spaced_ranks rs
-
 -- the place of an outcome isn't printed
 abbrev pub line_text : Line → List ℕ
 line_text (Told name call outcome) = outcome_text outcome
 line_text (Refused refusal) = codes "refused " ++ refusal_name refusal
 line_text Idle = codes "idle"
-line_text (Near weighted neighbours) = neighbours_text weighted neighbours
+line_text (Near weighted neighbours) = listed (neighbour_text weighted) neighbours
 line_text (Compared relation) = relation_text relation
-line_text (Translated ranks) = ranks_text ranks
+line_text (Translated ranks) = listed translated_text ranks
 line_text StrayRank = codes "refused RankOutOfRange"
 
 -- each line of a rank as `RANK: LINE`

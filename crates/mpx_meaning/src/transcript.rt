@@ -2,7 +2,7 @@
 ghost use Rattle.std.specs.Prelude.{◌≡◌, ◌++◌, ◌∷◌, IfOk, OnOk, pos, codes, string_bytes};
 ghost use Rattle.mpx_num.specs.Text.{number_text};
 ghost use Rattle.mpx_meaning.specs.Ranks.{Compared, Idle, Near, Refused, StrayRank, Translated};
-ghost use Rattle.mpx_meaning.specs.Transcripts.{fault_name, line_text, neighbour_text, numbers_text, outcome_text, relation_text, translated_text};
+ghost use Rattle.mpx_meaning.specs.Transcripts.{fault_name, line_text, listed, neighbour_text, outcome_text, relation_text, translated_text};
 
 use crate::asking::Relation;
 use join_core::OutOfMemory;
@@ -144,7 +144,7 @@ fn push_neighbour(
 }
 
 fn numbers_line(alloc: Global, numbers: &[i128]) -> Result<String, OutOfMemory>
-    ensures { IfOk result (λ text. string_bytes text ≡ numbers_text numbers.now) }
+    ensures { IfOk result (λ text. string_bytes text ≡ listed number_text numbers.now) }
 {
     let Some((first, rest)) = numbers.split_first() else {
         return Ok(String::from_str(alloc, "empty")?);

@@ -7,8 +7,8 @@ use Rattle.mpx_board.specs.Boards.{Look, join_all}
 use Rattle.mpx_board.specs.Looks.{look, parts_of}
 use Rattle.mpx_board.specs.Raised.{Raises}
 use Rattle.mpx_format.specs.Encoding.{length_told}
-use Rattle.mpx_parts.specs.Facts.{OnlyFactsOf}
-use Rattle.mpx_parts.specs.Pieces.{NoNeighboursFit}
+use Rattle.mpx_delta.specs.Facts.{OnlyFactsOf}
+use Rattle.mpx_delta.specs.Pieces.{NoNeighboursFit}
 use Rattle.mpx_delta.specs.Lacking.{AreSpelled}
 use Rattle.mpx_delta.specs.Digests.{IsDigest, Numbers, common_on, without}
 use Rattle.mpx_node.specs.Nodes.{NodeView, acknowledge}

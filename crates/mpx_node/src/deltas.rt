@@ -3,16 +3,15 @@ ghost use Rattle.std.specs.Prelude.{◌≡◌, ◌↔◌, ◌≤◌, ◌∷◌, 
 ghost use Rattle.mpx_board.specs.Boards.{join_all};
 ghost use Rattle.mpx_board.specs.Looks.{look, parts_of};
 ghost use Rattle.mpx_format.specs.Encoding.{length_told};
-ghost use Rattle.mpx_parts.specs.Facts.{OnlyFactsOf};
-ghost use Rattle.mpx_parts.specs.Pieces.{NoNeighboursFit};
+ghost use Rattle.mpx_delta.specs.Facts.{OnlyFactsOf};
+ghost use Rattle.mpx_delta.specs.Pieces.{NoNeighboursFit};
 ghost use Rattle.mpx_node.specs.Nodes.{NodeView};
 
 use crate::node::Node;
 use crate::part::{PartError, whole_part};
 use join_core::OutOfMemory;
 use mpx_board::{Board, Raised};
-use mpx_delta::{NewFrames, NewList, new_frames, new_list};
-use mpx_parts::parts;
+use mpx_delta::{NewFrames, NewList, new_frames, new_list, parts};
 use std::alloc::Global;
 
 impl Node {

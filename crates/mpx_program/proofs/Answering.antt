@@ -13,14 +13,14 @@ use Rattle.mpx_run.proofs.Less.{runs_printed}
 use Rattle.mpx_run.proofs.Pieces.{runs_input}
 use Rattle.mpx_program.specs.Jobs.{AnswersText, DoesJobWith, Exits, StrictBy, StrictOn}
 use Rattle.mpx_program.specs.Strict.{IsStrict}
-use Rattle.mpx_words.specs.declared.call.Call.{Call}
+use Rattle.mpx_words.specs.declared.invocation.Invocation.{Invocation}
 
 kept : (o : Option (List ℕ)) → Keeps o o
 kept None = tt
 kept (Some xs) = refl
 
 -- without memory nothing is done
-pub starved : (ops : List Operation) (call : Call) (text : List ℕ) (old : Option (List ℕ)) (more : List ℕ) (code : ℕ) (Says : List ℕ → Type 0) → Exits (Err Memory) false call.flags.explain more code Says
+pub starved : (ops : List Operation) (call : Invocation) (text : List ℕ) (old : Option (List ℕ)) (more : List ℕ) (code : ℕ) (Says : List ℕ → Type 0) → Exits (Err Memory) false call.flags.explain more code Says
     → AnswersText IsFounded ops call text old old code Says
 starved ops call text old more code Says exits = record {
   answer = Err Memory;
@@ -33,7 +33,7 @@ starved ops call text old more code Says exits = record {
 }
 
 -- what is done with a text is done with what the reader gives
-pub does_text : (ops : List Operation) (call : Call) (there left old new : Option (List ℕ)) (text now : List ℕ) (code : ℕ) (Says : List ℕ → Type 0) → TakesInput there left text → now ≡ text → AnswersText IsFounded ops call now old new code Says
+pub does_text : (ops : List Operation) (call : Invocation) (there left old new : Option (List ℕ)) (text now : List ℕ) (code : ℕ) (Says : List ℕ → Type 0) → TakesInput there left text → now ≡ text → AnswersText IsFounded ops call now old new code Says
     → DoesJobWith IsFounded ops call there left old new code Says
 does_text ops call there left old new text now code Says taken same a = record {
   answer = a.answer;
@@ -49,7 +49,7 @@ does_text ops call there left old new text now code Says taken same a = record {
   by_answer (Err error) complains s = tt
 
 -- what is printed, without that on which it stands
-pub does_printed : (ops : List Operation) (call : Call) (there left old new : Option (List ℕ)) (code : ℕ) (Says : List ℕ → Type 0) → DoesJobWith IsFounded ops call there left old new code Says → DoesJobWith IsPrinted ops call there left old new code Says
+pub does_printed : (ops : List Operation) (call : Invocation) (there left old new : Option (List ℕ)) (code : ℕ) (Says : List ℕ → Type 0) → DoesJobWith IsFounded ops call there left old new code Says → DoesJobWith IsPrinted ops call there left old new code Says
 does_printed ops call there left old new code Says d = record {
   answer = d.answer;
   runs = runs_printed ops nowhere call.job there left old new d.answer d.runs;

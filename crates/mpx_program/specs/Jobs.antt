@@ -1,6 +1,7 @@
 -- What a call of the program does.
-use Rattle.std.specs.Prelude.{◌≡◌, ◌≢◌, ◌⊎◌, ℕ, Bool, List, ◌++◌, Option, Some, None, Result, Ok, Err, codes}
-use Rattle.clap.specs.Kinds.{IsAmong}
+use Rattle.std.specs.Prelude.{◌≡◌, ◌≢◌, ◌⊎◌, ℕ, Bool, List, ◌++◌, [], ◌∷◌, Option, Some, None, Result, Ok, Err, codes}
+use Rattle.clap.specs.Faults.{fault_of}
+use Rattle.clap.specs.Kinds.{IsAmong, or_else}
 use Rattle.clap.specs.declared.error.kind.ErrorKind.{ErrorKind}
 use Rattle.clap.specs.declared.error.kind.ErrorKind.TheVariants as kind
 use Rattle.mpx_num.specs.declared.own.Operation.{Operation}
@@ -11,9 +12,9 @@ use Rattle.mpx_run.specs.declared.texts.RunError.{RunError}
 use Rattle.mpx_run.specs.declared.texts.RunError.TheVariants.{GateGaveUp}
 use Rattle.mpx_program.specs.Status.{explanation, message, refusal_status, status}
 use Rattle.mpx_program.specs.Strict.{IsStrict}
-use Rattle.mpx_words.specs.Usage.{refusal_kinds}
-use Rattle.mpx_words.specs.Words.{call_in}
-use Rattle.mpx_words.specs.declared.call.Call.{Call}
+use Rattle.mpx_words.specs.Usage.{usage}
+use Rattle.mpx_words.specs.Words.{invocation_in}
+use Rattle.mpx_words.specs.declared.invocation.Invocation.{Invocation}
 
 -- a job with this answer, whose script has calls to complain of or not, gives the status and what is said
 pub record Exits (answer : Result End RunError) (complains explains : Bool) (more : List ℕ) (code : ℕ) (Says : List ℕ → Type 0) : Type 0 where
@@ -21,12 +22,12 @@ pub record Exits (answer : Result End RunError) (complains explains : Bool) (mor
   pub says : Says (message answer ++ explanation explains answer more)
 
 -- where a job comes to an end, whether the script has calls to complain of is as `--strict` asks
-abbrev pub StrictOn : List Operation → Call → (text : List ℕ) → Result End RunError → (complains : Bool) → Type 0
+abbrev pub StrictOn : List Operation → Invocation → (text : List ℕ) → Result End RunError → (complains : Bool) → Type 0
 StrictOn ops call text (Ok end) complains = IsStrict ops call text complains
 StrictOn ops call text (Err error) complains = Unit {0}
 
 -- a call's job is done with a text by the job's own operations, and no gate ends it
-pub record AnswersText (Is : OfRuns) (ops : List Operation) (call : Call) (text : List ℕ) (old new : Option (List ℕ)) (code : ℕ) (Says : List ℕ → Type 0) : Type 0 where
+pub record AnswersText (Is : OfRuns) (ops : List Operation) (call : Invocation) (text : List ℕ) (old new : Option (List ℕ)) (code : ℕ) (Says : List ℕ → Type 0) : Type 0 where
   pub answer : Result End RunError
   pub prints : Prints Is ops nowhere call.job text old new answer
   pub ungated : answer ≢ Err GateGaveUp
@@ -36,14 +37,14 @@ pub record AnswersText (Is : OfRuns) (ops : List Operation) (call : Call) (text 
   pub exits : Exits answer complains call.flags.explain more code Says
 
 -- the same of the text that a reader gives
-abbrev pub StrictBy : List Operation → Call → (there left : Option (List ℕ)) → Result End RunError → (complains : Bool) → Type 0
+abbrev pub StrictBy : List Operation → Invocation → (there left : Option (List ℕ)) → Result End RunError → (complains : Bool) → Type 0
 StrictBy ops call there left (Ok end) complains = (text : List ℕ) × TakesInput there left text × IsStrict ops call text complains
 StrictBy ops call there left (Err error) complains = Unit {0}
 
 -- a call's job is done with a script by the job's own operations, no gate ends it, and its answer gives the status and what is said. What is asked for
 -- beside the job changes nothing of what is printed: by `--strict` the status is 6 where it is 0 or 3 else and the script has calls to complain of, and by
 -- `--explain` the standard error is told more
-pub record DoesJobWith (Is : OfRuns) (ops : List Operation) (call : Call) (there left old new : Option (List ℕ)) (code : ℕ) (Says : List ℕ → Type 0) : Type 0 where
+pub record DoesJobWith (Is : OfRuns) (ops : List Operation) (call : Invocation) (there left old new : Option (List ℕ)) (code : ℕ) (Says : List ℕ → Type 0) : Type 0 where
   pub answer : Result End RunError
   pub runs : Runs Is ops nowhere call.job there left old new answer
   pub ungated : answer ≢ Err GateGaveUp
@@ -60,16 +61,16 @@ pub record IsRefused (why : ErrorKind) (code : ℕ) (Says : List ℕ → Type 0)
 -- a call is refused for its words, for a reason of a kind that clap has for them, or for want of memory: nothing is read or written
 pub record RefusesWords (words : List (List ℕ)) (there left old new : Option (List ℕ)) (code : ℕ) (Says : List ℕ → Type 0) : Type 0 where
   pub why : ErrorKind
-  pub asks : call_in words ≡ None
-  pub kinds : (why ≡ kind.OutOfMemory) ⊎ IsAmong why (refusal_kinds words)
+  pub asks : invocation_in words ≡ None
+  pub kinds : (why ≡ kind.OutOfMemory) ⊎ IsAmong why (or_else (fault_of usage words) (kind.InvalidValue ∷ []))
   pub refused : IsRefused why code Says
   pub unread : left ≡ there
   pub unwritten : new ≡ old
 
 -- the words ask for a job, and for what is beside it
 pub record DoesWords (Is : OfRuns) (ops : List Operation) (words : List (List ℕ)) (there left old new : Option (List ℕ)) (code : ℕ) (Says : List ℕ → Type 0) : Type 0 where
-  pub call : Call
-  pub asks : call_in words ≡ Some call
+  pub call : Invocation
+  pub asks : invocation_in words ≡ Some call
   pub does : DoesJobWith Is ops call there left old new code Says
 
 -- the words ask for a job, or are refused

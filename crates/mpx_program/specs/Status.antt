@@ -10,22 +10,21 @@ use Rattle.mpx_run.specs.declared.end.Cause.TheVariants.{InEveryRun, TurnsUsedUp
 use Rattle.mpx_run.specs.declared.end.End.{End}
 use Rattle.mpx_run.specs.declared.end.End.TheVariants.{Finished, Waiting}
 use Rattle.mpx_run.specs.declared.texts.RunError.{RunError}
-use Rattle.mpx_run.specs.declared.texts.RunError.TheVariants.{Script, TooManyProcesses, Memory, Read, Write, GateGaveUp}
+use Rattle.mpx_run.specs.declared.texts.RunError.TheVariants.{Script, TooManyProcesses, Read, Write}
 
 -- the status of a job that has come to an end
 abbrev pub end_status : End → ℕ
 end_status Finished = 0
 end_status (Waiting ranks cause) = 3
 
--- the status of a job, whose script has calls to complain of or not
+-- the status of a job, whose script has calls to complain of or not; where memory is wanting, or a gate gave up, 4
 abbrev pub status : (complains : Bool) → Result End RunError → ℕ
 status complains (Ok end) = if complains then 6 else end_status end
 status complains (Err (Script refusal)) = 2
 status complains (Err TooManyProcesses) = 1
-status complains (Err Memory) = 4
 status complains (Err Read) = 5
 status complains (Err Write) = 5
-status complains (Err GateGaveUp) = 4
+status complains (Err other) = 4
 
 -- the status of a call whose words give no job
 abbrev pub refusal_status : ErrorKind → ℕ
@@ -43,7 +42,7 @@ waiting_text ranks = codes "waiting:" ++ waiting_ranks ranks ++ codes "\n"
 -- what is said of a job: nothing where it is finished
 abbrev pub message : Result End RunError → List ℕ
 message (Ok Finished) = []
-message (Ok (Waiting ranks cause)) = waiting_text ranks.items
+message (Ok (Waiting ranks cause)) = codes "waiting:" ++ waiting_ranks ranks.items ++ codes "\n"
 message (Err error) = run_error_text error ++ codes "\n"
 
 -- MORE
@@ -57,9 +56,8 @@ cause_text Unknown = codes "whether they wait in every run isn't known\n"
 
 -- why a run ended
 abbrev pub why : Result End RunError → List ℕ
-why (Ok Finished) = []
 why (Ok (Waiting ranks cause)) = cause_text cause
-why (Err error) = []
+why answer = []
 
 -- what is told behind the message where more is asked for: first why the run ended
 abbrev pub explanation : (explains : Bool) → Result End RunError → (more : List ℕ) → List ℕ

@@ -1,8 +1,8 @@
 -- Whether a script has a call that is refused or is a fault.
 use Rattle.std.specs.Prelude.{◌≡◌, Bool, true, false, ◌||◌, ℕ, List, [], ◌∷◌, Result, Ok, Err}
 use Rattle.mpx_num.specs.declared.own.Operation.{Operation}
-use Rattle.mpx_job.specs.declared.Command.{Command}
-use Rattle.mpx_job.specs.declared.Command.TheVariants.{Run, Eval, Check}
+use Rattle.mpx_statement.specs.declared.job.Command.{Command}
+use Rattle.mpx_statement.specs.declared.job.Command.TheVariants.{Run, Eval, Check}
 use Rattle.mpx_script.specs.Reading.{reading}
 use Rattle.mpx_script.specs.ScriptView.{ScriptView}
 use Rattle.mpx_script.specs.declared.faults.ScriptError.{ScriptError}
@@ -10,7 +10,7 @@ use Rattle.mpx_meaning.specs.Evaluation.{State, IsEvaluation}
 use Rattle.mpx_eval.specs.Certain.{certain_in}
 use Rattle.mpx_eval.specs.Complaints.{ComplaintView, complaints_in}
 use Rattle.mpx_eval.specs.Unheard.{unheard_in}
-use Rattle.mpx_words.specs.declared.call.Call.{Call}
+use Rattle.mpx_words.specs.declared.invocation.Invocation.{Invocation}
 
 abbrev pub is_any : List ComplaintView → Bool
 is_any [] = false
@@ -38,5 +38,5 @@ abbrev pub IsAsked : (strict : Bool) → (asked : Type 0) → (complains : Bool)
 IsAsked true asked complains = asked
 IsAsked false asked complains = complains ≡ false
 
-abbrev pub IsStrict : List Operation → Call → (text : List ℕ) → (complains : Bool) → Type 0
+abbrev pub IsStrict : List Operation → Invocation → (text : List ℕ) → (complains : Bool) → Type 0
 IsStrict ops call text complains = IsAsked call.flags.strict (ComplainsOf ops call.job.command (reading ops text) complains) complains

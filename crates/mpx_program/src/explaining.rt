@@ -7,12 +7,12 @@ use mpx_explain::{explain_calls, explain_refusals, explain_results};
 use mpx_num::Ops;
 use mpx_run::Command;
 use mpx_script::{ReadScriptError, Script, read_script};
-use mpx_words::Call;
+use mpx_words::Invocation;
 use std::alloc::Global;
 
 /// Further lines, where `--explain` is asked for: of a refused script its refused lines, else its calls that are refused or are
 /// faults, and results that are past their types. Where memory is wanting, fewer lines.
-pub(crate) fn explained(alloc: Global, call: &Call, text: &[u8], ops: &Ops) -> Vec<u8>
+pub(crate) fn explained(alloc: Global, call: &Invocation, text: &[u8], ops: &Ops) -> Vec<u8>
     ensures { call.now.flags.explain ≡ false → result.items ≡ [] }
 {
     let mut told = Vec::new(alloc);

@@ -11,7 +11,7 @@ use crate::status::{refusal_status, status_of, write_refusal, write_said};
 use crate::strict::complains;
 use mpx_num::{Listing, Ops};
 use mpx_run::{End, Observer, OpenGate, RunError, Unobserved, read_bytes, run_bytes_observed};
-use mpx_words::{Call, call_of};
+use mpx_words::{Invocation, call_of};
 use std::alloc::Global;
 use std::io;
 use std::io::{Read, Write};
@@ -48,8 +48,8 @@ pub fn run_job<T: Threads + Wait + Sync, R: Read, W: Write, E: Write>(
     run_job_observed(rt, alloc, words, reader, out, err, &mut Unobserved, ops)
 }
 
-/// Does the job that the words ask for, as [`run_job`] does; where they ask for a simulated run, `observer` looks on. It is the caller
-/// who shows a run as it goes, where the words ask for that.
+/// Does the job that the words ask for, as [`run_job`] does; where they ask for a run, `observer` looks on. It is the caller who
+/// shows a run as it goes, where the words ask for that.
 pub fn run_job_observed<T: Threads + Wait + Sync, R: Read, W: Write, E: Write>(
     rt: &T,
     alloc: Global,
@@ -85,7 +85,7 @@ pub fn refuse<E: Write>(refusal: &clap::Error, err: &mut E) -> Exit
 fn do_call<T: Threads + Wait + Sync, R: Read, W: Write, E: Write>(
     rt: &T,
     alloc: Global,
-    call: &Call,
+    call: &Invocation,
     reader: &mut R,
     out: &mut W,
     err: &mut E,
@@ -111,7 +111,7 @@ fn do_call<T: Threads + Wait + Sync, R: Read, W: Write, E: Write>(
 fn do_text<T: Threads + Wait + Sync, W: Write, E: Write>(
     rt: &T,
     alloc: Global,
-    call: &Call,
+    call: &Invocation,
     text: &[u8],
     out: &mut W,
     err: &mut E,

@@ -7,14 +7,14 @@ use mpx_eval::{certain_refusals, examine};
 use mpx_num::{Listing, Ops};
 use mpx_run::Command;
 use mpx_script::{ReadScriptError, Script, read_script};
-use mpx_words::Call;
+use mpx_words::Invocation;
 use std::alloc::Global;
 
 /// Whether `--strict` is asked for, and the script that the bytes are has a call that is refused or is a fault: where it is run or
 /// evaluated, in its evaluation, be it of a request that nobody waits for; where it is checked, for certain.
 pub(crate) fn complains(
     alloc: Global,
-    call: &Call,
+    call: &Invocation,
     text: &[u8],
     ops: &Ops,
 ) -> Result<bool, OutOfMemory>

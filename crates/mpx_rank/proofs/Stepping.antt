@@ -14,7 +14,7 @@ use Rattle.mpx_statement.specs.declared.statement.Posting.{Posting}
 use Rattle.mpx_statement.specs.declared.statement.Question.{Question}
 use Rattle.mpx_statement.specs.declared.statement.Statement.{Statement}
 use Rattle.mpx_statement.specs.declared.statement.Statement.TheVariants.{Post, Wait, Ask}
-use Rattle.mpx_statement.specs.Statements.{bound_to, posted_on, started_as}
+use Rattle.mpx_statement.specs.Statements.{bound_to, communicator_word, started_as}
 use Rattle.mpx_statement.specs.Lookups.{named}
 use Rattle.mpx_meaning.specs.Ranks.{Act, Communicator, Do, Line, Local, Refused, Todo, Told, answered as answer_line, answered_by, answers, attempt, awaited_by, bind, bound_by, communicator_of, doing, done, found_of, next_call, origins_of, step, waited_lines}
 use Rattle.mpx_meaning.specs.Going.{Goes, stays as stays_there, moves}
@@ -39,7 +39,7 @@ some_there (Some x) e = (x, refl)
 
 -- the communicator on which a statement of the rank is tried is the one that its word is bound to
 abbrev pub IsOn : Local → Posting → Option CommunicatorView → Type 0
-IsOn s posting on = (c : CommunicatorView) → on ≡ Some c → named s.bound (posted_on posting) ≡ Some (Communicator c.0 c.1)
+IsOn s posting on = (c : CommunicatorView) → on ≡ Some c → named s.bound (communicator_word posting) ≡ Some (Communicator c.0 c.1)
 
 -- what is said to the rank `me`, which stands there, by a carrier that fits it there: what it hears of others fits too; what it
 -- tells is known; the communicator that a call gave is that of the known answer; a communicator is closed where the rank has
@@ -117,13 +117,13 @@ module _ (ops : List Operation) {C : Type 0} (terms : Terms C CommunicatorView) 
   requests_are : r.requests ≡ named s.requests
   requests_are = λ i word. stands.requests word i
 
-  is_on : (posting : Posting) → IsOn s posting (communicator_in (r.bound (posted_on posting)))
-  is_on posting c e = sym (stands.bound (posted_on posting)) ∙ bound_there (r.bound (posted_on posting)) c e
+  is_on : (posting : Posting) → IsOn s posting (communicator_in (r.bound (communicator_word posting)))
+  is_on posting c e = sym (stands.bound (communicator_word posting)) ∙ bound_there (r.bound (communicator_word posting)) c e
 
-  attempt_is : (posting : Posting) → attempt ops s.me s.bound s.made posting ≡ attempt_by ops r.me s.made posting (communicator_in (r.bound (posted_on posting)))
+  attempt_is : (posting : Posting) → attempt ops s.me s.bound s.made posting ≡ attempt_by ops r.me s.made posting (communicator_in (r.bound (communicator_word posting)))
   attempt_is posting =
-      attempt_same ops s.me s.made posting (named s.bound (posted_on posting))
-      ∙ λ i. attempt_by ops (local_me i) s.made posting ((ap communicator_of (sym (stands.bound (posted_on posting))) ∙ communicator_same (r.bound (posted_on posting))) i)
+      attempt_same ops s.me s.made posting (named s.bound (communicator_word posting))
+      ∙ λ i. attempt_by ops (local_me i) s.made posting ((ap communicator_of (sym (stands.bound (communicator_word posting))) ∙ communicator_same (r.bound (communicator_word posting))) i)
 
   -- it hears the outcome that it waits for
   hears_steps : (c d : C) → Fits c → (w : WaitView) (outcome : Outcome) (text : List ℕ) (to : Option CommunicatorView) → r.waits ≡ Some w → terms.hears c d → terms.tells d r.me w.name w.call ≡ Some outcome → text ≡ outcome_text outcome → terms.gives d r.me w.name w.call to
@@ -180,7 +180,7 @@ module _ (ops : List Operation) {C : Type 0} (terms : Terms C CommunicatorView) 
     next_is = todo_is None (Post posting ∷ rest) waits todo
 
     abbrev on : Option CommunicatorView
-    on = communicator_in (r.bound (posted_on posting))
+    on = communicator_in (r.bound (communicator_word posting))
 
     -- it posts, and waits
     posts_steps : (name : Name) (call : ℕ) → started_as posting ≡ None → terms.tries c r.me posting on (Ok (Some (name, call))) d → Stepped ops terms known r.me s c After (posted r posting rest name call) d
@@ -239,8 +239,8 @@ module _ (ops : List Operation) {C : Type 0} (terms : Terms C CommunicatorView) 
     λ stay name call outcome old. stay.heard mid d after name call outcome (stay.heard c mid before name call outcome old),
   )
   still_fits c d fits (posts_not posting rest waits todo tried) = (
-    by.not_now c d fits posting (doing rest) (todo_is None (Post posting ∷ rest) waits todo) (communicator_in (r.bound (posted_on posting))) (is_on posting) tried,
-    λ stay. stay.tried c d posting (communicator_in (r.bound (posted_on posting))) (Ok None) tried,
+    by.not_now c d fits posting (doing rest) (todo_is None (Post posting ∷ rest) waits todo) (communicator_in (r.bound (communicator_word posting))) (is_on posting) tried,
+    λ stay. stay.tried c d posting (communicator_in (r.bound (communicator_word posting))) (Ok None) tried,
   )
 
 -- MANY MOVES

@@ -10,7 +10,7 @@ use Rattle.mpx_statement.specs.declared.statement.Posting.{Posting}
 use Rattle.mpx_statement.specs.declared.statement.Question.{Question}
 use Rattle.mpx_statement.specs.declared.statement.Statement.{Statement}
 use Rattle.mpx_statement.specs.declared.statement.Statement.TheVariants.{Post, Wait, Ask}
-use Rattle.mpx_statement.specs.Statements.{bound_to, posted_on, started_as}
+use Rattle.mpx_statement.specs.Statements.{bound_to, communicator_word, started_as}
 use Rattle.mpx_meaning.specs.declared.origin.Origin.{Origin}
 use Rattle.mpx_meaning.specs.declared.asking.Found.{Found}
 use Rattle.mpx_meaning.specs.declared.asking.Found.TheVariants as W
@@ -144,13 +144,13 @@ pub data Move {C K : Type 0} (terms : Terms C K) : RankView K → C → RankView
       → terms.hears c d → terms.tells d r.me w.name w.call ≡ Some outcome → text ≡ outcome_text outcome → terms.gives d r.me w.name w.call to
       → Move terms r c (heard r w text to) d
   posts : {r : RankView K} {c d : C} (posting : Posting) (rest : List Statement) (name : Name) (call : ℕ) → r.waits ≡ None → r.todo ≡ Post posting ∷ rest
-      → started_as posting ≡ None → terms.tries c r.me posting (communicator_in (r.bound (posted_on posting))) (Ok (Some (name, call))) d
+      → started_as posting ≡ None → terms.tries c r.me posting (communicator_in (r.bound (communicator_word posting))) (Ok (Some (name, call))) d
       → Move terms r c (posted r posting rest name call) d
   starts : {r : RankView K} {c d : C} (posting : Posting) (rest : List Statement) (word : List ℕ) (name : Name) (call : ℕ) → r.waits ≡ None → r.todo ≡ Post posting ∷ rest
-      → started_as posting ≡ Some word → terms.tries c r.me posting (communicator_in (r.bound (posted_on posting))) (Ok (Some (name, call))) d
+      → started_as posting ≡ Some word → terms.tries c r.me posting (communicator_in (r.bound (communicator_word posting))) (Ok (Some (name, call))) d
       → Move terms r c (started r word rest name call) d
   is_refused : {r : RankView K} {c d : C} (posting : Posting) (rest : List Statement) (refusal : PostError) (text : List ℕ) → r.waits ≡ None → r.todo ≡ Post posting ∷ rest
-      → (refusal ≡ OutOfMemory → ⊥) → terms.tries c r.me posting (communicator_in (r.bound (posted_on posting))) (Err refusal) d → text ≡ line_text (Refused refusal)
+      → (refusal ≡ OutOfMemory → ⊥) → terms.tries c r.me posting (communicator_in (r.bound (communicator_word posting))) (Err refusal) d → text ≡ line_text (Refused refusal)
       → Move terms r c (refused r posting rest text) d
   passes : {r : RankView K} {c mid d : C} (words : List (List ℕ)) (rest : List Statement) → r.waits ≡ None → r.todo ≡ Wait words ∷ rest
       → terms.hears c mid → are_done (terms.tells mid r.me) r.requests words ≡ true → terms.hears mid d
@@ -167,7 +167,7 @@ pub data Still {C K : Type 0} (terms : Terms C K) : RankView K → C → C → T
   passes_not : {r : RankView K} {c mid d : C} (words : List (List ℕ)) (rest : List Statement) → r.waits ≡ None → r.todo ≡ Wait words ∷ rest
       → terms.hears c mid → are_done (terms.tells mid r.me) r.requests words ≡ false → terms.hears mid d → Still terms r c d
   posts_not : {r : RankView K} {c d : C} (posting : Posting) (rest : List Statement) → r.waits ≡ None → r.todo ≡ Post posting ∷ rest
-      → terms.tries c r.me posting (communicator_in (r.bound (posted_on posting))) (Ok None) d → Still terms r c d
+      → terms.tries c r.me posting (communicator_in (r.bound (communicator_word posting))) (Ok None) d → Still terms r c d
 
 -- it has moved, or it stays where it stands
 abbrev pub Moves : {C K : Type 0} → Terms C K → RankView K → C → RankView K → C → (moved : Bool) → Type 0
@@ -189,7 +189,7 @@ StopsShort {C} {K} terms r c = (s : RankView K) × (mid : C) × (moved : Bool) �
 
 -- where a statement that posts is the next one, the carrier may be asked for it
 abbrev pub MayTry : {C K : Type 0} → Terms C K → RankView K → C → Type 0
-MayTry terms r c = (posting : Posting) (rest : List Statement) → r.waits ≡ None → r.todo ≡ Post posting ∷ rest → terms.may c r.me posting (communicator_in (r.bound (posted_on posting)))
+MayTry terms r c = (posting : Posting) (rest : List Statement) → r.waits ≡ None → r.todo ≡ Post posting ∷ rest → terms.may c r.me posting (communicator_in (r.bound (communicator_word posting)))
 
 -- and that holds wherever moves lead
 abbrev pub MayGo : {C K : Type 0} → Terms C K → RankView K → C → Type 0

@@ -2,3 +2,4 @@ pub mod Members
 pub mod Bounded
 pub mod Ranks
 pub mod Works
+pub mod Given

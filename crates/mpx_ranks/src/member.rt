@@ -40,12 +40,13 @@ pub(crate) struct Member<'a, L: Seat, O: Folds, R: Wait> {
 }
 
 impl<'a, L: Seat, O: Folds, R: Wait> Member<'a, L, O, R> {
-    /// Whoever has this port.
+    /// Whoever has this port. By its number it rests at other times than the others.
     pub(crate) fn new(
         rt: &'a R,
         bus: &'a Bus,
         ops: &'a O,
         crew: &'a Crew,
+        me: u8,
         port: Port,
     ) -> Member<'a, L, O, R>
         requires bus { table_of bus.now ≡ L.table }
@@ -62,7 +63,7 @@ impl<'a, L: Seat, O: Folds, R: Wait> Member<'a, L, O, R> {
             ops,
             crew,
             port,
-            news: News::new(),
+            news: News::new(me),
             seat: PhantomData,
         }
     }

@@ -12,14 +12,17 @@ const BUSY: u32 = 5;
 /// What a member has heard, and for how many turns it has heard nothing new.
 #[derive(Drop)]
 pub(crate) struct News {
+    me: u8,
     heard: u64,
     idle: u32,
     parker: Parker,
 }
 
 impl News {
-    pub(crate) fn new() -> News {
+    /// Before the first turn of this process.
+    pub(crate) fn new(me: u8) -> News {
         News {
+            me,
             heard: 0,
             idle: 0,
             parker: Parker::new(),
@@ -47,10 +50,20 @@ impl News {
         if self.idle < BUSY {
             yield_now();
         } else {
-            let micros = 1u64 << self.idle.min(10);
+            let micros = micros(self.idle, self.me);
             self.parker.park_timeout(rt, Duration::from_micros(micros));
         }
     }
+}
+
+// How long a member sleeps behind so many turns: between half of a power of two and that. It differs by turn and process: members that
+// take their turns in one order for long take their own frames out of the queue alone.
+fn micros(idle: u32, me: u8) -> u64 {
+    let most = 1u64 << idle.min(10);
+    let turn = idle.wrapping_mul(0x9e37_79b1);
+    let process = u32::from(me).wrapping_mul(0x85eb_ca6b);
+    let part = u64::from(turn.wrapping_add(process) >> 28);
+    (most / 2).saturating_add((most / 32).saturating_mul(part))
 }
 
 // How much a board tells: it grows with each post, front and birth, also where posts are dropped.

@@ -102,7 +102,7 @@ fn work_as_rank<L: Seat, O: Folds, P: Program, R: Wait>(
     ensures sits { IsSeated L.table L.setup L.me result.port }
     ensures gave { IfSome result.answer (λ a. Answers (P.gives program.now) L.setup.operations ranks L.setup.size me a (node_in result.port)) }
 {
-    let member = Member::<L, O, R>::new(rt, bus, list, crew, port);
+    let member = Member::<L, O, R>::new(rt, bus, list, crew, me, port);
     if !crew.begins(rt) {
         return Worked {
             port: member.into_port(),
@@ -139,8 +139,7 @@ fn work_as_relay<L: Seat, O: Folds, R: Wait>(
     requires port { IsNew L.setup L.table me port }
     ensures { IsSeated L.table L.setup L.me result }
 {
-    let _ = me;
-    let mut member = Member::<L, O, R>::new(rt, bus, list, crew, port);
+    let mut member = Member::<L, O, R>::new(rt, bus, list, crew, me, port);
     if crew.begins(rt) {
         member.gossip_on(alloc);
     }

@@ -7,9 +7,9 @@ use Rattle.std.proofs.Math.Nat.{min-le_left, min-le_right, le-min}
 use Rattle.std.proofs.Math.Seq.{take-add, take-append_seam}
 use Rattle.mpx_num.specs.declared.own.Operation.{Operation}
 use Rattle.mpx_run.specs.declared.end.End.{End}
-use Rattle.mpx_job.specs.declared.Job.{Job}
+use Rattle.mpx_statement.specs.declared.job.Job.{Job}
 use Rattle.mpx_script.specs.Words.{bytes_limit}
-use Rattle.mpx_threads.specs.declared.gate.Step.{Step}
+use Rattle.mpx_threads.specs.declared.gate.BusStep.{BusStep}
 use Rattle.mpx_run.specs.Texts.{OfRuns, Prints, TakesInput, TakesPart, Runs}
 use Rattle.mpx_run.specs.declared.texts.RunError.{RunError}
 use Rattle.mpx_run.specs.declared.texts.RunError.TheVariants as E
@@ -125,7 +125,7 @@ takes_part None left text t = ([], omega arith, tt)
 takes_part (Some all) left text t = (text, subst (λ xs. length xs ≤ bytes_limit + 1) (sym t.0) (within_take (bytes_limit + 1) all), t.1)
 
 -- the answer of a text's run is that of a reader which gives the text
-pub runs_input : (Is : OfRuns) (ops : List Operation) (gives_up : ℕ → Step → ℕ → Type 0) (job : Job) (there left old new : Option (List ℕ)) (text now : List ℕ) (answer : Result End RunError) → TakesInput there left text → now ≡ text → Prints Is ops gives_up job now old new answer → Runs Is ops gives_up job there left old new answer
+pub runs_input : (Is : OfRuns) (ops : List Operation) (gives_up : ℕ → BusStep → ℕ → Type 0) (job : Job) (there left old new : Option (List ℕ)) (text now : List ℕ) (answer : Result End RunError) → TakesInput there left text → now ≡ text → Prints Is ops gives_up job now old new answer → Runs Is ops gives_up job there left old new answer
 runs_input Is ops gives_up job there left old new text now answer t e p = by_answer answer (subst (λ xs. Prints Is ops gives_up job xs old new answer) e p) where
   by_answer : (a : Result End RunError) → Prints Is ops gives_up job text old new a → Runs Is ops gives_up job there left old new a
   by_answer (Ok end) q = record { text = text; taken = t; prints = q }

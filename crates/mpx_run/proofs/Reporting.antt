@@ -1,7 +1,8 @@
 -- What is reported of a run.
 use Rattle.std.proofs.Common.{◌≡◌, ℕ, zero, suc, ◌<◌, ◌≤◌, Bool, true, false, nat_le, List, [], ◌++◌, length, Some, refl, sym, ap, ◌∙◌, subst, arith}
-use Rattle.std.specs.Prelude.{slice_get, unwrap_or, IfOk, Result, Ok, Err, if◌then◌else◌}
+use Rattle.std.specs.Prelude.{slice_get, unwrap_or, IfOk, IfSome, Result, Ok, Err, if◌then◌else◌}
 use Rattle.std.proofs.lemmas.Bool.Decides.{nat_tests}
+use Rattle.std.proofs.lemmas.Option.{same_Some}
 use Rattle.mpx_num.specs.declared.own.Operation.{Operation}
 use Rattle.atomic_table.specs.Seated.{TableId}
 use Rattle.mpx_node.specs.Nodes.{NodeView}
@@ -11,14 +12,14 @@ use Rattle.mpx_meaning.specs.Evaluation.{State, IsEvaluation}
 use Rattle.mpx_meaning.specs.Transcripts.{rank_text, text_upto}
 use Rattle.mpx_meaning.specs.Reports.{lines_in}
 use Rattle.mpx_eval.specs.Evaluated.{IsEvaluated}
-use Rattle.mpx_job.specs.declared.Options.{Options}
+use Rattle.mpx_statement.specs.declared.job.Options.{Options}
 use Rattle.mpx_sim.specs.Ends.{AllMadeOr}
 use Rattle.mpx_sim.specs.Turns.{AreAfter}
 use Rattle.mpx_system.specs.Runs.{IsRun, IsOver, Begin, AreAll, AreWhole, IsEvaluationOf}
 use Rattle.mpx_system.proofs.Results.{some_at}
 use Rattle.mpx_threads.specs.ThreadRuns.{IsThreadRun}
 use Rattle.mpx_run.specs.Founded.{IsSimulated, IsThreaded, cause_of, thread_cause}
-use Rattle.mpx_run.specs.Reports.{EachWaits, IsAllOf, IsBy, IsForGood, IsOfRun, IsEvaluatedText, EndsSo, MayEnd, MayTell, lines_at}
+use Rattle.mpx_run.specs.Reports.{EachWaits, IsAllOf, IsBy, IsOfRun, IsEvaluatedText, EndsSo, MayTell, lines_at, told_cause}
 use Rattle.mpx_run.proofs.Waiting.{simulated_waits, threaded_waits}
 use Rattle.mpx_run.specs.declared.end.Cause.{Cause}
 use Rattle.mpx_run.specs.declared.end.Cause.TheVariants.{InEveryRun, TurnsUsedUp, AllLost, Unknown}
@@ -50,9 +51,9 @@ nobody (Waiting ranks cause) waiting h e = cc e
 -- THE CAUSE
 
 -- where it is told that those who wait do in every run, that is the cause
-for_good : (end : End) (cause : Cause) → IsBy cause end → IsForGood end → cause ≡ InEveryRun
-for_good Finished cause by good = absurd good
-for_good (Waiting ranks told) cause by good = sym by ∙ good
+for_good : (end : End) (cause : Cause) → IsBy cause end → told_cause end ≡ Some InEveryRun → cause ≡ InEveryRun
+for_good Finished cause by good = cc good
+for_good (Waiting ranks told) cause by good = sym by ∙ same_Some told InEveryRun good
 
 -- which it is only where turns are left, and not all frames are lost
 turns_are_left : (made : ℕ) (options : Options) → cause_of made options ≡ InEveryRun → (made < options.turns) × (options.loss < 100)
@@ -71,7 +72,7 @@ all_of script transcripts waiting end text e size lines ends all = record {
 }
 
 -- who may be told so may be told so by the end
-may_end : (options : Options) (end : End) (cause : Cause) → IsBy cause end → MayTell options cause → MayEnd options end
+may_end : (options : Options) (end : End) (cause : Cause) → IsBy cause end → MayTell options cause → IfSome (told_cause end) (MayTell options)
 may_end options Finished cause by may = tt
 may_end options (Waiting ranks told) cause by may = subst (MayTell options) (sym by) may
 

@@ -4,7 +4,7 @@ use Rattle.atomic_table.specs.Seated.{TableId}
 use Rattle.mpx_num.specs.declared.own.Operation.{Operation}
 use Rattle.mpx_node.specs.Nodes.{NodeView}
 use Rattle.mpx_bus.specs.Ports.{PortView}
-use Rattle.mpx_job.specs.declared.Options.{Options}
+use Rattle.mpx_statement.specs.declared.job.Options.{Options}
 use Rattle.mpx_script.specs.ScriptView.{ScriptView}
 use Rattle.mpx_system.specs.Runs.{IsRun, IsOver}
 use Rattle.mpx_sim.specs.Ends.{AllMadeOr}

@@ -1,7 +1,7 @@
 -- The text of a run and of an evaluation, how it ends, and why.
-use Rattle.std.specs.Prelude.{◌≡◌, ◌≢◌, ℕ, ◌<◌, ◌≤◌, true, false, List, [], length, Some, slice_get, unwrap_or}
+use Rattle.std.specs.Prelude.{◌≡◌, ◌≢◌, ℕ, ◌<◌, ◌≤◌, true, false, List, [], length, Option, None, Some, IfSome, slice_get, unwrap_or}
 use Rattle.mpx_num.specs.declared.own.Operation.{Operation}
-use Rattle.mpx_job.specs.declared.Options.{Options}
+use Rattle.mpx_statement.specs.declared.job.Options.{Options}
 use Rattle.mpx_script.specs.ScriptView.{ScriptView}
 use Rattle.mpx_meaning.specs.Evaluation.{State}
 use Rattle.mpx_meaning.specs.Reports.{is_left, lines_in, waiting_in}
@@ -20,15 +20,14 @@ abbrev pub EndsSo : End → List ℕ → Type 0
 EndsSo Finished waiting = waiting ≡ []
 EndsSo (Waiting ranks cause) waiting = (ranks.items ≡ waiting) × (waiting ≢ [])
 
+-- why ranks wait, as it is told where some do
+abbrev pub told_cause : End → Option Cause
+told_cause Finished = None
+told_cause (Waiting ranks cause) = Some cause
+
 -- where somebody waits this is told to be the cause
 abbrev pub IsBy : Cause → End → Type 0
-IsBy cause Finished = Unit {0}
-IsBy cause (Waiting ranks told) = told ≡ cause
-
--- it is told that those who wait do in every run
-abbrev pub IsForGood : End → Type 0
-IsForGood Finished = ⊥
-IsForGood (Waiting ranks told) = told ≡ InEveryRun
+IsBy cause end = IfSome (told_cause end) (λ told. told ≡ cause)
 
 -- with these options it may be told that ranks wait for this cause
 abbrev pub MayTell : Options → Cause → Type 0
@@ -36,10 +35,6 @@ MayTell options InEveryRun = Unit {0}
 MayTell options (TurnsUsedUp turns) = (options.threads ≡ false) × (turns ≡ options.turns)
 MayTell options AllLost = (options.threads ≡ false) × (100 ≤ options.loss)
 MayTell options Unknown = options.threads ≡ true
-
-abbrev pub MayEnd : Options → End → Type 0
-MayEnd options Finished = Unit {0}
-MayEnd options (Waiting ranks told) = MayTell options told
 
 -- each rank that has something left there is one of these
 abbrev pub EachWaits : (waiting : List ℕ) → (ranks : ℕ) → State → Type 0
@@ -55,21 +50,21 @@ pub record IsEvaluatedText (ops : List Operation) (script : ScriptView) (end : E
   pub evaluation : State
   pub is : IsEvaluationOf ops script evaluation
   pub all : IsAllOf script end text evaluation
-  pub cause : IsBy InEveryRun end
+  pub cause : IfSome (told_cause end) (λ told. told ≡ InEveryRun)
 
 -- the text and the end of a run with these options: the lines of its ranks, rank by rank, and who waits. The lines begin the evaluation's; those of a rank that doesn't
 -- wait are all that it has there, and who has something left there waits. Where nobody waits the text is the evaluation's, and where it is told that those who wait do
 -- in every run, text and end are
 pub record IsOfRun (ops : List Operation) (options : Options) (script : ScriptView) (transcripts : List (List (List ℕ))) (waiting : List ℕ) (end : End) (text : List ℕ) : Type 0 where
   pub ranks_are : length transcripts ≡ script.ranks
-  pub lines : text ≡ text_upto (lines_at transcripts) script.ranks
+  pub lines : text ≡ text_upto (λ p. unwrap_or (slice_get transcripts p) []) script.ranks
   pub ends : EndsSo end waiting
-  pub cause : MayEnd options end
+  pub cause : IfSome (told_cause end) (MayTell options)
   pub begins : (evaluation : State) → IsEvaluationOf ops script evaluation → Begin transcripts evaluation
   pub done : (evaluation : State) → IsEvaluationOf ops script evaluation → AreWhole transcripts waiting evaluation
-  pub waits : (evaluation : State) → IsEvaluationOf ops script evaluation → EachWaits waiting script.ranks evaluation
+  pub waits : (evaluation : State) → IsEvaluationOf ops script evaluation → (p : ℕ) → p < script.ranks → is_left (evaluation p).todo ≡ true → (place : ℕ) × (slice_get waiting place ≡ Some p)
   pub whole : (evaluation : State) → IsEvaluationOf ops script evaluation → end ≡ Finished → text ≡ text_upto (lines_in evaluation) script.ranks
-  pub rests : IsForGood end → (evaluation : State) → IsEvaluationOf ops script evaluation → IsAllOf script end text evaluation
+  pub rests : told_cause end ≡ Some InEveryRun → (evaluation : State) → IsEvaluationOf ops script evaluation → IsAllOf script end text evaluation
 
 -- what is printed of a run with these options, in threads or simulated
 pub record IsPrinted (ops : List Operation) (options : Options) (script : ScriptView) (end : End) (text : List ℕ) : Type 0 where

@@ -14,23 +14,19 @@ use Rattle.mpx_run.specs.declared.streams.ReadFault.{ReadFault}
 use Rattle.mpx_run.specs.declared.streams.ReadFault.TheVariants as Fault
 use Rattle.mpx_run.specs.declared.end.End.{End}
 use Rattle.mpx_run.specs.declared.end.End.TheVariants.{Finished}
-use Rattle.mpx_job.specs.declared.Command.{Command}
-use Rattle.mpx_job.specs.declared.Command.TheVariants.{Run, Eval, Check}
-use Rattle.mpx_job.specs.declared.Job.{Job}
-use Rattle.mpx_job.specs.declared.Options.{Options}
+use Rattle.mpx_statement.specs.declared.job.Command.{Command}
+use Rattle.mpx_statement.specs.declared.job.Command.TheVariants.{Run, Eval, Check}
+use Rattle.mpx_statement.specs.declared.job.Job.{Job}
+use Rattle.mpx_statement.specs.declared.job.Options.{Options}
 use Rattle.mpx_run.specs.declared.texts.RunError.{RunError}
 use Rattle.mpx_run.specs.declared.texts.RunError.TheVariants as E
-use Rattle.mpx_threads.specs.declared.gate.Step.{Step}
+use Rattle.mpx_threads.specs.declared.gate.BusStep.{BusStep}
 use Rattle.mpx_threads.specs.Gates.{GivesUpAmong}
 use Rattle.mpx_run.specs.Reports.{IsEvaluatedText}
 
--- the bytes that are read, where it is known what there is: one more than a script may have, or all
-abbrev pub IsInput : Option (List ℕ) → List ℕ → Type 0
-IsInput there text = IfSome there (λ all. text ≡ take (bytes_limit + 1) all)
-
--- a reader gives its text, and has the rest left
+-- a reader gives its text, where it is known what there is one byte more than a script may have, or all, and has the rest left
 abbrev pub TakesInput : (there left : Option (List ℕ)) → List ℕ → Type 0
-TakesInput there left text = IsInput there text × Consumes there left text
+TakesInput there left text = IfSome there (λ all. text ≡ take (bytes_limit + 1) all) × Consumes there left text
 
 -- a reader gives no more than that
 abbrev pub TakesPart : (there left : Option (List ℕ)) → Type 0
@@ -106,18 +102,18 @@ abbrev pub IsGated : Job → Type 0
 IsGated job = (job.command ≡ Run) × (job.options.threads ≡ true)
 
 -- the job runs the script in threads, and the gate gives up at a step of one of its processes
-abbrev pub IsEndedByGate : (gives_up : ℕ → Step → ℕ → Type 0) (job : Job) → ScriptView → Type 0
+abbrev pub IsEndedByGate : (gives_up : ℕ → BusStep → ℕ → Type 0) (job : Job) → ScriptView → Type 0
 IsEndedByGate gives_up job script = IsGated job × GivesUpAmong gives_up (script.ranks + job.options.relays) job.options.turns
 
 -- a text is read as a script that is run in threads, and the gate gives up at a step of one of its processes
-pub record IsGivenUp (ops : List Operation) (gives_up : ℕ → Step → ℕ → Type 0) (job : Job) (text : List ℕ) : Type 0 where
+pub record IsGivenUp (ops : List Operation) (gives_up : ℕ → BusStep → ℕ → Type 0) (job : Job) (text : List ℕ) : Type 0 where
   pub script : ScriptView
   pub read : reading ops text ≡ Ok script
   pub gated : IsGated job
   pub at : GivesUpAmong gives_up (script.ranks + job.options.relays) job.options.turns
 
 -- what is out after a job with a text, by the answer, where the gate gives up there
-abbrev pub Prints : (Is : OfRuns) (ops : List Operation) (gives_up : ℕ → Step → ℕ → Type 0) (job : Job) (text : List ℕ) (old new : Option (List ℕ)) → Result End RunError → Type 0
+abbrev pub Prints : (Is : OfRuns) (ops : List Operation) (gives_up : ℕ → BusStep → ℕ → Type 0) (job : Job) (text : List ℕ) (old new : Option (List ℕ)) → Result End RunError → Type 0
 Prints Is ops gives_up job text old new (Ok end) = PrintsWhole Is ops job text old new end
 Prints Is ops gives_up job text old new (Err (E.Script refusal)) = (reading ops text ≡ Err refusal) × Keeps old new
 Prints Is ops gives_up job text old new (Err E.TooManyProcesses) = HasTooMany ops job text × Keeps old new
@@ -127,13 +123,13 @@ Prints Is ops gives_up job text old new (Err E.Write) = PrintsPart Is ops job te
 Prints Is ops gives_up job text old new (Err E.GateGaveUp) = IsGivenUp ops gives_up job text × Keeps old new
 
 -- the reader's text is taken, and the job done with it
-pub record RunsInput (Is : OfRuns) (ops : List Operation) (gives_up : ℕ → Step → ℕ → Type 0) (job : Job) (there left old new : Option (List ℕ)) (answer : Result End RunError) : Type 0 where
+pub record RunsInput (Is : OfRuns) (ops : List Operation) (gives_up : ℕ → BusStep → ℕ → Type 0) (job : Job) (there left old new : Option (List ℕ)) (answer : Result End RunError) : Type 0 where
   pub text : List ℕ
   pub taken : TakesInput there left text
   pub prints : Prints Is ops gives_up job text old new answer
 
 -- what a reader has left and what is out after a job, by the answer, where the gate gives up there
-abbrev pub Runs : (Is : OfRuns) (ops : List Operation) (gives_up : ℕ → Step → ℕ → Type 0) (job : Job) (there left old new : Option (List ℕ)) → Result End RunError → Type 0
+abbrev pub Runs : (Is : OfRuns) (ops : List Operation) (gives_up : ℕ → BusStep → ℕ → Type 0) (job : Job) (there left old new : Option (List ℕ)) → Result End RunError → Type 0
 Runs Is ops gives_up job there left old new (Err E.Memory) = TakesPart there left × Keeps old new
 Runs Is ops gives_up job there left old new (Err E.Read) = TakesPart there left × Keeps old new
 Runs Is ops gives_up job there left old new answer = RunsInput Is ops gives_up job there left old new answer

@@ -13,9 +13,12 @@ mod streams;
 mod texts;
 
 pub use end::{Cause, End};
-pub use mpx_job::{Command, Job, Options};
 pub use mpx_sim::{FrameSeen, Observer, Progress, Run, Unobserved, run_sim, run_sim_observed};
+pub use mpx_statement::{Command, Job, Options};
 pub use mpx_system::every_run_begins_the_evaluation;
-pub use mpx_threads::{Gate, OpenGate, Pass, Step, ThreadRun, ThreadsError, run_threads};
+pub use mpx_threads::{
+    BusStep, Gate, NobodyLooks, Onlooker, OpenGate, Pass, SoFar, ThreadRun, ThreadsError,
+    run_threads,
+};
 pub use streams::{ReadFault, read_bytes};
 pub use texts::{RunError, run_bytes, run_bytes_observed, run_text, run_text_observed};

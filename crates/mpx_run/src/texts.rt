@@ -1,19 +1,18 @@
 //! A job from the bytes of a script to what it prints.
-ghost use Rattle.std.specs.Prelude.{◌≡◌, ◌≢◌, ◌+◌, ◌<◌, ◌≤◌, IfErr, IfOk, IsFalse, IsTrue, Some, false, string_bytes};
+ghost use Rattle.std.specs.Prelude.{◌≡◌, ◌≢◌, ◌+◌, ◌<◌, ◌≤◌, IfErr, IfOk, IsFalse, IsTrue, Some, string_bytes};
 ghost use Rattle.mpx_threads.specs.Gates.{nowhere};
 ghost use Rattle.mpx_run.specs.Founded.{IsFounded};
 ghost use Rattle.mpx_run.specs.Reports.{IsPrinted};
-ghost use Rattle.mpx_run.specs.Texts.{ComesTo, IsEndedByGate, IsGated, Prints, Runs, run_error_text, script_told, told};
+ghost use Rattle.mpx_run.specs.Texts.{ComesTo, IsEndedByGate, Prints, Runs, run_error_text, script_told, told};
 
 use crate::check::check_text;
 use crate::end::End;
 use crate::report::{Printed, print, print_evaluation, print_threads};
 use crate::streams::{ReadFault, WriteFault, read_bytes, write_bytes};
-use join_core::OutOfMemory;
-use mpx_job::{Command, Job};
 use mpx_num::{Listing, Ops};
 use mpx_script::{ReadScriptError, Script, ScriptError, read_script};
 use mpx_sim::{Observer, Unobserved};
+use mpx_statement::{Command, Job};
 use mpx_threads::{Gate, OpenGate, ThreadsError};
 use std::alloc::Global;
 use std::fmt;
@@ -113,8 +112,8 @@ pub fn run_text<T: Threads + Wait + Sync, R: Read, W: Write>(
     )
 }
 
-/// Reads a script, and writes what it comes to, as [`run_text`] does. `observer` is told of the turns of a simulated run; `gate` is
-/// asked before each step of a run in threads, which answers `GateGaveUp` only where the gate may give up at a step of one of its processes.
+/// Reads a script, and writes what it comes to, as [`run_text`] does. `observer` looks on at a simulated run; `gate` is asked
+/// before each step of a run in threads, which answers `GateGaveUp` only where the gate may give up at a step of one of its processes.
 pub fn run_text_observed<T: Threads + Wait + Sync, R: Read, W: Write, G: Gate + Sync>(
     rt: &T,
     alloc: Global,
@@ -217,43 +216,14 @@ fn printed_of<T: Threads + Wait + Sync, G: Gate + Sync>(
     ensures founded { IfOk result (λ printed. ComesTo IsFounded (⟦<Ops as Listing>⟧.operations ops.now) job.now.command job.now.options script.now printed.end (string_bytes printed.text)) }
     ensures gave_up { IfErr result (λ e. e ≡ ThreadsError.GateGaveUp → IsEndedByGate (G.gives_up gate.now) job.now script.now) }
 {
-    if is_in_threads(job) {
-        return print_threads(rt, alloc, script, &job.options, gate, ops);
-    }
-    match printed_alone(rt, alloc, script, job, observer, ops) {
-        Ok(printed) => Ok(printed),
-        Err(_) => Err(ThreadsError::OutOfMemory),
-    }
-}
-
-// Whether ranks are to be run in threads.
-fn is_in_threads(job: &Job) -> bool
-    ensures threads { IsTrue result → IsGated job.now }
-    ensures alone { IsFalse result → job.now.command ≡ Command.Run → job.now.options.threads ≡ false }
-{
     match job.command {
-        Command::Run => job.options.threads,
-        Command::Eval => false,
-        Command::Check => false,
-    }
-}
-
-// What a script comes to where no thread is started.
-fn printed_alone<T: Threads + Sync>(
-    rt: &T,
-    alloc: Global,
-    script: &Script,
-    job: &Job,
-    observer: &mut dyn Observer,
-    ops: &Ops,
-) -> Result<Printed, OutOfMemory>
-    requires few { job.now.command ≡ Command.Run → script.now.ranks + job.now.options.relays ≤ 64 }
-    requires alone { job.now.command ≡ Command.Run → job.now.options.threads ≡ false }
-    ensures { IfOk result (λ printed. ComesTo IsFounded (⟦<Ops as Listing>⟧.operations ops.now) job.now.command job.now.options script.now printed.end (string_bytes printed.text)) }
-{
-    match job.command {
-        Command::Run => print(rt, alloc, script, &job.options, observer, ops),
-        Command::Eval => print_evaluation(alloc, script, ops),
+        Command::Run => {
+            if job.options.threads {
+                return print_threads(rt, alloc, script, &job.options, gate, ops);
+            }
+            Ok(print(rt, alloc, script, &job.options, observer, ops)?)
+        }
+        Command::Eval => Ok(print_evaluation(alloc, script, ops)?),
         Command::Check => Ok(Printed {
             text: check_text(alloc, script)?,
             end: End::Finished,

@@ -7,11 +7,10 @@ use Rattle.mpx_num.specs.Text.{number_of}
 use Rattle.mpx_kind.specs.declared.kinds.Kind.{Kind}
 use Rattle.mpx_kind.specs.Kinds.{fields_of}
 use Rattle.mpx_post.specs.Graphs.{GraphView}
-use Rattle.mpx_script.specs.Fields.{is_number, colour_named, list_named}
-use Rattle.mpx_script.specs.Syntax.{NewSyntax, CallSyntax}
-use Rattle.mpx_script.specs.Graphs.{graph_in}
-use Rattle.mpx_script.specs.Refusals.{fails, has_strange_count, has_strange_number, has_strange_list, has_strange_new_list}
-use Rattle.mpx_script.specs.Meanings.{said}
+use Rattle.mpx_script.specs.Fields.{colour_named, list_named}
+use Rattle.mpx_script.specs.Places.{said}
+use Rattle.mpx_script.specs.Refusals.{fails}
+use Rattle.mpx_script.specs.Parts.{NewSyntax, CallSyntax, graph_in, is_number, has_strange_count, has_strange_number, has_strange_list, has_strange_new_list}
 use Rattle.mpx_script.specs.Sentences.{IsLineRefusal, counts_refusal, draft_refusal, fields_refusal, new_refusal, read_at}
 use Rattle.mpx_script.specs.declared.faults.LineError.{LineError}
 use Rattle.mpx_script.specs.declared.faults.LineError.TheVariants.{Fault, OutOfMemory}

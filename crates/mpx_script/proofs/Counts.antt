@@ -1,11 +1,10 @@
 -- Counts that are refused, by what was read of them.
 use Rattle.std.proofs.Common.{◌≡◌, ℕ, not, is_some, List, [], ℤ, Option, Some, None, refl, sym, ap, ◌∙◌}
 use Rattle.std.specs.Prelude.{is_none}
-use Rattle.mpx_script.specs.Syntax.{CallSyntax}
+use Rattle.mpx_script.specs.Parts.{CallSyntax, are_strange}
 use Rattle.mpx_kind.specs.declared.kinds.Fields.{Fields}
 use Rattle.mpx_kind.specs.declared.kinds.Number.{Number}
 use Rattle.mpx_script.specs.Fields.{counts_named}
-use Rattle.mpx_script.specs.Refusals.{are_strange}
 use Rattle.mpx_script.specs.Sentences.{faulty_counts, counts_refusal, read_at}
 
 -- what is strange is read as none

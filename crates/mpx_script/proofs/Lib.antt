@@ -1,5 +1,6 @@
 pub mod Splits
 pub mod Entries
+pub mod Parting
 pub mod Refusals
 pub mod Accepted
 pub mod Added

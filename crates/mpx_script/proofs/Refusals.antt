@@ -8,9 +8,10 @@ use Rattle.mpx_kind.specs.declared.kinds.Kind.{Kind}
 use Rattle.mpx_kind.specs.declared.kinds.Mode.{Mode}
 use Rattle.mpx_kind.specs.Kinds.{fields_of}
 use Rattle.mpx_script.specs.Words.{words, counts, is_ascii}
-use Rattle.mpx_script.specs.Grammar.{form_named, shape_of}
-use Rattle.mpx_script.specs.Syntax.{DirectiveSyntax, NewSyntax, CallSyntax, directive_in, form_in, label_in, ranks_meant, statements_in}
-use Rattle.mpx_script.specs.Refusals.{has_rank_out_of_range, is_past, is_unknown_line, has_unknown_word, has_wrong_words, has_wrong_new_words, has_wrong_count, has_wrong_end, has_bad_number, has_bad_list}
+use Rattle.mpx_script.specs.Grammar.{ends_with_name, form_named}
+use Rattle.mpx_script.specs.Syntax.{DirectiveSyntax, directive_in, form_in, label_in, ranks_meant, statements_in}
+use Rattle.mpx_script.specs.Parts.{NewSyntax, CallSyntax, has_unknown_word, has_wrong_count, has_wrong_end, parted_statement}
+use Rattle.mpx_script.specs.Refusals.{is_past, is_unknown_line, has_wrong_words, has_bad_number, has_bad_list}
 use Rattle.mpx_script.specs.Meanings.{statement_in, statement_as}
 use Rattle.mpx_script.specs.Naming.{BoundNames, has_bad_name, has_unknown_name, has_taken_name, ranks_labelled}
 use Rattle.mpx_script.specs.Reading.{refusal, first_holding, plain_context, statements_limit}
@@ -22,24 +23,30 @@ use Rattle.mpx_script.specs.declared.faults.LineError.TheVariants.{Fault, OutOfM
 use Rattle.mpx_script.specs.declared.faults.ScriptFault.{ScriptFault}
 use Rattle.mpx_script.specs.declared.faults.ScriptFault.TheVariants.{TooLarge, RankOutOfRange, UnknownStatement, WrongWords, BadNumber, BadList, BadName, NameUnknown, NameTaken}
 use Rattle.mpx_script.proofs.Accepted.{read_nothing, read_says}
+use Rattle.mpx_script.proofs.Parting.{parted_refusal, parted_says}
 
 -- a statement that is known is refused as one of its form
 pub refusal_of_form : (ops : List Operation) (p : DirectiveSyntax) (form : Form) → is_none (label_in p) ≡ false → form_in p ≡ Some form → statement_refusal ops p ≡ form_refusal ops form p.behind
 unfolding statement_refusal is_unknown_line has_wrong_words has_bad_number has_bad_list
-refusal_of_form ops p form label known = rw (label, known) refl
+refusal_of_form ops p form label known = rw (label, known) (parted_refusal ops form p.behind)
+
+-- and says what its form does
+pub said_of_form : (ops : List Operation) (p : DirectiveSyntax) (form : Form) → form_in p ≡ Some form → statement_in ops p ≡ Some (parted_statement ops form p.behind)
+unfolding statement_in
+said_of_form ops p form known = rw known (ap (λ s. Some s) (parted_says ops form p.behind))
 
 pub refusal_of_no_word : (ops : List Operation) (p : DirectiveSyntax) → is_none (label_in p) ≡ false → form_in p ≡ None → statement_refusal ops p ≡ Some UnknownStatement
 unfolding statement_refusal is_unknown_line
 refusal_of_no_word ops p label no_form = rw (label, no_form) refl
 
-module _ (ops : List Operation) (kind : Kind) (mode : Mode) (communicator : Option (List ℕ)) (new : NewSyntax) (call : CallSyntax) (known : has_unknown_word ops call ≡ false) (there : is_none communicator ≡ false) (named : has_wrong_new_words (shape_of kind) new ≡ false) (counted : has_wrong_count (fields_of kind) call ≡ false) (ended : has_wrong_end mode call ≡ false) where
+module _ (ops : List Operation) (kind : Kind) (mode : Mode) (communicator : Option (List ℕ)) (new : NewSyntax) (call : CallSyntax) (known : has_unknown_word ops call ≡ false) (there : is_none communicator ≡ false) (counted : has_wrong_count (fields_of kind) call ≡ false) (ended : has_wrong_end (ends_with_name kind mode) call ≡ false) where
   -- a call whose words are as many as its kind asks for is refused for its tag
   pub refusal_of_tag : read_at number_of (pos 0) new.tag ≡ None → call_refusal ops kind mode communicator new call ≡ Some BadNumber
-  refusal_of_tag tag = rw (known, there, named, counted, ended, read_nothing number_of (pos 0) new.tag tag) refl
+  refusal_of_tag tag = rw (known, there, counted, ended, read_nothing number_of (pos 0) new.tag tag) refl
 
   module _ (tag : ℤ) (numbered : read_at number_of (pos 0) new.tag ≡ Some tag) where
     as_draft : call_refusal ops kind mode communicator new call ≡ draft_refusal kind new call
-    as_draft = rw (known, there, named, counted, ended, read_says number_of (pos 0) new.tag tag numbered) refl
+    as_draft = rw (known, there, counted, ended, read_says number_of (pos 0) new.tag tag numbered) refl
 
     -- and then as its draft
     pub refusal_of_draft : (e : LineError) → IsLineRefusal (draft_refusal kind new call) e → IsLineRefusal (call_refusal ops kind mode communicator new call) e
@@ -70,14 +77,14 @@ line_names_refusal ops bound n p = first_holding ((BadName, has_bad_name ops p) 
 abbrev further_refusal : List Operation → DirectiveSyntax → ℕ → ℕ → List BoundNames → Option ScriptFault
 further_refusal ops p n k bound =
     cond (nat_lt statements_limit (k + statements_in n p)) (Some TooLarge)
-    (cond (has_rank_out_of_range n p) (Some RankOutOfRange) (first_of (statement_refusal ops p) (line_names_refusal ops bound n p)))
+    (cond (is_past n (label_in p)) (Some RankOutOfRange) (first_of (statement_refusal ops p) (line_names_refusal ops bound n p)))
 
 refusal_of_further : (ops : List Operation) (line : List ℕ) (n k : ℕ) (bound : List BoundNames) → is_ascii line ≡ true → counts (words line) ≡ true → refusal ops (plain_context line (Some n) k bound) ≡ further_refusal ops (directive_in (words line)) n k bound
 unfolding statement_refusal
 refusal_of_further ops line n k bound ascii counted =
     let p : DirectiveSyntax = directive_in (words line) in
-    rw (ascii, counted) (ap (λ rest. cond (nat_lt statements_limit (k + statements_in n p)) (Some TooLarge) (cond (has_rank_out_of_range n p) (Some RankOutOfRange) rest))
-    (first_of_both ((UnknownStatement, is_unknown_line ops p) ∷ (WrongWords, has_wrong_words p) ∷ (BadNumber, has_bad_number p) ∷ (BadList, has_bad_list p) ∷ []) ((BadName, has_bad_name ops p) ∷ (NameUnknown, has_unknown_name ops bound n p) ∷ (NameTaken, has_taken_name ops bound n p) ∷ [])))
+    rw (ascii, counted) (ap (λ rest. cond (nat_lt statements_limit (k + statements_in n p)) (Some TooLarge) (cond (is_past n (label_in p)) (Some RankOutOfRange) rest))
+    (first_of_both ((UnknownStatement, is_unknown_line ops p) ∷ (WrongWords, has_wrong_words ops p) ∷ (BadNumber, has_bad_number ops p) ∷ (BadList, has_bad_list ops p) ∷ []) ((BadName, has_bad_name ops p) ∷ (NameUnknown, has_unknown_name ops bound n p) ∷ (NameTaken, has_taken_name ops bound n p) ∷ [])))
 
 module _ (ops : List Operation) (line : List ℕ) (n k : ℕ) (bound : List BoundNames) (ascii : is_ascii line ≡ true) (counted : counts (words line) ≡ true) where
   pub refusal_of_many : nat_lt statements_limit (k + statements_in n (directive_in (words line))) ≡ true → refusal ops (plain_context line (Some n) k bound) ≡ Some TooLarge
@@ -86,13 +93,12 @@ module _ (ops : List Operation) (line : List ℕ) (n k : ℕ) (bound : List Boun
   module _ (few : nat_lt statements_limit (k + statements_in n (directive_in (words line))) ≡ false) where
     -- no rank, or no label
     pub refusal_of_label : (e : LineError) → ((e ≡ Fault RankOutOfRange) × (is_past n (label_in (directive_in (words line))) ≡ true)) ⊎ ((e ≡ Fault UnknownStatement) × (label_in (directive_in (words line)) ≡ None)) → IsLineRefusal (refusal ops (plain_context line (Some n) k bound)) e
-    unfolding has_rank_out_of_range statement_refusal is_unknown_line
+    unfolding statement_refusal is_unknown_line
     refusal_of_label e (inl h) = rw h.0 (refusal_of_further ops line n k bound ascii counted ∙ rw (few, h.1))
     refusal_of_label e (inr h) = rw h.0 (refusal_of_further ops line n k bound ascii counted ∙ rw (few, h.1))
 
     module _ (there : is_past n (label_in (directive_in (words line))) ≡ false) where
       refusal_of_words : refusal ops (plain_context line (Some n) k bound) ≡ first_of (statement_refusal ops (directive_in (words line))) (line_names_refusal ops bound n (directive_in (words line)))
-      unfolding has_rank_out_of_range
       refusal_of_words = refusal_of_further ops line n k bound ascii counted ∙ rw (few, there)
 
       -- the words of its statement

@@ -1,7 +1,7 @@
 -- What the words behind a statement's word mean: operations, types, numbers and lists.
-use Rattle.std.specs.Prelude.{ℕ, Bool, true, false, ◌==◌, List, [], ◌∷◌, codes, bytes_eq, Option, Some, None, is_some, ℤ, if◌then◌else◌}
+use Rattle.std.specs.Prelude.{ℕ, Bool, true, false, ◌==◌, List, [], ◌∷◌, codes, bytes_eq, Option, Some, None, ℤ, if◌then◌else◌}
 use Rattle.std.specs.List.{slice_split}
-use Rattle.std.specs.Option.{option_map}
+use Rattle.std.specs.Option.{option_map, option_or}
 use Rattle.mpx_num.specs.Text.{number_of}
 use Rattle.mpx_num.specs.OwnWords.{place_named}
 use Rattle.mpx_num.specs.declared.own.Operation.{Operation}
@@ -31,14 +31,9 @@ predefined_named word = named (
     ∷ (codes "minloc", O.Minloc)
     ∷ []) word
 
--- it, or else the one in this place of a job's own
-abbrev pub or_own : Option Op → Option ℕ → Option Op
-or_own (Some op) place = Some op
-or_own None place = option_map O.Own place
-
--- an operation of the job, whose own ones are these
+-- an operation: a predefined one, or else the one in this place of the job's own, which are these
 unfoldable pub operation_named : List Operation → List ℕ → Option Op
-operation_named ops word = or_own (predefined_named word) (place_named ops word)
+operation_named ops word = option_or (predefined_named word) (option_map O.Own (place_named ops word))
 
 unfoldable pub type_named : List ℕ → Option Ty
 type_named word = named (
@@ -80,11 +75,3 @@ colour_named word = if bytes_eq word (codes "undefined") then Some None else opt
 
 abbrev pub is_arrow : List ℕ → Bool
 is_arrow word = bytes_eq word (codes "->")
-
--- whether a word is a number
-abbrev pub is_number : List ℕ → Bool
-is_number word = is_some (number_of word)
-
--- whether a word is a list
-abbrev pub is_list : List ℕ → Bool
-is_list word = is_some (list_named word)

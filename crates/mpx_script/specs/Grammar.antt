@@ -1,4 +1,4 @@
--- What the first words of a line stand for: a number of ranks, a label, a statement's word, and which words stand behind that.
+-- What the first words of a line stand for: a number of ranks, a label, a statement's word, and whether a call ends with a name.
 use Rattle.std.specs.Prelude.{ℕ, ◌-◌, nat_le, Bool, true, false, ◌==◌, ◌&&◌, List, [], ◌∷◌, length, take, slice_index, slice_get, codes, bytes_eq, Option, Some, None, is_none, option_and_then, ℤ, pos, negsuc, if◌then◌else◌}
 use Rattle.std.specs.Option.{option_map, option_or}
 use Rattle.mpx_num.specs.Text.{number_of}
@@ -11,16 +11,13 @@ use Rattle.mpx_kind.specs.declared.kinds.Call.TheVariants as C
 use Rattle.mpx_kind.specs.declared.kinds.Exchange.TheVariants as E
 use Rattle.mpx_kind.specs.declared.kinds.Reduction.TheVariants as R
 use Rattle.mpx_kind.specs.declared.kinds.Neighbourhood.TheVariants as H
-use Rattle.mpx_kind.specs.declared.kinds.NewCommunicator.{NewCommunicator}
 use Rattle.mpx_kind.specs.declared.kinds.NewCommunicator.TheVariants as N
-use Rattle.mpx_kind.specs.Kinds.{may_be}
-use Rattle.mpx_script.specs.declared.grammar.Asked.{Asked}
-use Rattle.mpx_script.specs.declared.grammar.Asked.TheVariants as A
+use Rattle.mpx_kind.specs.Kinds.{makes_communicators, may_be}
+use Rattle.mpx_script.specs.declared.grammar.QuestionForm.TheVariants as A
 use Rattle.mpx_script.specs.declared.grammar.Form.{Form}
 use Rattle.mpx_script.specs.declared.grammar.Form.TheVariants as M
 use Rattle.mpx_script.specs.declared.grammar.Label.{Label}
 use Rattle.mpx_script.specs.declared.grammar.Label.TheVariants.{Every, Numbered}
-use Rattle.mpx_script.specs.declared.grammar.Shape.{Shape}
 use Rattle.mpx_script.specs.declared.grammar.Waited.TheVariants as W
 use Rattle.mpx_statement.specs.Lookups.{named}
 use Rattle.mpx_statement.specs.declared.statement.Side.TheVariants.{Sources, Destinations}
@@ -78,14 +75,10 @@ kind_named word = named (
     ∷ (codes "free", K.Free)
     ∷ []) word
 
--- the kind, if there are nonblocking calls of it
-abbrev pub if_nonblocking : Kind → Option Kind
-if_nonblocking kind = if may_be Nonblocking kind then Some kind else None
-
--- the kind of a nonblocking call: behind an `i` (105) its blocking call's word
+-- the kind of a nonblocking call, where there are such calls: behind an `i` (105) its blocking call's word
 unfoldable pub started_named : List ℕ → Option Kind
 started_named [] = None
-started_named (first ∷ word) = if first == 105 then option_and_then if_nonblocking (kind_named word) else None
+started_named (first ∷ word) = if first == 105 then option_and_then (λ kind. if may_be Nonblocking kind then Some kind else None) (kind_named word) else None
 
 unfoldable pub local_named : List ℕ → Option Form
 local_named word = named (
@@ -102,40 +95,16 @@ abbrev pub form_named : List ℕ → Option Form
 form_named word = option_or (option_map (λ kind. M.Call kind Blocking) (kind_named word))
     (option_or (option_map (λ kind. M.Call kind Nonblocking) (started_named word)) (local_named word))
 
--- which words a kind of call has, beside the fields of its posts: a colour and a key, a tag, a list of ranks, one of edges,
--- lists of sources and destinations, and `->` with the name for the new communicator
-abbrev pub shape_of_new : NewCommunicator → Shape
-shape_of_new N.Dup = record { colour = false; tag = false; ranks = false; edges = false; neighbours = false; target = true }
-shape_of_new N.Split = record { colour = true; tag = false; ranks = false; edges = false; neighbours = false; target = true }
-shape_of_new N.Create = record { colour = false; tag = false; ranks = true; edges = false; neighbours = false; target = true }
-shape_of_new N.CreateGroup = record { colour = false; tag = true; ranks = true; edges = false; neighbours = false; target = true }
-shape_of_new N.DistGraph = record { colour = false; tag = false; ranks = false; edges = true; neighbours = false; target = true }
-shape_of_new N.DistGraphAdjacent = record { colour = false; tag = false; ranks = false; edges = false; neighbours = true; target = true }
+-- whether a call ends with `-> NAME`: the name for the communicator that it makes, or for its request
+abbrev pub ends_with_name : Kind → Mode → Bool
+ends_with_name kind Blocking = makes_communicators kind
+ends_with_name kind Nonblocking = true
 
--- other calls have none of them
-abbrev pub shape_of : Kind → Shape
-shape_of (K.NewCommunicator new) = shape_of_new new
-shape_of kind = record { colour = false; tag = false; ranks = false; edges = false; neighbours = false; target = false }
-
-abbrev pub is_nonblocking : Mode → Bool
-is_nonblocking Blocking = false
-is_nonblocking Nonblocking = true
-
-abbrev pub has_second : Asked → Bool
-has_second (A.Neighbours side) = false
-has_second asked = true
-
-abbrev pub has_ranks : Asked → Bool
-has_ranks A.Translate = true
-has_ranks asked = false
-
--- `*` for every rank, or a number
-abbrev pub label_named : List ℕ → Option Label
-label_named word = if bytes_eq word (codes "*") then Some Every else option_map Numbered (number_of word)
-
--- a label with `:` (58) after it
+-- `*` for every rank, or a number, with `:` (58) after it
 unfoldable pub label_of : List ℕ → Option Label
-label_of word = if slice_index word (length word - 1) == 58 then label_named (take (length word - 1) word) else None
+label_of word =
+    let label : List ℕ = take (length word - 1) word in
+    if slice_index word (length word - 1) == 58 then (if bytes_eq label (codes "*") then Some Every else option_map Numbered (number_of label)) else None
 
 -- the call of a kind that blocks, or one that doesn't where there is such a call
 abbrev pub call_with : Mode → Kind → KindOfCall

@@ -2,14 +2,12 @@
 use Rattle.std.specs.Prelude.{ℕ, ◌+◌, nat_lt, Bool, true, false, ◌==◌, ◌||◌, List, [], length, take, drop, codes, bytes_eq, Option, Some, None, ℤ, pos, if◌then◌else◌}
 use Rattle.std.specs.Bool.{beq}
 use Rattle.std.specs.List.{list_any, position_or_len, slice_split}
-use Rattle.std.specs.Option.{option_map}
 use Rattle.mpx_num.specs.Text.{number_of}
 use Rattle.mpx_post.specs.declared.drafted_edges.DraftedEdge.{DraftedEdge}
 use Rattle.mpx_post.specs.declared.drafted_edges.DraftedNeighbour.{DraftedNeighbour}
 use Rattle.mpx_post.specs.Graphs.{GraphView}
 use Rattle.mpx_post.specs.Rows.{all_of}
 use Rattle.mpx_script.specs.Grammar.{◌>>=◌}
-use Rattle.mpx_script.specs.Syntax.{NewSyntax}
 
 -- what stands before the first such byte, and what behind it
 abbrev pub parted : ℕ → List ℕ → Option (List ℕ × List ℕ)
@@ -50,7 +48,7 @@ unfoldable pub is_weighted : List ℕ → Bool
 is_weighted word = bytes_eq word (codes "-w") || list_any (λ byte. byte == 58) word
 
 unfoldable pub entries_in : List ℕ → List (List ℕ)
-entries_in word = if has_no_entries word then [] else slice_split (λ byte. byte == 44) word
+entries_in word = if bytes_eq word (codes "-") || bytes_eq word (codes "-w") then [] else slice_split (λ byte. byte == 44) word
 
 -- any edges
 unfoldable pub edges_graph : List ℕ → Option GraphView
@@ -64,12 +62,3 @@ neighbours_graph from to = do
   sources ← all_of (neighbour_named (is_weighted from)) (entries_in from)
   destinations ← all_of (neighbour_named (is_weighted to)) (entries_in to)
   if beq (is_weighted from) (is_weighted to) then Some (record { weighted = is_weighted from; edges = []; sources = sources; destinations = destinations }) else None
-
--- the graph of these words, if the kind has them; none where they are no lists of one
-abbrev pub graph_at : (edges sources destinations : Option (List ℕ)) → Option (Option GraphView)
-graph_at (Some edges) sources destinations = option_map Some (edges_graph edges)
-graph_at None (Some sources) (Some destinations) = option_map Some (neighbours_graph sources destinations)
-graph_at edges sources destinations = Some None
-
-unfoldable pub graph_in : NewSyntax → Option (Option GraphView)
-graph_in new = graph_at new.edges new.sources new.destinations

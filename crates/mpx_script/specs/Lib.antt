@@ -4,11 +4,13 @@ pub mod Grammar
 pub mod Fields
 pub mod Syntax
 pub mod Graphs
+pub mod Places
 pub mod Refusals
 pub mod Meanings
 pub mod Naming
 pub mod ScriptView
 pub mod Reading
+pub mod Parts
 pub mod Sentences
 pub mod PartialScripts
 pub mod Answer

@@ -20,13 +20,9 @@ pub record BoundNames : Type 0 where
 abbrev pub names_bound : List Statement → BoundNames
 names_bound statements = record { communicators = codes "world" ∷ filter_map target_of statements; requests = filter_map request_of statements }
 
--- the names of a rank that there isn't
-abbrev pub nothing_bound : BoundNames
-nothing_bound = record { communicators = []; requests = [] }
-
 -- those that a rank has bound by its statements so far
 abbrev pub names_at : List (List Statement) → (rank : ℕ) → BoundNames
-names_at statements rank = slice_index_or (map names_bound statements) rank nothing_bound
+names_at statements rank = slice_index_or (map names_bound statements) rank (record { communicators = []; requests = [] })
 
 -- one of the names is the word
 abbrev pub is_bound : List (List ℕ) → List ℕ → Bool
@@ -36,13 +32,9 @@ is_bound names word = list_any (bytes_eq word) names
 abbrev pub new_names_of : Statement → List (List ℕ)
 new_names_of statement = option_to_list (target_of statement) ++ option_to_list (request_of statement)
 
--- and with them those that it uses
-abbrev pub names_of : Statement → List (List ℕ)
-names_of statement = communicators_of statement ++ requests_of statement ++ new_names_of statement
-
--- a word of the statement is no name
+-- a word of the statement is no name: of those that it uses, and of these
 abbrev pub misnames : Statement → Bool
-misnames statement = list_any (λ word. not (is_name word)) (names_of statement)
+misnames statement = list_any (λ word. not (is_name word)) (communicators_of statement ++ requests_of statement ++ new_names_of statement)
 
 -- a word stands for a communicator and isn't bound to one, or for a request and isn't bound to one
 abbrev pub lacks_name : Statement → BoundNames → Bool
@@ -61,7 +53,7 @@ ranks_labelled ranks label = []
 
 -- that holds of the names of one of these ranks
 abbrev pub at_some_rank : List BoundNames → List ℕ → (BoundNames → Bool) → Bool
-at_some_rank bound ranks test = list_any (λ rank. test (slice_index_or bound rank nothing_bound)) ranks
+at_some_rank bound ranks test = list_any (λ rank. test (slice_index_or bound rank (record { communicators = []; requests = [] }))) ranks
 
 -- What a line's names are refused for, where its words say a statement: `bound` has the names of each rank
 

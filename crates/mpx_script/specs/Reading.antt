@@ -4,8 +4,9 @@ use Rattle.std.specs.List.{filter_map, range_with_len}
 use Rattle.std.specs.Option.{option_map, option_map_or}
 use Rattle.mpx_num.specs.declared.own.Operation.{Operation}
 use Rattle.mpx_script.specs.Words.{words, counts, counting, is_ascii, is_over_limit, script_lines}
-use Rattle.mpx_script.specs.Syntax.{DirectiveSyntax, directive_in, statements_in, opening_ranks}
-use Rattle.mpx_script.specs.Refusals.{lacks_ranks, has_ranks_out_of_range, has_rank_out_of_range, is_unknown_line, has_wrong_words, has_bad_number, has_bad_list}
+use Rattle.mpx_script.specs.Grammar.{ranks_number}
+use Rattle.mpx_script.specs.Syntax.{DirectiveSyntax, directive_in, label_in, statements_in, opening_ranks}
+use Rattle.mpx_script.specs.Refusals.{is_past, is_unknown_line, has_wrong_words, has_bad_number, has_bad_list}
 use Rattle.mpx_script.specs.Meanings.{line_gives}
 use Rattle.mpx_script.specs.Naming.{BoundNames, has_bad_name, has_unknown_name, has_taken_name, names_bound}
 use Rattle.mpx_script.specs.ScriptView.{ScriptView}
@@ -44,13 +45,13 @@ abbrev pub reading_refusals : List Operation → LineContext → List (ScriptFau
 reading_refusals ops p =
     (NotAscii, not (is_ascii p.line))
     ∷ (TooLarge, p.is_cut || on_further p (λ ranks directive. nat_lt statements_limit (p.statements + statements_in ranks directive)))
-    ∷ (NoRanksLine, p.is_bare || on_opening p lacks_ranks)
-    ∷ (RanksOutOfRange, on_opening p has_ranks_out_of_range)
-    ∷ (RankOutOfRange, on_further p has_rank_out_of_range)
+    ∷ (NoRanksLine, p.is_bare || on_opening p (λ words. is_none (ranks_number words)))
+    ∷ (RanksOutOfRange, on_opening p (λ words. is_none (opening_ranks words)))
+    ∷ (RankOutOfRange, on_further p (λ ranks directive. is_past ranks (label_in directive)))
     ∷ (UnknownStatement, on_further p (λ ranks directive. is_unknown_line ops directive))
-    ∷ (WrongWords, on_further p (λ ranks directive. has_wrong_words directive))
-    ∷ (BadNumber, on_further p (λ ranks directive. has_bad_number directive))
-    ∷ (BadList, on_further p (λ ranks directive. has_bad_list directive))
+    ∷ (WrongWords, on_further p (λ ranks directive. has_wrong_words ops directive))
+    ∷ (BadNumber, on_further p (λ ranks directive. has_bad_number ops directive))
+    ∷ (BadList, on_further p (λ ranks directive. has_bad_list ops directive))
     ∷ (BadName, on_further p (λ ranks directive. has_bad_name ops directive))
     ∷ (NameUnknown, on_further p (has_unknown_name ops p.bound))
     ∷ (NameTaken, on_further p (has_taken_name ops p.bound))
@@ -109,15 +110,15 @@ context_at ops text i =
     record {
       line = slice_index_or all i [];
       is_cut = is_over_limit text && (i + 1 == length all);
-      is_bare = (i == 0) && is_bare_script text;
+      is_bare = (i == 0) && (not (is_over_limit text) && (length (counting all) == 0));
       ranks = ranks_settled before;
       statements = statements_settled before;
-      bound = bound_settled ops before;
+      bound = map names_bound (script_of ops before).statements;
     }
 
 -- the refusal of the line at a place, with the line's number from 1 on
 abbrev pub error_at : List Operation → List ℕ → ℕ → Option ScriptError
-error_at ops text i = option_map (λ what. record { line = i + 1; what = what }) (refusal ops (context_at ops text i))
+error_at ops text i = option_map (λ what. record { line = i + 1; what = what }) (first_holding (reading_refusals ops (context_at ops text i)))
 
 -- the lines that are refused
 abbrev pub errors : List Operation → List ℕ → List ScriptError

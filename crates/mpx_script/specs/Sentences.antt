@@ -6,16 +6,20 @@ use Rattle.mpx_kind.specs.declared.kinds.Kind.{Kind}
 use Rattle.mpx_kind.specs.declared.kinds.Mode.{Mode}
 use Rattle.mpx_kind.specs.Kinds.{fields_of}
 use Rattle.mpx_script.specs.Words.{counts}
-use Rattle.mpx_script.specs.Grammar.{shape_of}
+use Rattle.mpx_script.specs.Grammar.{ends_with_name}
 use Rattle.mpx_script.specs.Fields.{is_one}
-use Rattle.mpx_script.specs.Syntax.{DirectiveSyntax, NewSyntax, CallSyntax, directive_in, opening_ranks, statements_in}
-use Rattle.mpx_script.specs.Refusals.{is_unknown_line, is_unknown_as, has_wrong_words, has_wrong_words_as, has_bad_number, has_bad_number_as, has_bad_list, has_bad_list_as, has_unknown_word, has_wrong_new_words, has_wrong_count, has_wrong_end, has_strange_choice, has_strange_new_number, has_strange_count, has_strange_number, has_strange_list, has_strange_new_list}
+use Rattle.mpx_script.specs.Syntax.{DirectiveSyntax, directive_in, opening_ranks, statements_in}
+use Rattle.mpx_script.specs.Parts.{NewSyntax, CallSyntax, AskSyntax, ask_in, call_of, communicator_in, new_of, has_unknown_word, has_wrong_count, has_wrong_end, has_wrong_question, has_strange_choice, has_strange_new_number, has_strange_count, has_strange_number, has_strange_list, has_strange_new_list, has_strange_ranks}
+use Rattle.mpx_script.specs.Refusals.{is_unknown_line, has_wrong_words, has_bad_number, has_bad_list, has_wrong_requests}
 use Rattle.mpx_script.specs.Meanings.{names_rank, statement_in}
 use Rattle.mpx_script.specs.Naming.{BoundNames, at_some_rank, lacks_name, misnames, takes_name}
 use Rattle.mpx_script.specs.Reading.{statements_limit, first_holding}
 use Rattle.mpx_script.specs.declared.faults.ScriptFault.{ScriptFault}
 use Rattle.mpx_script.specs.declared.faults.ScriptFault.TheVariants.{UnknownStatement, WrongWords, BadNumber, BadList, BadName, NameUnknown, NameTaken}
 use Rattle.mpx_script.specs.declared.grammar.Form.{Form}
+use Rattle.mpx_script.specs.declared.grammar.Form.TheVariants as M
+use Rattle.mpx_script.specs.declared.grammar.QuestionForm.{QuestionForm}
+use Rattle.mpx_script.specs.declared.grammar.Waited.{Waited}
 use Rattle.mpx_script.specs.declared.script_line.Assignment.{Assignment}
 use Rattle.mpx_script.specs.declared.script_line.Sentence.{Sentence}
 use Rattle.mpx_script.specs.declared.script_line.Sentence.TheVariants.{Passed, Opening, Further}
@@ -46,18 +50,9 @@ IsLineRefusal found (Fault what) = found ≡ Some what
 unfoldable pub statement_refusal : List Operation → DirectiveSyntax → Option ScriptFault
 statement_refusal ops directive = first_holding (
     (UnknownStatement, is_unknown_line ops directive)
-    ∷ (WrongWords, has_wrong_words directive)
-    ∷ (BadNumber, has_bad_number directive)
-    ∷ (BadList, has_bad_list directive)
-    ∷ [])
-
--- the same of a statement of this form, with these words behind its own
-abbrev pub form_refusal : List Operation → Form → List (List ℕ) → Option ScriptFault
-form_refusal ops form words = first_holding (
-    (UnknownStatement, is_unknown_as ops form words)
-    ∷ (WrongWords, has_wrong_words_as form words)
-    ∷ (BadNumber, has_bad_number_as form words)
-    ∷ (BadList, has_bad_list_as form words)
+    ∷ (WrongWords, has_wrong_words ops directive)
+    ∷ (BadNumber, has_bad_number ops directive)
+    ∷ (BadList, has_bad_list ops directive)
     ∷ [])
 
 -- what a statement's names are refused for at these ranks
@@ -104,10 +99,24 @@ draft_refusal kind new call = first_holding (
 abbrev pub call_refusal : List Operation → Kind → Mode → Option (List ℕ) → NewSyntax → CallSyntax → Option ScriptFault
 call_refusal ops kind mode communicator new call = first_holding (
     (UnknownStatement, has_unknown_word ops call)
-    ∷ (WrongWords, is_none communicator || has_wrong_new_words (shape_of kind) new || has_wrong_count (fields_of kind) call || has_wrong_end mode call)
+    ∷ (WrongWords, is_none communicator || has_wrong_count (fields_of kind) call || has_wrong_end (ends_with_name kind mode) call)
     ∷ (BadNumber, has_strange_new_number new || has_strange_number (fields_of kind) call)
     ∷ (BadList, has_strange_list (fields_of kind) call || has_strange_new_list new)
     ∷ [])
+
+-- what a wait is refused for, with these words behind its own
+abbrev pub wait_refusal : Waited → List (List ℕ) → Option ScriptFault
+wait_refusal waited words = first_holding ((WrongWords, has_wrong_requests waited words) ∷ [])
+
+-- what a statement that asks is refused for
+abbrev pub ask_refusal : QuestionForm → AskSyntax → Option ScriptFault
+ask_refusal asked ask = first_holding ((WrongWords, has_wrong_question asked ask) ∷ (BadList, has_strange_ranks ask) ∷ [])
+
+-- what a statement of this form is refused for, with these words behind its own
+abbrev pub form_refusal : List Operation → Form → List (List ℕ) → Option ScriptFault
+form_refusal ops (M.Call kind mode) words = call_refusal ops kind mode (communicator_in words) (new_of kind words) (call_of kind mode words)
+form_refusal ops (M.Wait waited) words = wait_refusal waited words
+form_refusal ops (M.Ask asked) words = ask_refusal asked (ask_in asked words)
 
 -- what a word says: the other value where there is no word, and None where the word says nothing
 abbrev pub read_at : {A : Type 0} → (List ℕ → Option A) → A → Option (List ℕ) → Option A

@@ -27,9 +27,9 @@ is_blank byte = byte == 32 || byte == 9
 abbrev pub has_bytes : List ℕ → Bool
 has_bytes part = not (length part == 0)
 
--- what stands between spaces and tabs
+-- what stands between spaces (32) and tabs (9)
 unfoldable pub words : List ℕ → List (List ℕ)
-words line = filter has_bytes (slice_split is_blank line)
+words line = filter (λ part. not (length part == 0)) (slice_split (λ byte. byte == 32 || byte == 9) line)
 
 -- a line with these words counts: it has a first one, and that doesn't begin with `#` (35)
 unfoldable pub counts : List (List ℕ) → Bool

@@ -1,6 +1,7 @@
 //! What the first words of a line stand for: the number of ranks, a label, or a statement's word.
 ghost use Rattle.std.specs.Prelude.{◌≡◌, map};
-ghost use Rattle.mpx_script.specs.Grammar.{call_with, rank_count, ranks_number, label_of, kind_named, started_named, local_named, form_named, is_nonblocking, has_second, has_ranks, shape_of, shape_of_new};
+ghost use Rattle.mpx_script.specs.Grammar.{call_with, rank_count, ranks_number, label_of, kind_named, started_named, local_named, form_named, ends_with_name};
+ghost use Rattle.mpx_script.specs.Parts.{has_ranks, has_second, shape_of, shape_of_new};
 ghost use Rattle.mpx_statement.specs.Lookups.{below, named};
 ghost use Rattle.mpx_script.specs.Words.{words};
 
@@ -176,7 +177,7 @@ pub enum Waited {
 
 /// What a statement asks that doesn't wait for an answer.
 #[derive(Clone, Copy)]
-pub enum Asked {
+pub enum QuestionForm {
     /// The neighbours on a side of a communicator.
     Neighbours(Side),
     /// How two communicators compare.
@@ -191,20 +192,23 @@ pub enum Form {
     /// A call of a kind, and whether it blocks.
     Call(Kind, Mode),
     Wait(Waited),
-    Ask(Asked),
+    Ask(QuestionForm),
 }
 
 // The words of the statements that don't post.
 const LOCAL_FORMS: &[(&[u8], Form)] = &[
     (b"wait", Form::Wait(Waited::One)),
     (b"waitall", Form::Wait(Waited::All)),
-    (b"sources", Form::Ask(Asked::Neighbours(Side::Sources))),
+    (
+        b"sources",
+        Form::Ask(QuestionForm::Neighbours(Side::Sources)),
+    ),
     (
         b"destinations",
-        Form::Ask(Asked::Neighbours(Side::Destinations)),
+        Form::Ask(QuestionForm::Neighbours(Side::Destinations)),
     ),
-    (b"compare", Form::Ask(Asked::Compare)),
-    (b"translate", Form::Ask(Asked::Translate)),
+    (b"compare", Form::Ask(QuestionForm::Compare)),
+    (b"translate", Form::Ask(QuestionForm::Translate)),
 ];
 
 // The form of a statement that doesn't post.
@@ -228,11 +232,14 @@ pub fn form_named(word: &[u8]) -> Option<Form>
     }
 }
 
-/// Whether calls of the mode have a request.
-pub fn is_nonblocking(mode: Mode) -> bool
-    ensures { result ≡ is_nonblocking mode }
+/// Whether a call ends with `-> NAME`.
+pub fn ends_with_name(kind: Kind, mode: Mode) -> bool
+    ensures { result ≡ ends_with_name kind mode }
 {
-    mode == Mode::Nonblocking
+    match mode {
+        Mode::Blocking => kind.makes_communicators(),
+        Mode::Nonblocking => true,
+    }
 }
 
 /// The call of a kind with a mode; one that makes communicators, or frees one, only blocks.
@@ -248,13 +255,13 @@ pub fn call_with(mode: Mode, kind: Kind) -> Call
     }
 }
 
-impl Asked {
+impl QuestionForm {
     /// Whether it is of two communicators.
     pub fn has_second(self) -> bool
         ensures { result ≡ has_second self }
     {
         match self {
-            Asked::Neighbours(_) => false,
+            QuestionForm::Neighbours(_) => false,
             _ => true,
         }
     }
@@ -264,7 +271,7 @@ impl Asked {
         ensures { result ≡ has_ranks self }
     {
         match self {
-            Asked::Translate => true,
+            QuestionForm::Translate => true,
             _ => false,
         }
     }
@@ -282,8 +289,6 @@ pub struct Shape {
     pub edges: bool,
     /// A list of sources and one of destinations.
     pub neighbours: bool,
-    /// `->` and the name for the new communicator.
-    pub target: bool,
 }
 
 /// The words of a kind.
@@ -298,7 +303,6 @@ pub fn shape_of(kind: Kind) -> Shape
             ranks: false,
             edges: false,
             neighbours: false,
-            target: false,
         },
     }
 }
@@ -312,7 +316,6 @@ fn shape_of_new(new: NewCommunicator) -> Shape
         ranks: false,
         edges: false,
         neighbours: false,
-        target: true,
     };
     match new {
         NewCommunicator::Dup => nothing,

@@ -3,7 +3,8 @@ ghost use Rattle.std.specs.Prelude.{◌≡◌, ◌==◌, IfOk};
 ghost use Rattle.std.specs.List.{list_any};
 ghost use Rattle.std.specs.Option.{option_map};
 ghost use Rattle.mpx_post.specs.Rows.{all_of};
-ghost use Rattle.mpx_script.specs.Graphs.{edge_named, edges_graph, entries_in, graph_in, has_no_entries, is_weighted, neighbour_named, neighbours_graph, parted, weighed};
+ghost use Rattle.mpx_script.specs.Graphs.{edge_named, edges_graph, entries_in, has_no_entries, is_weighted, neighbour_named, neighbours_graph, parted, weighed};
+ghost use Rattle.mpx_script.specs.Parts.{graph_in};
 
 use crate::syntax::NewSyntax;
 use crate::words::front_len;
@@ -165,7 +166,7 @@ fn neighbours_graph(
 }
 
 /// The graph of the words of a call, if it has them, or None where they are no lists of one.
-#[tactic(auto, unfolding(crate::specs::Graphs::graph_in))]
+#[tactic(auto, unfolding(crate::specs::Parts::graph_in))]
 pub fn graph_in(
     alloc: Global,
     new: &NewSyntax<'_>,

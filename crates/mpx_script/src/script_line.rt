@@ -4,8 +4,10 @@ ghost use Rattle.std.specs.Option.{option_copied};
 ghost use Rattle.mpx_script.specs.PartialScripts.{context_behind, ranks_of_script};
 ghost use Rattle.mpx_script.specs.Words.{words, counts, is_ascii};
 ghost use Rattle.mpx_script.specs.Fields.{ranks_named};
-ghost use Rattle.mpx_script.specs.Syntax.{ask_in, directive_in, label_in, opening_ranks};
-ghost use Rattle.mpx_script.specs.Meanings.{call_posted, new_posted, posting_said, question_said, said, statement_as, statement_in};
+ghost use Rattle.mpx_script.specs.Syntax.{directive_in, label_in, opening_ranks};
+ghost use Rattle.mpx_script.specs.Places.{said};
+ghost use Rattle.mpx_script.specs.Parts.{ask_in, call_posted, new_posted, parted_statement, posting_said, question_said};
+ghost use Rattle.mpx_script.specs.Meanings.{statement_in};
 ghost use Rattle.mpx_script.specs.Naming.{names_bound};
 ghost use Rattle.mpx_script.specs.Reading.{refusal, plain_context};
 ghost use Rattle.mpx_script.specs.Sentences.{IsAssignment, Says, IsLineRefusal, form_refusal, read_at, statement_refusal, call_refusal, names_refusal};
@@ -14,7 +16,9 @@ ghost use Rattle.std.specs.List.{range_with_len};
 use crate::calls::{draft_in, number_at};
 use crate::faults::{LineError, ScriptFault};
 use crate::fields::ranks_named;
-use crate::grammar::{Asked, Form, Waited, rank_count, ranks_number, shape_of};
+use crate::grammar::{
+    Form, QuestionForm, Waited, ends_with_name, rank_count, ranks_number, shape_of,
+};
 use crate::naming::names_fault;
 use crate::script::Script;
 use crate::syntax::{
@@ -51,7 +55,6 @@ pub enum Sentence {
 }
 
 // The number of ranks on the first line that counts, in which no operation stands.
-#[tactic(auto, unfolding(crate::specs::Refusals::lacks_ranks, crate::specs::Refusals::has_ranks_out_of_range))]
 fn opening_line(line: &[u8]) -> Result<u8, LineError>
     requires ascii { is_ascii line.now ≡ true }
     requires counts { counts (words line.now) ≡ true }
@@ -132,9 +135,8 @@ fn call_of(
         return Err(LineError::Fault(ScriptFault::UnknownStatement));
     }
     if lacks(true, communicator)
-        || new.has_wrong_words(shape_of(kind))
         || call.has_wrong_count(kind.fields())
-        || call.has_wrong_end(mode)
+        || call.has_wrong_end(ends_with_name(kind, mode))
     {
         return Err(LineError::Fault(ScriptFault::WrongWords));
     }
@@ -147,9 +149,9 @@ fn call_of(
     };
     let on = word_at(alloc, communicator)?;
     match kind {
-        Kind::NewCommunicator(made) => { Ok(new_posted(alloc, made, on, draft, tag, new.target)?) }
+        Kind::NewCommunicator(made) => { Ok(new_posted(alloc, made, on, draft, tag, call.name)?) }
         Kind::Exchange(_) | Kind::Reduction(_) | Kind::Neighbourhood(_) | Kind::Free => {
-            Ok(call_posted(alloc, mode, on, draft, call.request)?)
+            Ok(call_posted(alloc, mode, on, draft, call.name)?)
         }
     }
 }
@@ -195,7 +197,7 @@ fn ranks_at(alloc: Global, word: Option<&[u8]>) -> Result<Option<RankList>, Allo
 // The question of these words and ranks.
 fn question_of(
     alloc: Global,
-    asked: Asked,
+    asked: QuestionForm,
     ask: &AskSyntax<'_>,
     ranks: RankList,
 ) -> Result<Question, OutOfMemory>
@@ -204,9 +206,9 @@ fn question_of(
     let first = word_at(alloc, ask.first)?;
     let second = word_at(alloc, ask.second)?;
     Ok(match asked {
-        Asked::Neighbours(side) => Question::Neighbours { on: first, side },
-        Asked::Compare => Question::Compare { first, second },
-        Asked::Translate => Question::Translate {
+        QuestionForm::Neighbours(side) => Question::Neighbours { on: first, side },
+        QuestionForm::Compare => Question::Compare { first, second },
+        QuestionForm::Translate => Question::Translate {
             from: first,
             to: second,
             ranks,
@@ -215,7 +217,7 @@ fn question_of(
 }
 
 // What a statement asks by the line behind its word, in which no operation stands.
-fn question_in(alloc: Global, asked: Asked, line: &[u8]) -> Result<Question, LineError>
+fn question_in(alloc: Global, asked: QuestionForm, line: &[u8]) -> Result<Question, LineError>
     ensures accepted { OnOk result (form_refusal [] (Form.Ask asked) (words line.now) ≡ None) }
     ensures question { IfOk result (λ question. question ≡ question_said asked (ask_in asked (words line.now))) }
     ensures refused { IfErr result (IsLineRefusal (form_refusal [] (Form.Ask asked) (words line.now))) }
@@ -233,14 +235,14 @@ fn question_in(alloc: Global, asked: Asked, line: &[u8]) -> Result<Question, Lin
 // The statement of a form by the line behind its word.
 fn statement_as(alloc: Global, form: Form, line: &[u8], ops: &Ops) -> Result<Statement, LineError>
     ensures accepted { OnOk result (form_refusal (⟦<Ops as Listing>⟧.operations ops.now) form (words line.now) ≡ None) }
-    ensures statement { IfOk result (λ statement. statement ≡ statement_as (⟦<Ops as Listing>⟧.operations ops.now) form (words line.now)) }
+    ensures statement { IfOk result (λ statement. statement ≡ parted_statement (⟦<Ops as Listing>⟧.operations ops.now) form (words line.now)) }
     ensures refused { IfErr result (IsLineRefusal (form_refusal (⟦<Ops as Listing>⟧.operations ops.now) form (words line.now))) }
 {
     match form {
         Form::Call(kind, mode) => {
             let (communicator, rest) = first_word(line);
             let new = new_in(shape_of(kind), rest);
-            let call = call_in(kind.fields(), mode, new.behind);
+            let call = call_in(kind.fields(), ends_with_name(kind, mode), new.behind);
             let posting = call_of(alloc, kind, mode, communicator, &new, &call, ops)?;
             Ok(Statement::Post(posting))
         }
@@ -250,7 +252,7 @@ fn statement_as(alloc: Global, form: Form, line: &[u8], ops: &Ops) -> Result<Sta
 }
 
 // The statement behind a label.
-#[tactic(auto, using(crate::proofs::Refusals::refusal_of_form, crate::proofs::Refusals::refusal_of_no_word), unfolding(crate::specs::Meanings::statement_in))]
+#[tactic(auto, using(crate::proofs::Refusals::refusal_of_form, crate::proofs::Refusals::refusal_of_no_word))]
 fn statement_in(
     alloc: Global,
     directive: &DirectiveSyntax<'_>,

@@ -2,18 +2,19 @@
 ghost use Rattle.std.specs.Prelude.{◌≡◌, ◌==◌, ◌+◌, ◌-◌, ◌<◌, ◌≤◌, ℕ, ◌&&◌, ◌⊎◌, true, false, not, None, Some, IfOk, IfErr, nat_le, nat_lt, is_none, is_some, length};
 ghost use Rattle.std.specs.Option.{option_copied};
 ghost use Rattle.mpx_script.specs.Words.{words};
-ghost use Rattle.mpx_script.specs.Syntax.{ask_in, directive_in, form_in, label_in, new_in, call_in, ranks_meant, statements_in};
+ghost use Rattle.mpx_script.specs.Syntax.{directive_in, form_in, label_in, ranks_meant, statements_in};
+ghost use Rattle.mpx_script.specs.Parts.{ask_in, call_in, has_unknown_word, has_wrong_count, has_wrong_end, has_wrong_question, lacks, new_in};
 ghost use Rattle.mpx_script.specs.Fields.{is_arrow, operation_named, type_named};
-ghost use Rattle.mpx_script.specs.Refusals.{fails, is_past, lacks, has_unknown_word, has_wrong_new_words, has_wrong_count, has_wrong_end, has_wrong_question};
+ghost use Rattle.mpx_script.specs.Refusals.{fails, is_past};
 ghost use Rattle.mpx_script.specs.Meanings.{is_meant};
 ghost use Rattle.mpx_script.specs.Naming.{ranks_labelled};
 ghost use Rattle.std.specs.List.{range_with_len};
 
 use crate::faults::{LineError, ScriptFault};
 use crate::fields::{is_arrow, operation_named, type_named};
-use crate::grammar::{Asked, Form, Label, Shape, below, form_named, is_nonblocking, label_of};
+use crate::grammar::{Form, Label, QuestionForm, Shape, below, form_named, label_of};
 use crate::words::{first_word, last_word, next_word};
-use mpx_kind::{Fields, Mode};
+use mpx_kind::Fields;
 use mpx_num::{Listing, Ops};
 use std::marker::Model;
 
@@ -89,8 +90,7 @@ impl DirectiveSyntax<'_> {
     }
 }
 
-/// The words of a call that makes communicators: `COLOUR KEY TAG RANKS EDGES SOURCES DESTINATIONS -> TARGET`, where the kind
-/// has them.
+/// The words that say something of a new communicator: `COLOUR KEY TAG RANKS EDGES SOURCES DESTINATIONS`, where the kind has them.
 #[derive(Drop)]
 pub struct NewSyntax<'a> {
     pub colour: Option<&'a [u8]>,
@@ -100,8 +100,6 @@ pub struct NewSyntax<'a> {
     pub edges: Option<&'a [u8]>,
     pub sources: Option<&'a [u8]>,
     pub destinations: Option<&'a [u8]>,
-    pub arrow: Option<&'a [u8]>,
-    pub target: Option<&'a [u8]>,
     /// The line behind these words.
     pub behind: &'a [u8],
 }
@@ -109,7 +107,7 @@ pub struct NewSyntax<'a> {
 impl<'a> Model for NewSyntax<'a> {
     ghost use Rattle.std.specs.Option.{option_copied};
     ghost use Rattle.mpx_script.specs.Words.{words};
-    ghost use Rattle.mpx_script.specs.Syntax.{NewSyntax as NewSyntaxView};
+    ghost use Rattle.mpx_script.specs.Parts.{NewSyntax as NewSyntaxView};
 
     ghost Value = { NewSyntaxView };
 
@@ -121,14 +119,12 @@ impl<'a> Model for NewSyntax<'a> {
       edges = option_copied p.edges;
       sources = option_copied p.sources;
       destinations = option_copied p.destinations;
-      arrow = option_copied p.arrow;
-      target = option_copied p.target;
       behind = words p.behind.now;
     } };
 }
 
 /// What stands behind the communicator as the words of a call of this shape.
-#[tactic(auto, unfolding(crate::specs::Syntax::new_in))]
+#[tactic(auto, unfolding(crate::specs::Parts::new_in))]
 pub fn new_in(shape: Shape, line: &[u8]) -> NewSyntax<'_>
     ensures { result ≡ new_in shape (words line.now) }
 {
@@ -138,9 +134,7 @@ pub fn new_in(shape: Shape, line: &[u8]) -> NewSyntax<'_>
     let (ranks, rest) = next_word(shape.ranks, rest);
     let (edges, rest) = next_word(shape.edges, rest);
     let (sources, rest) = next_word(shape.neighbours, rest);
-    let (destinations, rest) = next_word(shape.neighbours, rest);
-    let (arrow, rest) = next_word(shape.target, rest);
-    let (target, behind) = next_word(shape.target, rest);
+    let (destinations, behind) = next_word(shape.neighbours, rest);
     NewSyntax {
         colour,
         key,
@@ -149,23 +143,12 @@ pub fn new_in(shape: Shape, line: &[u8]) -> NewSyntax<'_>
         edges,
         sources,
         destinations,
-        arrow,
-        target,
         behind,
     }
 }
 
-impl NewSyntax<'_> {
-    /// Whether the new communicator's name is missing, or another word stands for `->`.
-    pub fn has_wrong_words(&self, shape: Shape) -> bool
-        ensures { result ≡ has_wrong_new_words shape self.now }
-    {
-        lacks(shape.target, self.target) || is_no_arrow(self.arrow)
-    }
-}
-
-/// The fields of a call as words: `ROOT OPERATION TYPE SCOUNTS RCOUNTS ITEMS`, where the kind has them, and `-> REQUEST`, where
-/// it is nonblocking.
+/// The fields of a call as words: `ROOT OPERATION TYPE SCOUNTS RCOUNTS ITEMS`, where the kind has them, and `-> NAME`, where the
+/// call makes a communicator or is nonblocking.
 #[derive(Drop)]
 pub struct CallSyntax<'a> {
     pub root: Option<&'a [u8]>,
@@ -176,13 +159,13 @@ pub struct CallSyntax<'a> {
     /// The line behind these words, without those at its end.
     pub items: &'a [u8],
     pub arrow: Option<&'a [u8]>,
-    pub request: Option<&'a [u8]>,
+    pub name: Option<&'a [u8]>,
 }
 
 impl<'a> Model for CallSyntax<'a> {
     ghost use Rattle.std.specs.Option.{option_copied};
     ghost use Rattle.mpx_script.specs.Words.{words};
-    ghost use Rattle.mpx_script.specs.Syntax.{CallSyntax as CallSyntaxView};
+    ghost use Rattle.mpx_script.specs.Parts.{CallSyntax as CallSyntaxView};
 
     ghost Value = { CallSyntaxView };
 
@@ -194,22 +177,22 @@ impl<'a> Model for CallSyntax<'a> {
       rcounts = option_copied p.rcounts;
       items = words p.items.now;
       arrow = option_copied p.arrow;
-      request = option_copied p.request;
+      name = option_copied p.name;
     } };
 }
 
 /// What stands behind those words as the words of a call's fields.
-#[tactic(auto, unfolding(crate::specs::Syntax::call_in))]
-pub fn call_in(fields: Fields, mode: Mode, line: &[u8]) -> CallSyntax<'_>
-    ensures { result ≡ call_in fields mode (words line.now) }
+#[tactic(auto, unfolding(crate::specs::Parts::call_in))]
+pub fn call_in(fields: Fields, named: bool, line: &[u8]) -> CallSyntax<'_>
+    ensures { result ≡ call_in fields named (words line.now) }
 {
     let (root, rest) = next_word(fields.root, line);
     let (operation, rest) = next_word(fields.op, rest);
     let (ty, rest) = next_word(fields.items, rest);
     let (scounts, rest) = next_word(fields.scounts.is_had(), rest);
     let (rcounts, rest) = next_word(fields.rcounts.is_had(), rest);
-    let (request, rest) = last_word(is_nonblocking(mode), rest);
-    let (arrow, items) = last_word(is_nonblocking(mode), rest);
+    let (name, rest) = last_word(named, rest);
+    let (arrow, items) = last_word(named, rest);
     CallSyntax {
         root,
         operation,
@@ -218,7 +201,7 @@ pub fn call_in(fields: Fields, mode: Mode, line: &[u8]) -> CallSyntax<'_>
         rcounts,
         items,
         arrow,
-        request,
+        name,
     }
 }
 
@@ -242,11 +225,11 @@ impl CallSyntax<'_> {
             || (!fields.items && has_words(self.items))
     }
 
-    /// Whether the arrow of a nonblocking call is missing, or another word stands there.
-    pub fn has_wrong_end(&self, mode: Mode) -> bool
-        ensures { result ≡ has_wrong_end mode self.now }
+    /// Whether the arrow before the name is missing, or another word stands there.
+    pub fn has_wrong_end(&self, named: bool) -> bool
+        ensures { result ≡ has_wrong_end named self.now }
     {
-        lacks(is_nonblocking(mode), self.arrow) || is_no_arrow(self.arrow)
+        lacks(named, self.arrow) || is_no_arrow(self.arrow)
     }
 }
 
@@ -263,7 +246,7 @@ pub struct AskSyntax<'a> {
 impl<'a> Model for AskSyntax<'a> {
     ghost use Rattle.std.specs.Option.{option_copied};
     ghost use Rattle.mpx_script.specs.Words.{words};
-    ghost use Rattle.mpx_script.specs.Syntax.{AskSyntax as AskSyntaxView};
+    ghost use Rattle.mpx_script.specs.Parts.{AskSyntax as AskSyntaxView};
 
     ghost Value = { AskSyntaxView };
 
@@ -276,8 +259,8 @@ impl<'a> Model for AskSyntax<'a> {
 }
 
 /// What stands behind a statement's word as the words of one that asks.
-#[tactic(auto, unfolding(crate::specs::Syntax::ask_in))]
-pub fn ask_in(asked: Asked, line: &[u8]) -> AskSyntax<'_>
+#[tactic(auto, unfolding(crate::specs::Parts::ask_in))]
+pub fn ask_in(asked: QuestionForm, line: &[u8]) -> AskSyntax<'_>
     ensures { result ≡ ask_in asked (words line.now) }
 {
     let (first, rest) = first_word(line);
@@ -293,7 +276,7 @@ pub fn ask_in(asked: Asked, line: &[u8]) -> AskSyntax<'_>
 
 impl AskSyntax<'_> {
     /// Whether a word is missing, or there are more.
-    pub fn has_wrong_words(&self, asked: Asked) -> bool
+    pub fn has_wrong_words(&self, asked: QuestionForm) -> bool
         ensures { result ≡ has_wrong_question asked self.now }
     {
         self.first.is_none()

@@ -4,7 +4,7 @@ ghost use Rattle.std.specs.List.{list_any, prefix_len, position_or_len};
 ghost use Rattle.std.specs.Option.{option_copied};
 ghost use Rattle.std.specs.Str.Lines.{lines, strip_carriage_return};
 ghost use Rattle.mpx_script.specs.Words.{is_ascii, is_blank, words, counts};
-ghost use Rattle.mpx_script.specs.Syntax.{last_word, next_word, words_after, words_before};
+ghost use Rattle.mpx_script.specs.Places.{last_word, next_word, words_after, words_before};
 
 /// How many bytes there are before the first such one.
 pub fn front_len(byte: u8, text: &[u8]) -> usize

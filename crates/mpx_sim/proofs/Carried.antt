@@ -22,10 +22,10 @@ use Rattle.mpx_statement.specs.declared.statement.Posting.{Posting}
 use Rattle.mpx_statement.specs.declared.statement.Question.{Question}
 use Rattle.mpx_statement.specs.declared.statement.Statement.{Statement}
 use Rattle.mpx_statement.specs.declared.statement.Statement.TheVariants.{Post, Wait, Ask}
-use Rattle.mpx_statement.specs.Statements.{bound_to, posted_on, started_as}
+use Rattle.mpx_statement.specs.Statements.{bound_to, communicator_word, started_as}
 use Rattle.mpx_statement.specs.Lookups.{named}
 use Rattle.mpx_meaning.specs.Ranks.{Bound, Communicator, NullCommunicator, Await, Do, Local, Refused, Todo, answered_by, attempt_on, bound_by, communicator_of, found_as}
-use Rattle.mpx_meaning.specs.Evaluation.{Script, goes_on}
+use Rattle.mpx_meaning.specs.Evaluation.{Script, rank_goes_on}
 use Rattle.mpx_meaning.specs.Standing.{WaitView, binds, todo_of}
 use Rattle.mpx_meaning.specs.Transcripts.{line_text, outcome_text}
 use Rattle.mpx_meaning.proofs.Ends.{goes_on-at}
@@ -80,7 +80,7 @@ module _ (ops : List Operation) (script : Script) (ranks : ℕ) (s : System) (c 
   tried_so posting None is = refl
   tried_so posting (Some k) is =
       let b : Option Bound = Some (Communicator k.0 k.1) in
-      let so : IsBoundSo s.world p b = subst (IsBoundSo s.world p) (is k refl) (bound_so ops script ranks s c p l (posted_on posting)) in
+      let so : IsBoundSo s.world p b = subst (IsBoundSo s.world p) (is k refl) (bound_so ops script ranks s c p l (communicator_word posting)) in
       (tried_here posting b so).answer ∙ λ i. answered_so (c.made p i) (attempt_on ops p (c.made p i) posting b)
 
   pub goes_by : GoesBy ops (node_terms ops (births s.world)) (world_tells s.world p) p (s.ranks p) (λ n. n ≡ here) (λ t n. Unit {0})
@@ -110,7 +110,7 @@ module _ (ops : List Operation) (script : Script) (ranks : ℕ) (s : System) (c 
 
   apart : (todo : List Todo) → Apart todo
   apart [] = record { nodes = λ q other. refl; parts = refl }
-  apart (Do (Post posting) ∷ rest) = let d = driven_bound s.world c.upheld p posting (named (s.ranks p).bound (posted_on posting)) (bound_so ops script ranks s c p l (posted_on posting)) in record { nodes = d.nodes; parts = d.parts }
+  apart (Do (Post posting) ∷ rest) = let d = driven_bound s.world c.upheld p posting (named (s.ranks p).bound (communicator_word posting)) (bound_so ops script ranks s c p l (communicator_word posting)) in record { nodes = d.nodes; parts = d.parts }
   apart (Do (Wait words) ∷ rest) = record { nodes = λ q other. refl; parts = refl }
   apart (Do (Ask question) ∷ rest) = record { nodes = λ q other. refl; parts = refl }
   apart (Await name call target ∷ rest) = record { nodes = λ q other. refl; parts = refl }
@@ -180,7 +180,7 @@ module _ (ops : List Operation) (script : Script) (ranks size : ℕ) (begun : Mo
         at = record {
           me = me ∙ a.me;
           node = is;
-          stands = λ _. record { bound = bound; names = names; stands = subst (StandsInScript (with_births bound s)) (sym (ap (λ o. goes_on o run.system.ranks p (world_tells w p) p) by ∙ goes_on-at ops run.system.ranks p (world_tells w p) one.to one.steps)) one.stands };
+          stands = λ _. record { bound = bound; names = names; stands = subst (StandsInScript (with_births bound s)) (sym (ap (λ o. rank_goes_on o run.system.ranks p (world_tells w p) p) by ∙ goes_on-at ops run.system.ranks p (world_tells w p) one.to one.steps)) one.stands };
         };
         nodes = others.nodes;
         ranks_stay = λ q other. goes_on-other w.operations run.system.ranks p (world_tells w p) q (not_same q p other);
@@ -205,32 +205,32 @@ module _ (ops : List Operation) (script : Script) (ranks size : ℕ) (begun : Mo
 
   module _ (posting : Posting) (rest : List Statement) (waits : r.waits ≡ None) (todo : r.todo ≡ Post posting ∷ rest) where
     abbrev on : Option CommunicatorView
-    on = communicator_in (stands.bound (posted_on posting))
+    on = communicator_in (stands.bound (communicator_word posting))
 
-    on_is : name_in (communicator_in (r.bound (posted_on posting))) ≡ name_of on
-    on_is = names_on (r.bound (posted_on posting)) (stands.bound (posted_on posting)) (stands.names (posted_on posting))
+    on_is : name_in (communicator_in (r.bound (communicator_word posting))) ≡ name_of on
+    on_is = names_on (r.bound (communicator_word posting)) (stands.bound (communicator_word posting)) (stands.names (communicator_word posting))
 
     tried_next : (tried_on ops posting (name_of on) node).node ≡ ((goes_on_world w (posts_of w.operations p (w.each p).made local.bound local.todo)).each p).node
     tried_next =
-        let b = named local.bound (posted_on posting) in
-        let same : on ≡ communicator_of b = sym (communicator_same (stands.bound (posted_on posting))) ∙ ap communicator_of (stands.stands.bound (posted_on posting)) in
+        let b = named local.bound (communicator_word posting) in
+        let same : on ≡ communicator_of b = sym (communicator_same (stands.bound (communicator_word posting))) ∙ ap communicator_of (stands.stands.bound (communicator_word posting)) in
         (λ i. (tried_on ops posting (name_of (same i)) (node_is i)).node)
-        ∙ (tried_here ops script ranks run.system coupled p l posting b (bound_so ops script ranks run.system coupled p l (posted_on posting))).node
+        ∙ (tried_here ops script ranks run.system coupled p l posting b (bound_so ops script ranks run.system coupled p l (communicator_word posting))).node
         ∙ ap (λ todo. ((goes_on_world w (posts_of w.operations p (w.each p).made local.bound todo)).each p).node) (sym (todo_is None (Post posting ∷ rest) waits todo))
 
-    posts_next : (name : Name) (call : ℕ) (m : NodeView) → started_as posting ≡ None → Tries (tried_on ops posting (name_in (communicator_in (r.bound (posted_on posting)))) node) (Ok (name, call)) m
+    posts_next : (name : Name) (call : ℕ) (m : NodeView) → started_as posting ≡ None → Tries (tried_on ops posting (name_in (communicator_in (r.bound (communicator_word posting)))) node) (Ok (name, call)) m
         → IsUnderWay ops script ranks size begun Alone (set processes p (record { rank = posted r posting rest name call; node = m })) frames
     posts_next name call m none tries =
         let tried : Tries (tried_on ops posting (name_of on) node) (Ok (name, call)) m = subst (λ o. Tries (tried_on ops posting o node) (Ok (name, call)) m) on_is tries in
         moves (posted r posting rest name call) stands.bound m refl stands.names (posts posting rest name call waits todo none tried) (tried.1 ∙ tried_next)
 
-    starts_next : (word : List ℕ) (name : Name) (call : ℕ) (m : NodeView) → started_as posting ≡ Some word → Tries (tried_on ops posting (name_in (communicator_in (r.bound (posted_on posting)))) node) (Ok (name, call)) m
+    starts_next : (word : List ℕ) (name : Name) (call : ℕ) (m : NodeView) → started_as posting ≡ Some word → Tries (tried_on ops posting (name_in (communicator_in (r.bound (communicator_word posting)))) node) (Ok (name, call)) m
         → IsUnderWay ops script ranks size begun Alone (set processes p (record { rank = started r word rest name call; node = m })) frames
     starts_next word name call m open_as tries =
         let tried : Tries (tried_on ops posting (name_of on) node) (Ok (name, call)) m = subst (λ o. Tries (tried_on ops posting o node) (Ok (name, call)) m) on_is tries in
         moves (started r word rest name call) stands.bound m refl stands.names (starts posting rest word name call waits todo open_as tried) (tried.1 ∙ tried_next)
 
-    refused_next : (refusal : PostError) (text : List ℕ) (m : NodeView) → (refusal ≡ OutOfMemory → ⊥) → Tries (tried_on ops posting (name_in (communicator_in (r.bound (posted_on posting)))) node) (Err refusal) m → text ≡ line_text (Refused refusal)
+    refused_next : (refusal : PostError) (text : List ℕ) (m : NodeView) → (refusal ≡ OutOfMemory → ⊥) → Tries (tried_on ops posting (name_in (communicator_in (r.bound (communicator_word posting)))) node) (Err refusal) m → text ≡ line_text (Refused refusal)
         → IsUnderWay ops script ranks size begun Alone (set processes p (record { rank = refused r posting rest text; node = m })) frames
     refused_next refusal text m other tries said =
         let tried : Tries (tried_on ops posting (name_of on) node) (Err refusal) m = subst (λ o. Tries (tried_on ops posting o node) (Err refusal) m) on_is tries in

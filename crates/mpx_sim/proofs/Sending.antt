@@ -12,7 +12,7 @@ use Rattle.mpx_format.specs.declared.defects.WireError.{WireError}
 use Rattle.mpx_format.specs.declared.versions.Version.{Version}
 use Rattle.mpx_format.specs.Decoding.{Spells, decoded}
 use Rattle.mpx_format.proofs.Decoded.{decoded_again}
-use Rattle.mpx_parts.specs.Facts.{OnlyFactsOf}
+use Rattle.mpx_delta.specs.Facts.{OnlyFactsOf}
 use Rattle.mpx_meaning.specs.Evaluation.{Script}
 use Rattle.mpx_sim.specs.declared.frame_under_way.FrameUnderWay.{FrameUnderWay}
 use Rattle.mpx_sim.specs.declared.schedule.Schedule.{Schedule}

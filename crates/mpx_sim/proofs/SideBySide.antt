@@ -1,6 +1,6 @@
 -- What processes do side by side, as steps of a run, one process after the other.
 use Rattle.std.proofs.Common.{◌≡◌, ℕ, zero, suc, ◌+◌, ◌<◌, ◌≤◌, Bool, true, false, List, [], ◌∷◌, length, map, set, get_or, Some, refl, sym, ap, ◌∙◌, subst, arith, ◌⊎◌, inl, inr}
-use Rattle.std.specs.Prelude.{slice_get, if◌then◌else◌}
+use Rattle.std.specs.Prelude.{IfSome, slice_get, if◌then◌else◌}
 use Rattle.std.specs.List.{All}
 use Rattle.std.specs.Option.{option_map}
 use Rattle.std.specs.Fork.{ChangesAt, ChangesEach}
@@ -9,6 +9,8 @@ use denote.Ref.{MutBor}
 use denote.Param.Members.{Shared}
 use Rattle.mpx_num.specs.declared.own.Operation.{Operation}
 use Rattle.mpx_board.specs.Boards.{Look}
+use Rattle.mpx_delta.specs.declared.framed.NewFrames.{NewFrames}
+use Rattle.mpx_node.specs.Deltas.{LackFrames}
 use Rattle.mpx_node.specs.Nodes.{learn}
 use Rattle.mpx_meaning.specs.Evaluation.{Script}
 use Rattle.mpx_post.proofs.Lists.{set_has, set_same, set_twice, written}
@@ -18,7 +20,7 @@ use Rattle.mpx_sim.specs.declared.process.Process.{Process}
 use Rattle.mpx_sim.specs.Draws.{ScheduleView}
 use Rattle.mpx_sim.specs.Running.{IsUnderWay, Keeps, Moves, ProcessView}
 use Rattle.mpx_sim.specs.Shown.{part_of, process_of}
-use Rattle.mpx_sim.specs.SideBySide.{AllGoOn, AllMake, GoesOn, HasToSend, Makes, all_taken, comes, taken, took}
+use Rattle.mpx_sim.specs.SideBySide.{AllGoOn, AllMake, GoesOn, HasToSend, IsReady, Makes, all_taken, comes, taken, took}
 use Rattle.mpx_sim.specs.Turns.{Alone, Coming, Going, Moment}
 use Rattle.mpx_sim.proofs.Running.{read_at, run_takes}
 
@@ -127,6 +129,12 @@ run_gone ops count turn fs old new all script ranks size begun frames few run =
     run
 
 -- EACH MAKES ITS FRAMES
+
+-- what is so of the frames that a process has made ahead stays so where it stays the same process
+pub ready_same : (old new : Process) → process_of new ≡ process_of old → new.notes.ahead ≡ old.notes.ahead → IsReady old → IsReady new
+ready_same old new same ahead h =
+    subst (λ a. IfSome a (λ (made : NewFrames). LackFrames 1048576 (process_of new).node made.said (map (λ frame. frame.items) made.frames.items))) (sym ahead)
+    (subst (λ (v : ProcessView). IfSome old.notes.ahead (λ (made : NewFrames). LackFrames 1048576 v.node made.said (map (λ frame. frame.items) made.frames.items))) (sym same) h)
 
 pub run_made : (turn : ℕ) (old new : List Process) → AllMake turn old new → (ops : List Operation) (script : Script) (ranks size : ℕ) (begun : Moment) (t : ScheduleView) (frames : List Look) → IsUnderWay ops script ranks size begun (Going t) (map process_of old) frames
     → IsUnderWay ops script ranks size begun (Going t) (map process_of new) frames

@@ -7,7 +7,7 @@ use Rattle.mpx_board.specs.Boards.{Look}
 use Rattle.mpx_board.specs.Looks.{look, parts_of}
 use Rattle.mpx_format.specs.declared.versions.Version.TheVariants.{Two}
 use Rattle.mpx_format.specs.Decoding.{decoded, shown}
-use Rattle.mpx_parts.specs.Facts.{OnlyFactsOf}
+use Rattle.mpx_delta.specs.Facts.{OnlyFactsOf}
 use Rattle.mpx_delta.specs.Lacking.{AreSpelled}
 use Rattle.mpx_sim.proofs.Sending.{spelled_ok, spelled_shown}
 

@@ -5,7 +5,7 @@ use Rattle.std.specs.Option.{option_map}
 use Rattle.mpx_num.specs.declared.own.Operation.{Operation}
 use Rattle.mpx_comm.specs.declared.comm.Comm.{Comm}
 use Rattle.mpx_meaning.specs.Ranks.{Communicator, doing}
-use Rattle.mpx_meaning.specs.Evaluation.{Script, bound_at_start, start, world_of}
+use Rattle.mpx_meaning.specs.Evaluation.{Script, bound_at_start, start_state, world_of}
 use Rattle.mpx_meaning.specs.Standing.{todo_of}
 use Rattle.mpx_statement.specs.Lookups.{named}
 use Rattle.mpx_rank.specs.Moves.{RankView, bound_first}
@@ -35,7 +35,7 @@ bound_there ranks word = by_test (bytes_eq word (codes "world")) where
 
 -- a rank before its statements stands at the start of its script
 pub stands_first : (script : Script) (ranks p : ℕ) (r : RankView Comm) (world : Option Comm) → name_in world ≡ Some [] → ((word : List ℕ) → r.bound word ≡ bound_first world word) → ((word : List ℕ) → r.requests word ≡ None)
-    → slice_get script p ≡ Some r.todo → r.waits ≡ None → r.lines ≡ [] → r.origins ≡ [] → StandsBy r (start script ranks p)
+    → slice_get script p ≡ Some r.todo → r.waits ≡ None → r.lines ≡ [] → r.origins ≡ [] → StandsBy r (start_state script ranks p)
 stands_first script ranks p r world named_so bound requests todo waits lines origins = record {
   bound = bound_first (Some ([], world_of ranks));
   names = λ word. ap (option_map name_in) (bound word) ∙ names_first world named_so (Some ([], world_of ranks)) refl word;

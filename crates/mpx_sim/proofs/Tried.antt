@@ -12,6 +12,7 @@ use Rattle.mpx_comm.specs.Requests.{Asks, AsksGathered, IsRefusal}
 use Rattle.mpx_comm.specs.declared.request.Request.{Request}
 use Rattle.mpx_node.specs.Nodes.{NodeView, Opens, checked_on, gathering_name, gathers_on}
 use Rattle.mpx_statement.specs.declared.statement.Posting.{Posting}
+use Rattle.mpx_statement.specs.declared.statement.Posting.TheVariants.{CreateGroup}
 use Rattle.mpx_statement.specs.Statements.{Gathers, create_group_draft, draft_of, gathers_of}
 use Rattle.mpx_sim.specs.Carrying.{Tries, tried_gathered, tried_in, tried_on, tried_post}
 use Rattle.mpx_sim.specs.Shown.{call_in, call_of}
@@ -50,6 +51,11 @@ tries_asked_gathered ops node turned parent tag ranks result old new before afte
       | inl h ↦ subst (λ r. Tries (tried_gathered ops parent create_group_draft x (node old)) (call_in r) (node new)) (sym h.1) (refused_gathering ops parent create_group_draft x h.0 (node old) (node new) h.2)
       | inr h ↦ tries_gathered ops parent create_group_draft x h.0 (node old) (node h.1) (call_in result) (node new) h.2 (tries_asked ops h.0 create_group_draft result (node h.1) (node new) before after h.4)
     ]
+
+-- only create_group gathers members
+pub gathers_none : (posting : Posting) → ((on : List ℕ) (tag : ℤ) (ranks : List ℤ) (to : List ℕ) → posting ≡ CreateGroup on tag ranks to → ⊥) → gathers_of posting ≡ None
+gathers_none (CreateGroup on tag ranks to) other = absurd (other on tag ranks to refl)
+gathers_none posting other = refl
 
 module _ (ops : List Operation) (posting : Posting) (on : Option Name) (name : Name) (is : on ≡ Some name) (old : NodeView) (answer : Result (Name × ℕ) PostError) (new : NodeView) where
   -- a statement that gathers nobody is tried on its communicator

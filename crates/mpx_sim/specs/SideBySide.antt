@@ -1,11 +1,11 @@
 -- What the processes of a run do side by side, each by itself.
-use Rattle.std.specs.Prelude.{◌≡◌, ◌&&◌, ℕ, suc, ◌≤◌, Bool, nat_eq, List, [], ◌∷◌, length, map, Some, slice_get, if◌then◌else◌}
+use Rattle.std.specs.Prelude.{◌≡◌, ◌&&◌, ℕ, suc, ◌≤◌, Bool, nat_eq, List, [], ◌∷◌, length, map, Some, IfSome, slice_get, if◌then◌else◌}
 use Rattle.std.proofs.Common.{set}
 use Rattle.std.specs.List.{All}
 use Rattle.mpx_num.specs.declared.own.Operation.{Operation}
 use Rattle.mpx_board.specs.Boards.{Look, join_all}
-use Rattle.mpx_parts.specs.Facts.{OnlyFactsOf}
-use Rattle.mpx_node.specs.Deltas.{lacking_on}
+use Rattle.mpx_delta.specs.Facts.{OnlyFactsOf}
+use Rattle.mpx_node.specs.Deltas.{LackFrames, lacking_on}
 use Rattle.mpx_node.specs.Nodes.{learn}
 use Rattle.mpx_meaning.specs.Evaluation.{Script}
 use Rattle.mpx_sim.specs.declared.frame_under_way.FrameUnderWay.{FrameUnderWay}
@@ -47,6 +47,13 @@ abbrev pub AllGoOn : List Operation → (count turn : ℕ) → List FrameUnderWa
 AllGoOn ops count turn frames old new = (length new ≡ length old) × ((place : ℕ) (v w : ProcessView) → slice_get old place ≡ Some v → slice_get new place ≡ Some w → GoesOn ops count place (taken place turn frames v) w)
 
 -- EACH MAKES ITS FRAMES
+
+-- the frames that a process has made ahead, if any, are those of its board as it stands
+abbrev pub IsReady : Process → Type 0
+IsReady p = IfSome p.notes.ahead (λ made. LackFrames 1048576 (process_of p).node made.said (map (λ frame. frame.items) made.frames.items))
+
+abbrev pub AreReady : List Process → Type 0
+AreReady ps = (place : ℕ) (p : Process) → slice_get ps place ≡ Some p → IsReady p
 
 -- a process has frames to send, which say only what its board has
 abbrev pub HasToSend : Process → Type 0

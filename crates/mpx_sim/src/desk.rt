@@ -5,11 +5,11 @@ ghost use Rattle.mpx_num.specs.declared.own.Operation.{Operation};
 ghost use Rattle.mpx_comm.specs.Harvested.{Harvested};
 ghost use Rattle.mpx_comm.specs.Later.{IsPending};
 ghost use Rattle.mpx_comm.specs.declared.request.Request.{Request as Posted};
-ghost use Rattle.mpx_node.specs.Nodes.{checked_on, gathers_on, start_node};
+ghost use Rattle.mpx_node.specs.Nodes.{gathers_on, start_node};
 ghost use Rattle.mpx_node.specs.Shown.{node_of};
-ghost use Rattle.mpx_statement.specs.Statements.{create_group_draft, draft_of};
+ghost use Rattle.mpx_statement.specs.Statements.{create_group_draft};
 ghost use Rattle.mpx_rank.specs.Shown.{requests_of};
-ghost use Rattle.mpx_sim.specs.Carrying.{Tries, tried_gathered, tried_on, tried_post};
+ghost use Rattle.mpx_sim.specs.Carrying.{Tries, tried_gathered, tried_on};
 ghost use Rattle.mpx_sim.specs.Ends.{OneIsOpen};
 ghost use Rattle.mpx_sim.specs.Running.{KeepsNode, name_in};
 ghost use Rattle.mpx_sim.specs.Shown.{call_in, call_of};
@@ -76,7 +76,10 @@ impl RunDesk {
     pub(crate) fn harvest(&mut self, alloc: Global, ops: &Ops) -> Result<(), OutOfMemory>
         ensures { OnOk result (Harvested (⟦<Ops as Listing>⟧.operations ops.now) (node_of self.old.desk.host) (node_of self.new.desk.host)) }
     {
-        harvest_all(alloc, &mut self.desk, &self.contexts, ops)
+        for name in &self.contexts {
+            harvest_on(alloc, &mut self.desk, name, ops)?;
+        }
+        Ok(())
     }
 
     /// Whether the call of a request isn't done, and can't be by what the board has.
@@ -257,9 +260,12 @@ fn attempt(
         Posting::CreateGroup { tag, ranks, .. } => {
             start_create_group(alloc, desk, on, tag, ranks, ops)
         }
-        Posting::Call { .. } => post_on(alloc, desk, on, posting, ops),
-        Posting::Start { .. } => post_on(alloc, desk, on, posting, ops),
-        Posting::New { .. } => post_on(alloc, desk, on, posting, ops),
+        _ => {
+            let Ok(draft) = posting.draft() else {
+                return Err(PostError::OutOfMemory);
+            };
+            desk.post(alloc, on, draft, ops)
+        }
     }
 }
 
@@ -276,21 +282,6 @@ fn start_create_group(
     desk.start_create_group(alloc, parent, *tag, ranks.as_slice(), ops)
 }
 
-fn post_on(
-    alloc: Global,
-    desk: &mut Desk<Node>,
-    on: &Comm,
-    posting: &Posting,
-    ops: &Ops,
-) -> Result<Request, PostError>
-    ensures { Tries (tried_post on.now.name (checked_on (⟦<Ops as Listing>⟧.operations ops.now) (node_of desk.old.host) on.now.name (draft_of posting.now)) (node_of desk.old.host)) (call_in result) (node_of desk.new.host) }
-{
-    let Ok(draft) = posting.draft() else {
-        return Err(PostError::OutOfMemory);
-    };
-    desk.post(alloc, on, draft, ops)
-}
-
 // Every process looks at the world.
 fn contexts_at_start(alloc: Global) -> Result<Vec<Name>, OutOfMemory> {
     let mut contexts = Vec::new(alloc);
@@ -298,22 +289,7 @@ fn contexts_at_start(alloc: Global) -> Result<Vec<Name>, OutOfMemory> {
     Ok(contexts)
 }
 
-// Stores the results of each context, until no further one can be had.
-fn harvest_all(
-    alloc: Global,
-    desk: &mut Desk<Node>,
-    contexts: &[Name],
-    ops: &Ops,
-) -> Result<(), OutOfMemory>
-    ensures { OnOk result (Harvested (⟦<Ops as Listing>⟧.operations ops.now) (node_of desk.old.host) (node_of desk.new.host)) }
-{
-    for name in contexts {
-        harvest_on(alloc, desk, name, ops)?;
-    }
-    Ok(())
-}
-
-// The same of one context: each of its posted calls is harvested at most once.
+// Stores the results of a context, until no further one can be had: each of its posted calls is harvested at most once.
 fn harvest_on(
     alloc: Global,
     desk: &mut Desk<Node>,

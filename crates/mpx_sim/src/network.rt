@@ -4,12 +4,12 @@ ghost use Rattle.std.proofs.Common.{set};
 ghost use Rattle.std.specs.List.Sorted.{IsPermutation};
 ghost use Rattle.mpx_num.specs.declared.own.Operation.{Operation};
 ghost use Rattle.mpx_board.specs.Boards.{Look};
-ghost use Rattle.mpx_parts.specs.Facts.{OnlyFactsOf};
+ghost use Rattle.mpx_delta.specs.Facts.{OnlyFactsOf};
 ghost use Rattle.mpx_meaning.specs.Evaluation.{Script as Statements};
 ghost use Rattle.mpx_sim.specs.Draws.{AreDrawn, ScheduleView, generator};
 ghost use Rattle.mpx_sim.specs.Running.{IsUnderWay, ProcessView};
 ghost use Rattle.mpx_sim.specs.Shown.{part_of, process_of, schedule_of};
-ghost use Rattle.mpx_sim.specs.SideBySide.{HasToSend};
+ghost use Rattle.mpx_sim.specs.SideBySide.{AreReady, HasToSend};
 ghost use Rattle.mpx_sim.specs.Turns.{Coming, Going, Moment};
 
 use crate::frame_under_way::FrameUnderWay;
@@ -17,7 +17,7 @@ use crate::observer::Observer;
 use crate::process::Process;
 use crate::schedule::Schedule;
 use join_core::OutOfMemory;
-use mpx_job::Options;
+use mpx_statement::Options;
 use std::alloc::Global;
 use std::mem;
 
@@ -73,7 +73,8 @@ impl Network {
 
 /// Every process that has no spare bytes to write its next frame over gets some, where there are such.
 pub(crate) fn hand_out(processes: &mut [Process<'_>], spare: &mut Vec<Vec<u8>>)
-    ensures { map process_of processes.new ≡ map process_of processes.old }
+    ensures same { map process_of processes.new ≡ map process_of processes.old }
+    ensures ready { AreReady processes.old → AreReady processes.new }
 {
     for p in 0..processes.len() {
         hand_to(&mut processes[p], spare);
@@ -82,7 +83,8 @@ pub(crate) fn hand_out(processes: &mut [Process<'_>], spare: &mut Vec<Vec<u8>>)
 
 // A process gets some, where it has none. Where memory for that is refused, they go.
 fn hand_to(process: &mut Process<'_>, spare: &mut Vec<Vec<u8>>)
-    ensures { process_of process.new ≡ process_of process.old }
+    ensures same { process_of process.new ≡ process_of process.old }
+    ensures ahead { process.new.notes.ahead ≡ process.old.notes.ahead }
 {
     if !process.notes.spare.is_empty() {
         return;

@@ -48,7 +48,16 @@ pub trait Observer: Drop {
     /// A rank has new lines in this turn, from 1 on, be it the one that ends the run: all its lines so far.
     fn told(&mut self, _turn: u32, _rank: u8, _lines: &[String]) {}
 
-    /// The run is over.
+    /// Whether it is to be told how far a run in threads is.
+    fn follows_threads(&self) -> bool {
+        false
+    }
+
+    /// Where it follows runs in threads: such a run goes on, and is so far. Here `done` and `all` count calls, done with those that ranks have
+    /// begun. One thread alone tells it that, now and then.
+    fn goes_on(&mut self, _progress: Progress) {}
+
+    /// The run is over: a simulated one, or one in threads where it follows these.
     fn over(&mut self);
 }
 

@@ -1,12 +1,12 @@
 //! A process of a run: a rank, which goes on with its statements, or a relay, which has none.
-ghost use Rattle.std.specs.Prelude.{◌≡◌, ◌↔◌, ◌<◌, ◌≤◌, [], All, List, IfOk, IsTrue, OnOk, Some, false, map, slice_get, string_bytes, true};
+ghost use Rattle.std.specs.Prelude.{◌≡◌, ◌<◌, ◌≤◌, [], All, List, IfOk, IfSome, OnOk, Some, false, map, slice_get, string_bytes, true};
 ghost use Rattle.mpx_num.specs.declared.own.Operation.{Operation};
 ghost use Rattle.mpx_board.specs.Boards.{join_all};
-ghost use Rattle.mpx_parts.specs.Facts.{OnlyFactsOf};
-ghost use Rattle.mpx_node.specs.Deltas.{AreLacked, lacking_on};
+ghost use Rattle.mpx_delta.specs.Facts.{OnlyFactsOf};
+ghost use Rattle.mpx_node.specs.Deltas.{AreLacked, LackFrames, lacking_on};
 ghost use Rattle.mpx_node.specs.Nodes.{learn};
 ghost use Rattle.mpx_node.specs.Shown.{node_of};
-ghost use Rattle.mpx_meaning.specs.Evaluation.{Script as Statements, start};
+ghost use Rattle.mpx_meaning.specs.Evaluation.{Script as Statements, start_state};
 ghost use Rattle.mpx_sim.specs.Running.{StandsBy, name_in};
 ghost use Rattle.mpx_sim.specs.Shown.{part_of};
 
@@ -19,6 +19,7 @@ use crate::sender::Sender;
 use join_core::OutOfMemory;
 use mpx_board::Board;
 use mpx_comm::Comm;
+use mpx_delta::NewFrames;
 use mpx_group::Proc;
 use mpx_node::Node;
 use mpx_num::{Listing, Ops};
@@ -42,7 +43,7 @@ impl<'a> Process<'a> {
     ghost use Rattle.mpx_rank.specs.Moves.{is_waiting};
     ghost use Rattle.mpx_sim.specs.Ends.{Lacks};
     ghost use Rattle.mpx_sim.specs.Running.{Keeps, Moves};
-    ghost use Rattle.mpx_sim.specs.SideBySide.{GoesOn, Makes, taken, took};
+    ghost use Rattle.mpx_sim.specs.SideBySide.{GoesOn, IsReady, Makes, taken, took};
     ghost use Rattle.mpx_sim.specs.Shown.{process_of};
     ghost use Rattle.mpx_sim.specs.Draws.{ScheduleView};
     ghost use Rattle.mpx_sim.specs.Turns.{Alone, Going};
@@ -61,7 +62,7 @@ impl<'a> Process<'a> {
         requires me { me < processes }
         ensures me { IfOk result (λ process. (process_of process).rank.me ≡ me) }
         ensures node { IfOk result (λ process. (process_of process).node ≡ start_node me ranks processes) }
-        ensures stands { IfOk result (λ process. (script : Statements) → me < ranks → slice_get script me ≡ Some todo.now → StandsBy (process_of process).rank (start script ranks me)) }
+        ensures stands { IfOk result (λ process. (script : Statements) → me < ranks → slice_get script me ≡ Some todo.now → StandsBy (process_of process).rank (start_state script ranks me)) }
     {
         let world = world_of(alloc, me, ranks);
         let me = Proc::new(me);
@@ -99,7 +100,9 @@ impl<'a> Process<'a> {
     pub(crate) fn lacks(&mut self, alloc: Global, ops: &Ops) -> Result<bool, OutOfMemory>
         ensures keeps { OnOk result (Keeps Alone (⟦<Ops as Listing>⟧.operations ops.now) (process_of self.old) (process_of self.new)) }
         ensures lacks { IfOk result (λ lacks. lacks ≡ true → Lacks (process_of self.new)) }
+        ensures ready { IsReady self.new }
     {
+        let _ = self.notes.ahead.take();
         if let Some(call) = self.rank.awaited() {
             return self.carrier.is_open(alloc, call, ops);
         }
@@ -142,28 +145,23 @@ impl<'a> Process<'a> {
         Ok(moved | pruned)
     }
 
-    /// Whether the frames of its last list are out before this turn.
-    pub(crate) fn has_sent(&self, turn: u64) -> bool
-        ensures { IsTrue result ↔ (self.now.sender.out ≤ turn) }
-    {
-        self.sender.has_sent(turn)
-    }
-
-    /// How many lists of frames it has made.
-    pub(crate) fn lists(&self) -> usize {
-        self.sender.lists()
-    }
-
     /// Says what the process has, and gives the frames of what others may lack of its board: its next list, which goes out from this turn
-    /// on. They are written over spare bytes.
+    /// on. They are those that were made ahead, or are made now, over spare bytes.
     pub(crate) fn make_list(
         &mut self,
         alloc: Global,
+        ahead: Option<NewFrames>,
         turn: u64,
     ) -> Result<Vec<Vec<u8>>, OutOfMemory>
+        requires { IfSome ahead (λ made. LackFrames 1048576 (process_of self.old).node made.said (map (λ frame. frame.items) made.frames.items)) }
         ensures keeps { OnOk result ((t : ScheduleView) (operations : List Operation) → Keeps (Going t) operations (process_of self.old) (process_of self.new)) }
         ensures frames { IfOk result (λ made. AreLacked 1048576 (process_of self.new).node (map (λ frame. frame.items) made.items)) }
     {
+        if let Some(made) = ahead {
+            let frames = self.carrier.desk.say(made);
+            self.sender.sends(turn, frames.len());
+            return Ok(frames);
+        }
         let made = self
             .carrier
             .desk
@@ -176,43 +174,68 @@ impl<'a> Process<'a> {
     pub(crate) fn make_frames(
         &mut self,
         alloc: Global,
+        ahead: Option<NewFrames>,
         to: usize,
         turn: u64,
     ) -> Result<Vec<FrameUnderWay>, OutOfMemory>
+        requires { IfSome ahead (λ made. LackFrames 1048576 (process_of self.old).node made.said (map (λ frame. frame.items) made.frames.items)) }
         ensures keeps { OnOk result ((t : ScheduleView) (operations : List Operation) → Keeps (Going t) operations (process_of self.old) (process_of self.new)) }
         ensures facts { IfOk result (λ made. All (λ frame. OnlyFactsOf (part_of frame) (process_of self.new).node.board) made.items) }
         ensures join { IfOk result (λ made. join_all (map part_of made.items) ≡ lacking_on (process_of self.new).node) }
     {
-        let list = self.make_list(alloc, turn)?;
+        let list = self.make_list(alloc, ahead, turn)?;
         frames_with(alloc, list, self.me(), to, turn)
     }
 
-    /// Where its last list is out, notes the frames of the next one, which go to the process that is next; else notes none. It notes where memory
-    /// is wanting.
-    pub(crate) fn make(
+    /// Where its last list is out, says what it has, and notes the frames of the next list, which go to the process that is next; else it notes
+    /// none.
+    pub(crate) fn say(
         &mut self,
         alloc: Global,
         place: usize,
         processes: usize,
         schedule: &Schedule,
         turn: u64,
-    )
-        requires { place < processes }
-        ensures { self.new.notes.failed ≡ false → Makes turn self.old self.new }
+    ) -> Result<(), OutOfMemory>
+        requires place { place < processes }
+        requires ready { IsReady self.old }
+        ensures { OnOk result (Makes turn self.old self.new) }
     {
-        if !self.has_sent(turn) {
+        let ahead = self.notes.ahead.take();
+        if !self.sender.has_sent(turn) {
             self.notes.made = Vec::new(alloc);
+            return Ok(());
+        }
+        let to = schedule.receiver(place, self.sender.lists(), processes);
+        let made = self.make_frames(alloc, ahead, to, turn)?;
+        self.notes.made = made;
+        Ok(())
+    }
+
+    // For a turn to come, where it is told of one and its last list is out before that, makes the frames of its next list ahead, of its board as it
+    // stands. Where memory is wanting it makes none.
+    fn look_ahead(&mut self, alloc: Global, next: Option<u64>)
+        ensures process { process_of self.new ≡ process_of self.old }
+        ensures ready { IsReady self.new }
+    {
+        self.notes.ahead = None;
+        let Some(turn) = next else {
+            return;
+        };
+        if !self.sender.has_sent(turn) {
             return;
         }
-        let to = schedule.receiver(place, self.lists(), processes);
-        match self.make_frames(alloc, to, turn) {
-            Ok(made) => self.notes.made = made,
-            Err(_) => self.notes.failed = true,
+        let made = self
+            .carrier
+            .desk
+            .lacking_frames(alloc, MOST_BYTES, &mut self.notes.spare);
+        if let Ok(made) = made {
+            self.notes.ahead = Some(made);
         }
     }
 
     /// Takes the frames among these that come to it in this turn, and goes on by itself then. It notes whether it did, how many of its lines were
-    /// told before, and where memory is wanting.
+    /// told before, and where memory is wanting. For a turn behind this one, where it is told of one, it looks ahead.
     pub(crate) fn take_and_go_on(
         &mut self,
         alloc: Global,
@@ -220,13 +243,17 @@ impl<'a> Process<'a> {
         ranks: usize,
         frames: &[FrameUnderWay],
         turn: u64,
+        next: Option<u64>,
         ops: &Ops,
     )
-        ensures { self.new.notes.failed ≡ false → GoesOn (⟦<Ops as Listing>⟧.operations ops.now) ranks place (taken place turn frames.now (process_of self.old)) (process_of self.new) }
+        ensures { self.new.notes.failed ≡ false → GoesOn (⟦<Ops as Listing>⟧.operations ops.now) ranks place (taken place turn frames.now (process_of self.old)) (process_of self.new) × IsReady self.new }
     {
         self.notes.told = self.lines().len();
         match self.take_then_step(alloc, place, ranks, frames, turn, ops) {
-            Ok(changed) => self.notes.changed = changed,
+            Ok(changed) => {
+                self.notes.changed = changed;
+                self.look_ahead(alloc, next);
+            }
             Err(_) => self.notes.failed = true,
         }
     }

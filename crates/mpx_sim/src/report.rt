@@ -14,12 +14,12 @@ use crate::observer::{Observer, Unobserved};
 use crate::process::Process;
 use crate::turns::simulate;
 use join_core::OutOfMemory;
-use mpx_job::Options;
 use mpx_meaning::Report;
 use mpx_node::Node;
 use mpx_num::{Listing, Ops};
 use mpx_rank::push_where;
 use mpx_script::Script;
+use mpx_statement::Options;
 use std::alloc::Global;
 use std::thread::Threads;
 

@@ -2,7 +2,7 @@
 ghost use Rattle.std.specs.Prelude.{◌≡◌, ◌<◌, All, OnOk, false, map};
 ghost use Rattle.mpx_num.specs.Own.{operation_of};
 ghost use Rattle.mpx_sim.specs.Shown.{process_of};
-ghost use Rattle.mpx_sim.specs.SideBySide.{AllGoOn, AllMake, GoesOn, Makes, taken};
+ghost use Rattle.mpx_sim.specs.SideBySide.{AllGoOn, AllMake, AreReady, GoesOn, IsReady, taken};
 
 use crate::frame_under_way::FrameUnderWay;
 use crate::process::Process;
@@ -19,7 +19,7 @@ struct Lent<'a> {
 }
 
 /// Each process takes the frames among these that come to it in this turn, and goes on by itself then, where so many are ranks: in at most so
-/// many threads. It answers whether one moved or dropped anything.
+/// many threads. For a turn behind this one, where there is one, each looks ahead. It answers whether one moved or dropped anything.
 pub(crate) fn go_on_all<R: Threads + Sync>(
     rt: &R,
     alloc: Global,
@@ -28,39 +28,38 @@ pub(crate) fn go_on_all<R: Threads + Sync>(
     ranks: usize,
     frames: &[FrameUnderWay],
     turn: u64,
+    next: Option<u64>,
     ops: &Ops,
 ) -> Result<bool, OutOfMemory>
     requires { 0 < threads }
-    ensures { OnOk result (AllGoOn (⟦<Ops as Listing>⟧.operations ops.now) ranks turn frames.now (map process_of processes.old) (map process_of processes.new)) }
+    ensures goes { OnOk result (AllGoOn (⟦<Ops as Listing>⟧.operations ops.now) ranks turn frames.now (map process_of processes.old) (map process_of processes.new)) }
+    ensures ready { OnOk result (AreReady processes.new) }
 {
     let lent = &Lent { ops };
     let work = |place: usize, process: &mut Process<'_>|
-        ensures { process.exit.now.notes.failed ≡ false → GoesOn (map (λ b. operation_of (word_bytes (b.vtable, b.value)) (fits_type (b.vtable, b.value)) (combination (b.vtable, b.value))) lent.entry.now.ops.now.list.items) ranks place (taken place turn frames.entry.now (process_of process.entry.now)) (process_of process.exit.now) }
-    { process.take_and_go_on(alloc, place, ranks, frames, turn, lent.ops) };
+        ensures { process.exit.now.notes.failed ≡ false → GoesOn (map (λ b. operation_of (word_bytes (b.vtable, b.value)) (fits_type (b.vtable, b.value)) (combination (b.vtable, b.value))) lent.entry.now.ops.now.list.items) ranks place (taken place turn frames.entry.now (process_of process.entry.now)) (process_of process.exit.now) × IsReady process.exit.now }
+    { process.take_and_go_on(alloc, place, ranks, frames, turn, next, lent.ops) };
     for_each_mut(rt, processes, threads, &work);
     none_failed(processes)?;
     Ok(one_changed(processes))
 }
 
-/// Each process whose last list is out makes the frames of the next one, in at most so many threads.
-pub(crate) fn make_all<R: Threads + Sync>(
-    rt: &R,
+/// Each process whose last list is out says what it has, and notes the frames of the next list, one process after the other: those that it made
+/// ahead, or else it makes them now.
+pub(crate) fn say_all(
     alloc: Global,
-    threads: usize,
     processes: &mut [Process<'_>],
     schedule: &Schedule,
     turn: u64,
 ) -> Result<(), OutOfMemory>
-    requires { 0 < threads }
+    requires { AreReady processes.old }
     ensures { OnOk result (AllMake turn processes.old processes.new) }
 {
     let count = processes.len();
-    let work = |place: usize, process: &mut Process<'_>|
-        requires { place < count }
-        ensures { process.exit.now.notes.failed ≡ false → Makes turn process.entry.now process.exit.now }
-    { process.make(alloc, place, count, schedule, turn) };
-    for_each_mut(rt, processes, threads, &work);
-    none_failed(processes)
+    for place in 0..count {
+        processes[place].say(alloc, place, count, schedule, turn)?;
+    }
+    Ok(())
 }
 
 // Whether memory was wanting for none.

@@ -8,17 +8,18 @@ ghost use Rattle.mpx_system.specs.Systems.{System};
 ghost use Rattle.mpx_sim.specs.Ends.{AllLack, AllMadeOr, HaveFinished, OneWaits, RestsBy, nodes_of};
 ghost use Rattle.mpx_sim.specs.Running.{AreOfRun, HasTurned, IsUnderWay};
 ghost use Rattle.mpx_sim.specs.Shown.{moment_of, part_of, process_of, schedule_of};
+ghost use Rattle.mpx_sim.specs.SideBySide.{AreReady};
 ghost use Rattle.mpx_sim.specs.Turns.{Alone, Coming, Moment};
 
 use crate::network::{Network, deliver, hand_out, keep_some, send_all};
 use crate::observer::{Observer, Progress};
 use crate::process::Process;
-use crate::side_by_side::{go_on_all, make_all};
+use crate::side_by_side::{go_on_all, say_all};
 use crate::start::start;
 use join_core::{Exact, OutOfMemory};
-use mpx_job::Options;
 use mpx_num::{Listing, Ops};
 use mpx_script::Script;
+use mpx_statement::Options;
 use std::alloc::Global;
 use std::thread::{Threads, available_parallelism};
 
@@ -57,15 +58,7 @@ pub(crate) fn simulate<'a, R: Threads + Sync>(
         if over {
             return Ok((processes, number));
         }
-        exchange(
-            rt,
-            alloc,
-            &plan,
-            &mut processes,
-            &mut network,
-            number,
-            observer,
-        )?;
+        exchange(alloc, &plan, &mut processes, &mut network, number, observer)?;
         observer.turn(number + 1, progress(&processes, &plan));
         changed = go_further(
             rt,
@@ -94,8 +87,15 @@ struct Plan {
 
 impl Plan {
     // Whether the turn of this number is the last that may be made.
-    fn is_last(&self, number: u32) -> bool {
+    fn is_last(&self, number: u32) -> bool
+        ensures { result ≡ true → self.now.turns ≤ number + 1 }
+    {
         number >= self.turns.saturating_sub(1)
+    }
+
+    // The turn to which processes look ahead: this one, where they work in threads, so that these are started once a turn.
+    fn ahead(&self, turn: u64) -> Option<u64> {
+        if self.workers > 1 { Some(turn) } else { None }
     }
 }
 
@@ -118,7 +118,7 @@ fn workers_of<R: Threads>(rt: &R, options: &Options, processes: usize) -> usize
     }
 }
 
-// Each process goes on by itself before the first turn, where there is one. It answers whether one moved or dropped anything.
+// Each process goes on by itself before the first turn, where there is one, and looks ahead to it. It answers whether one moved or dropped anything.
 fn first<R: Threads + Sync>(
     rt: &R,
     alloc: Global,
@@ -129,21 +129,22 @@ fn first<R: Threads + Sync>(
 ) -> Result<bool, OutOfMemory>
     requires workers { 0 < plan.now.workers }
     requires count { plan.now.ranks ≤ length processes.old }
-    ensures { OnOk result ((script : Statements) (ranks size : ℕ) (begun : Moment) (frames : List Look) → plan.now.ranks ≤ ranks → IsUnderWay (⟦<Ops as Listing>⟧.operations ops.now) script ranks size begun Alone (map process_of processes.old) frames
+    ensures run { OnOk result ((script : Statements) (ranks size : ℕ) (begun : Moment) (frames : List Look) → plan.now.ranks ≤ ranks → IsUnderWay (⟦<Ops as Listing>⟧.operations ops.now) script ranks size begun Alone (map process_of processes.old) frames
         → IsUnderWay (⟦<Ops as Listing>⟧.operations ops.now) script ranks size begun Alone (map process_of processes.new) frames) }
+    ensures ready { OnOk result (0 < plan.now.turns → AreReady processes.new) }
 {
     if plan.turns == 0 {
         return Ok(false);
     }
-    let changed = go_on_all(rt, alloc, plan.workers, processes, plan.ranks, &[], 0, ops)?;
+    let (workers, ranks, next) = (plan.workers, plan.ranks, plan.ahead(0));
+    let changed = go_on_all(rt, alloc, workers, processes, ranks, &[], 0, next, ops)?;
     tell_more(processes, plan.ranks, 0, observer);
     Ok(changed)
 }
 
-// Every process whose last list is out makes the frames of its next one, they go out, and those that come are mixed. Where they are to come in
+// Every process whose last list is out says what it has, the frames of its next one go out, and those that come are mixed. Where they are to come in
 // their order, or no turn is made behind this one, they come.
-fn exchange<R: Threads + Sync>(
-    rt: &R,
+fn exchange(
     alloc: Global,
     plan: &Plan,
     processes: &mut [Process<'_>],
@@ -151,15 +152,14 @@ fn exchange<R: Threads + Sync>(
     number: u32,
     observer: &mut dyn Observer,
 ) -> Result<(), OutOfMemory>
-    requires { 0 < plan.now.workers }
+    requires { AreReady processes.old }
     ensures run { OnOk result ((operations : List Operation) (script : Statements) (ranks size : ℕ) (begun : System) → plan.now.ranks ≤ ranks → OneWaits plan.now.ranks (map process_of processes.old)
         → IsUnderWay operations script ranks size (moment_of begun network.old.schedule) Alone (map process_of processes.old) (map part_of network.old.frames.items)
         → IsUnderWay operations script ranks size (moment_of begun network.old.schedule) (Coming (schedule_of network.new.schedule)) (map process_of processes.new) (map part_of network.new.frames.items)) }
     ensures loss { OnOk result (network.new.schedule.loss ≡ network.old.schedule.loss) }
 {
     let turn = u64::from(number);
-    hand_out(processes, &mut network.spare);
-    make_all(rt, alloc, plan.workers, processes, &network.schedule, turn)?;
+    say_all(alloc, processes, &network.schedule, turn)?;
     send_all(alloc, processes, network, observer)?;
     network.mix();
     let in_order = plan.in_order | plan.is_last(number);
@@ -184,22 +184,19 @@ fn go_further<R: Threads + Sync>(
         → IsUnderWay (⟦<Ops as Listing>⟧.operations ops.now) script ranks size begun (Coming (schedule_of network.old.schedule)) (map process_of processes.old) (map part_of network.old.frames.items)
         → HasTurned (⟦<Ops as Listing>⟧.operations ops.now) script ranks size begun (schedule_of network.new.schedule) (map process_of processes.new) (map part_of network.new.frames.items)) }
     ensures loss { OnOk result (network.new.schedule.loss ≡ network.old.schedule.loss) }
+    ensures ready { OnOk result (number + 1 < plan.now.turns → AreReady processes.new) }
 {
     if plan.is_last(number) {
         return Ok(false);
     }
     let turn = u64::from(number);
+    let (workers, next) = (plan.workers, plan.ahead(turn.saturating_add(1)));
+    let coming = network.coming(plan.in_order);
     let changed = go_on_all(
-        rt,
-        alloc,
-        plan.workers,
-        processes,
-        plan.ranks,
-        network.coming(plan.in_order),
-        turn,
-        ops,
+        rt, alloc, workers, processes, plan.ranks, coming, turn, next, ops,
     )?;
     keep_some(network, turn);
+    hand_out(processes, &mut network.spare);
     tell_more(processes, plan.ranks, number.saturating_add(1), observer);
     Ok(changed)
 }
@@ -233,6 +230,7 @@ fn is_over(
         → IsUnderWay (⟦<Ops as Listing>⟧.operations ops.now) script ranks size begun Alone (map process_of processes.new) frames) }
     ensures over { IfOk result (λ over. over ≡ true → RestsBy network.now.schedule.loss count (map process_of processes.new)) }
     ensures further { IfOk result (λ over. over ≡ false → OneWaits count (map process_of processes.new)) }
+    ensures ready { OnOk result (AreReady processes.old → AreReady processes.new) }
 {
     let rests = is_at_rest(alloc, processes, count, changed, network, ops)?;
     if rests {
@@ -255,6 +253,7 @@ fn is_at_rest(
     ensures run { OnOk result ((script : Statements) (ranks size : ℕ) (begun : Moment) (frames : List Look) → IsUnderWay (⟦<Ops as Listing>⟧.operations ops.now) script ranks size begun Alone (map process_of processes.old) frames
         → IsUnderWay (⟦<Ops as Listing>⟧.operations ops.now) script ranks size begun Alone (map process_of processes.new) frames) }
     ensures rests { IfOk result (λ rests. rests ≡ true → RestsBy network.now.schedule.loss count (map process_of processes.new)) }
+    ensures ready { OnOk result (AreReady processes.old → AreReady processes.new) }
 {
     if changed {
         return Ok(false);
@@ -283,6 +282,7 @@ fn all_lack(
     ensures run { OnOk result ((script : Statements) (ranks size : ℕ) (begun : Moment) (frames : List Look) → IsUnderWay (⟦<Ops as Listing>⟧.operations ops.now) script ranks size begun Alone (map process_of processes.old) frames
         → IsUnderWay (⟦<Ops as Listing>⟧.operations ops.now) script ranks size begun Alone (map process_of processes.new) frames) }
     ensures lack { IfOk result (λ lack. lack ≡ true → AllLack count (map process_of processes.new)) }
+    ensures ready { OnOk result (AreReady processes.old → AreReady processes.new) }
 {
     for rank in 0..count {
         let lacks = processes[rank].lacks(alloc, ops)?;

@@ -20,18 +20,18 @@ abbrev pub draft_of : Posting → Draft
 draft_of (Call on draft) = draft
 draft_of (Start on draft request) = draft
 draft_of (New on draft to) = draft
-draft_of (CreateGroup on tag ranks to) = create_group_draft
+draft_of (CreateGroup on tag ranks to) = empty_draft (C.NewCommunicator N.CreateGroup)
 
 abbrev pub drafted_by : Statement → Option Draft
 drafted_by (Post posting) = Some (draft_of posting)
 drafted_by statement = None
 
 -- the word of the communicator on which it is posted
-abbrev pub posted_on : Posting → List ℕ
-posted_on (Call on draft) = on
-posted_on (Start on draft request) = on
-posted_on (New on draft to) = on
-posted_on (CreateGroup on tag ranks to) = on
+abbrev pub communicator_word : Posting → List ℕ
+communicator_word (Call on draft) = on
+communicator_word (Start on draft request) = on
+communicator_word (New on draft to) = on
+communicator_word (CreateGroup on tag ranks to) = on
 
 -- the words of communicators that it asks about
 abbrev pub asked_about : Question → List (List ℕ)
@@ -42,7 +42,7 @@ asked_about (Translate from to ranks) = from ∷ to ∷ []
 -- the words of communicators, and those of requests, that a statement uses
 
 abbrev pub communicators_of : Statement → List (List ℕ)
-communicators_of (Post posting) = posted_on posting ∷ []
+communicators_of (Post posting) = communicator_word posting ∷ []
 communicators_of (Wait requests) = []
 communicators_of (Ask question) = asked_about question
 

@@ -87,7 +87,7 @@ pub enum Statement {
 }
 
 impl Posting {
-    ghost use Rattle.mpx_statement.specs.Statements.{bound_to, draft_of, posted_on, started_as};
+    ghost use Rattle.mpx_statement.specs.Statements.{bound_to, draft_of, communicator_word, started_as};
 
     /// The draft that the statement posts: on its communicator, or for `create_group` on the gathering.
     pub fn draft(&self) -> Result<Draft, OutOfMemory>
@@ -105,7 +105,7 @@ impl Posting {
 
     /// The name of its communicator.
     pub fn on(&self) -> &Word
-        ensures { result.now ≡ posted_on self.now }
+        ensures { result.now ≡ communicator_word self.now }
     {
         match self {
             Posting::Call { on, .. } => on,

@@ -19,10 +19,10 @@ use Rattle.mpx_statement.specs.declared.statement.Posting.{Posting}
 use Rattle.mpx_statement.specs.declared.statement.Question.{Question}
 use Rattle.mpx_statement.specs.declared.statement.Statement.{Statement}
 use Rattle.mpx_statement.specs.declared.statement.Statement.TheVariants.{Post, Wait, Ask}
-use Rattle.mpx_statement.specs.Statements.{bound_to, posted_on as word_of, started_as}
+use Rattle.mpx_statement.specs.Statements.{bound_to, communicator_word as word_of, started_as}
 use Rattle.mpx_statement.specs.Lookups.{named}
 use Rattle.mpx_meaning.specs.Ranks.{Bound, Communicator, NullCommunicator, Todo, Do, Await, Local, answers, attempt, attempt_on, awaited_by, bind, bound_by, done, step}
-use Rattle.mpx_meaning.specs.Evaluation.{State, start, bound_at_start, world_of, statements_of, known, or_stay, goes_on, move, moves, IsReached, history as history_of_ranks}
+use Rattle.mpx_meaning.specs.Evaluation.{State, start_state, bound_at_start, world_of, statements_of, known, or_stay, rank_goes_on, move, moves, IsReached, history as history_of_ranks}
 use Rattle.mpx_meaning.specs.Told.{CarriesOut, none}
 use Rattle.mpx_meaning.proofs.Steps.{heard, posted, started, told_at_once, turned_down, waited, step_asks, step_ends, step_hears, step_passes, step_posts, step_refused, step_starts, step_stays, step_waits}
 use Rattle.mpx_meaning.proofs.Ways.{step-grows}
@@ -88,7 +88,7 @@ by_rank P p q here there = by_test (q == p) refl where
   by_test true e = subst P (sym (same_number q p e)) here
   by_test false e = there e
 
-pub goes_on-other : (ops : List Operation) (s : State) (p : ℕ) (r : Results) (q : ℕ) → (q == p) ≡ false → goes_on ops s p r q ≡ s q
+pub goes_on-other : (ops : List Operation) (s : State) (p : ℕ) (r : Results) (q : ℕ) → (q == p) ≡ false → rank_goes_on ops s p r q ≡ s q
 goes_on-other ops s p r q e = ap (λ b. cond b (or_stay (s q) (step ops r (s q))) (s q)) e
 
 moves-append : (ops : List Operation) (ranks : ℕ) (ps qs : List ℕ) (s : State) → moves ops ranks (ps ++ qs) s ≡ moves ops ranks qs (moves ops ranks ps s)
@@ -99,16 +99,16 @@ moves-append ops ranks (p ∷ ps) qs s = moves-append ops ranks ps qs (move ops 
 reached-more : (ops : List Operation) (script : List (List Statement)) (ranks : ℕ) (s : State) (p : ℕ) → IsReached ops script ranks s → IsReached ops script ranks (move ops ranks s p)
 reached-more ops script ranks s p r = record {
   order = r.order ++ p ∷ [];
-  reached = moves-append ops ranks r.order (p ∷ []) (start script ranks) ∙ ap (λ u. move ops ranks u p) r.reached;
+  reached = moves-append ops ranks r.order (p ∷ []) (start_state script ranks) ∙ ap (λ u. move ops ranks u p) r.reached;
 }
 
 -- who can't move stays
-pub goes_on-none : (ops : List Operation) (s : State) (p : ℕ) (r : Results) → step ops r (s p) ≡ None → s ≡ goes_on ops s p r
+pub goes_on-none : (ops : List Operation) (s : State) (p : ℕ) (r : Results) → step ops r (s p) ≡ None → s ≡ rank_goes_on ops s p r
 goes_on-none ops s p r e = λ i q. goes_on_cases ops (λ j t. s j ≡ t) s p r (λ j. refl) (λ t f. cc (e, f)) q i
 
 -- who knows more makes the same move
-pub goes_on-same : (ops : List Operation) (s : State) (p : ℕ) (r more : Results) (t : Local) → step ops r (s p) ≡ Some t → step ops more (s p) ≡ Some t → goes_on ops s p r ≡ goes_on ops s p more
-goes_on-same ops s p r more t e f = λ i q. by_rank (λ j. goes_on ops s p r j ≡ goes_on ops s p more j) p q (goes_on-at ops s p r t e ∙ sym (goes_on-at ops s p more t f)) (λ d. goes_on-other ops s p r q d ∙ sym (goes_on-other ops s p more q d)) i
+pub goes_on-same : (ops : List Operation) (s : State) (p : ℕ) (r more : Results) (t : Local) → step ops r (s p) ≡ Some t → step ops more (s p) ≡ Some t → rank_goes_on ops s p r ≡ rank_goes_on ops s p more
+goes_on-same ops s p r more t e f = λ i q. by_rank (λ j. rank_goes_on ops s p r j ≡ rank_goes_on ops s p more j) p q (goes_on-at ops s p r t e ∙ sym (goes_on-at ops s p more t f)) (λ d. goes_on-other ops s p r q d ∙ sym (goes_on-other ops s p more q d)) i
 
 -- A RANK'S DOINGS
 
@@ -116,23 +116,23 @@ module _ (ops : List Operation) (script : List (List Statement)) (ranks : ℕ) (
   -- the rank moves, and its posts are made
   couples_move : (p : ℕ) → p < ranks → (new : WorldView) (added : List Made) (t : Local) → step ops (world_tells s.world p) (s.ranks p) ≡ Some t → t.made ≡ (s.ranks p).made ++ added → Follows p s.world new added
       → ((word : List ℕ) (name : Name) (birth : BirthView) → named t.bound word ≡ Some (Communicator name birth) → IsTrue (is_some ((new.each p).node.opened name)))
-      → Couples ops script ranks (record { world = new; ranks = goes_on ops s.ranks p (world_tells s.world p) })
+      → Couples ops script ranks (record { world = new; ranks = rank_goes_on ops s.ranks p (world_tells s.world p) })
   couples_move p l new added t e more f bound =
       let r = world_tells s.world p in
-      let at : goes_on ops s.ranks p r p ≡ t = goes_on-at ops s.ranks p r t e in
+      let at : rank_goes_on ops s.ranks p r p ≡ t = goes_on-at ops s.ranks p r t e in
       let known_step : step ops (known ops ranks s.ranks p) (s.ranks p) ≡ Some t = step-grows ops r (known ops ranks s.ranks p) (tells_known ops script ranks s c p) (s.ranks p) t e in
       let told : (q : ℕ) → Within (world_tells s.world q) (world_tells new q) = tells_on s.world new f.later c.upheld f.upheld in
       record {
         upheld = f.upheld;
         size = sym f.later.ranks ∙ c.size;
         operations = sym f.later.operations ∙ c.operations;
-        opened = λ q m. by_rank (λ j. (word : List ℕ) (name : Name) (birth : BirthView) → named (goes_on ops s.ranks p r j).bound word ≡ Some (Communicator name birth) → IsTrue (is_some ((new.each j).node.opened name))) p q
+        opened = λ q m. by_rank (λ j. (word : List ℕ) (name : Name) (birth : BirthView) → named (rank_goes_on ops s.ranks p r j).bound word ≡ Some (Communicator name birth) → IsTrue (is_some ((new.each j).node.opened name))) p q
             (λ word name birth h. bound word name birth (ap (λ (u : Local). named u.bound word) (sym at) ∙ h))
             (λ d word name birth h. (f.later.kept q).opened_kept name (c.opened q m word name birth (ap (λ (u : Local). named u.bound word) (sym (goes_on-other ops s.ranks p r q d)) ∙ h)));
-        made = λ q. by_rank (λ j. (new.each j).made ≡ (goes_on ops s.ranks p r j).made) p q
+        made = λ q. by_rank (λ j. (new.each j).made ≡ (rank_goes_on ops s.ranks p r j).made) p q
             (f.here ∙ ap (λ xs. xs ++ added) (c.made p) ∙ sym more ∙ ap (λ (u : Local). u.made) (sym at))
             (λ d. f.others q d ∙ c.made q ∙ ap (λ (u : Local). u.made) (sym (goes_on-other ops s.ranks p r q d)));
-        relays = λ q above. by_rank (λ j. ranks ≤ j → (goes_on ops s.ranks p r j).made ≡ []) p q
+        relays = λ q above. by_rank (λ j. ranks ≤ j → (rank_goes_on ops s.ranks p r j).made ≡ []) p q
             (λ over. absurd (omega (arith, over, l)))
             (λ d over. ap (λ (u : Local). u.made) (goes_on-other ops s.ranks p r q d) ∙ c.relays q over) above;
         told = goes_on_cases ops (λ q u. CarriesOut ops (world_tells new q) (bound_at_start ranks) (statements_of script q) u) s.ranks p r
@@ -142,7 +142,7 @@ module _ (ops : List Operation) (script : List (List Statement)) (ranks : ℕ) (
       }
 
   -- it has no move
-  couples_stay : (p : ℕ) → step ops (world_tells s.world p) (s.ranks p) ≡ None → Couples ops script ranks (record { world = s.world; ranks = goes_on ops s.ranks p (world_tells s.world p) })
+  couples_stay : (p : ℕ) → step ops (world_tells s.world p) (s.ranks p) ≡ None → Couples ops script ranks (record { world = s.world; ranks = rank_goes_on ops s.ranks p (world_tells s.world p) })
   couples_stay p e = subst (λ u. Couples ops script ranks (record { world = s.world; ranks = u })) (goes_on-none ops s.ranks p (world_tells s.world p) e) c
 
   -- what is no post
@@ -170,7 +170,7 @@ module _ (ops : List Operation) (script : List (List Statement)) (ranks : ℕ) (
   ]
 
   abbrev driven_to : (p : ℕ) → List Happening → System
-  driven_to p hs = record { world = goes_on_world s.world hs; ranks = goes_on ops s.ranks p (world_tells s.world p) }
+  driven_to p hs = record { world = goes_on_world s.world hs; ranks = rank_goes_on ops s.ranks p (world_tells s.world p) }
 
   -- an accepted post, whose outcome is awaited or whose request is open from then on
   couples_accepted : (p : ℕ) → p < ranks → (posting : Posting) (rest : List Todo) → (s.ranks p).todo ≡ Do (Post posting) ∷ rest → (hs : List Happening) (m : Made) → attempt_at ops script ranks s c p posting ≡ Ok m → Driven s.world p hs (Ok m)
@@ -237,7 +237,7 @@ module _ (ops : List Operation) (script : List (List Statement)) (ranks : ℕ) (
   couples_does (Drives p) m =
       let after : List Operation → System = λ o. record {
         world = goes_on_world s.world (posts_of o p (s.world.each p).made (s.ranks p).bound (s.ranks p).todo);
-        ranks = goes_on o s.ranks p (world_tells s.world p);
+        ranks = rank_goes_on o s.ranks p (world_tells s.world p);
       } in
       subst (λ o. Couples ops script ranks (after o)) (sym c.operations) (couples_drive p m (s.ranks p).todo refl)
 

@@ -5,7 +5,7 @@ use Rattle.std.proofs.lemmas.List.{append-nil}
 use Rattle.mpx_num.specs.declared.own.Operation.{Operation}
 use Rattle.mpx_statement.specs.declared.statement.Statement.{Statement}
 use Rattle.mpx_meaning.specs.Ranks.{Local, step}
-use Rattle.mpx_meaning.specs.Evaluation.{IsEvaluation, IsMaximal, goes_on, known, left, move}
+use Rattle.mpx_meaning.specs.Evaluation.{IsEvaluation, IsMaximal, rank_goes_on, known, left, move}
 use Rattle.mpx_meaning.proofs.Ways.{step-grows}
 use Rattle.mpx_meaning.proofs.Ends.{move-left}
 use Rattle.mpx_system.specs.Systems.{System, Doing, Nets, Drives, MayDo, MayDoAll, Leads, does, does_all, start_system, world_tells}
@@ -31,14 +31,14 @@ module _ (ops : List Operation) (script : List (List Statement)) (ranks : ℕ) w
     by_known : step ops (known ops ranks s.ranks p) (s.ranks p) ≡ Some t
     by_known = step-grows ops (world_tells s.world p) (known ops ranks s.ranks p) (tells_known ops script ranks s c p) (s.ranks p) t by_ops
 
-    is_move : goes_on s.world.operations s.ranks p (world_tells s.world p) ≡ move ops ranks s.ranks p
-    is_move = (λ i. goes_on (c.operations i) s.ranks p (world_tells s.world p)) ∙ goes_on-same ops s.ranks p (world_tells s.world p) (known ops ranks s.ranks p) t by_ops by_known
+    is_move : rank_goes_on s.world.operations s.ranks p (world_tells s.world p) ≡ move ops ranks s.ranks p
+    is_move = (λ i. rank_goes_on (c.operations i) s.ranks p (world_tells s.world p)) ∙ goes_on-same ops s.ranks p (world_tells s.world p) (known ops ranks s.ranks p) t by_ops by_known
 
   -- a doing moves nobody, or less is left
   does_leaves : (s : System) → Couples ops script ranks s → (d : Doing) → MayDo ranks s d → ((does s d).ranks ≡ s.ranks) ⊎ (left ranks (does s d).ranks < left ranks s.ranks)
   does_leaves s c (Nets h) m = inl refl
   does_leaves s c (Drives p) m = by_step (step s.world.operations (world_tells s.world p) (s.ranks p)) refl where
-    by_step : (o : Option Local) → step s.world.operations (world_tells s.world p) (s.ranks p) ≡ o → (goes_on s.world.operations s.ranks p (world_tells s.world p) ≡ s.ranks) ⊎ (left ranks (goes_on s.world.operations s.ranks p (world_tells s.world p)) < left ranks s.ranks)
+    by_step : (o : Option Local) → step s.world.operations (world_tells s.world p) (s.ranks p) ≡ o → (rank_goes_on s.world.operations s.ranks p (world_tells s.world p) ≡ s.ranks) ⊎ (left ranks (rank_goes_on s.world.operations s.ranks p (world_tells s.world p)) < left ranks s.ranks)
     by_step None e = inl (sym (goes_on-none s.world.operations s.ranks p (world_tells s.world p) e))
     by_step (Some t) e = inr (subst (λ u. left ranks u < left ranks s.ranks) (sym (is_move s c p t e)) (move-left ops ranks s.ranks p m t (by_known s c p t e)))
 
@@ -68,7 +68,7 @@ module _ (ops : List Operation) (script : List (List Statement)) (ranks : ℕ) w
   does_stays : (s : System) → Couples ops script ranks s → IsMaximal ops ranks s.ranks → (d : Doing) → (does s d).ranks ≡ s.ranks
   does_stays s c stuck (Nets h) = refl
   does_stays s c stuck (Drives p) = by_step (step s.world.operations (world_tells s.world p) (s.ranks p)) refl where
-    by_step : (o : Option Local) → step s.world.operations (world_tells s.world p) (s.ranks p) ≡ o → goes_on s.world.operations s.ranks p (world_tells s.world p) ≡ s.ranks
+    by_step : (o : Option Local) → step s.world.operations (world_tells s.world p) (s.ranks p) ≡ o → rank_goes_on s.world.operations s.ranks p (world_tells s.world p) ≡ s.ranks
     by_step None e = sym (goes_on-none s.world.operations s.ranks p (world_tells s.world p) e)
     by_step (Some t) e = let moved = by_known s c p t e in let none = stuck p in cc (moved, none)
 

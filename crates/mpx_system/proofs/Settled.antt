@@ -24,7 +24,7 @@ use Rattle.mpx_world.proofs.Truth.{told_agrees}
 use Rattle.mpx_world.proofs.Whole.{LeadsTo, goes_on-append, may_append}
 use Rattle.mpx_statement.specs.declared.statement.Statement.{Statement}
 use Rattle.mpx_meaning.specs.Ranks.{step}
-use Rattle.mpx_meaning.specs.Evaluation.{State, IsEvaluation, IsQuiet, IsReached, known, move, moves, start, history as history_of_ranks}
+use Rattle.mpx_meaning.specs.Evaluation.{State, IsEvaluation, IsQuiet, IsReached, known, move, moves, start_state, history as history_of_ranks}
 use Rattle.mpx_meaning.proofs.Steps.{step_ends}
 use Rattle.mpx_meaning.proofs.Ahead.{goes_on_cases}
 use Rattle.mpx_meaning.proofs.Ends.{start_quiet}
@@ -180,7 +180,7 @@ moves_quiet ops ranks (p ∷ order) s q = moves_quiet ops ranks order (move ops 
 })
 
 reached_quiet : (ops : List Operation) (script : List (List Statement)) (ranks : ℕ) (s : State) → length script ≤ ranks → IsReached ops script ranks s → IsQuiet ranks s
-reached_quiet ops script ranks s few r = subst (IsQuiet ranks) r.reached (moves_quiet ops ranks r.order (start script ranks) (start_quiet script ranks few))
+reached_quiet ops script ranks s few r = subst (IsQuiet ranks) r.reached (moves_quiet ops ranks r.order (start_state script ranks) (start_quiet script ranks few))
 
 -- where no rank has a move, the ranks stand at the end of the evaluation
 pub stuck_ends : (ops : List Operation) (script : List (List Statement)) (ranks : ℕ) (s : State) → length script ≤ ranks → IsReached ops script ranks s → ((p : ℕ) → p < ranks → step ops (known ops ranks s p) (s p) ≡ None) → IsEvaluation ops script ranks s

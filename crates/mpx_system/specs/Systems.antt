@@ -15,10 +15,10 @@ use Rattle.mpx_world.specs.Worlds.{WorldView, Happening, Posts, Gathers, IsNoPos
 use Rattle.mpx_statement.specs.declared.statement.Posting.{Posting}
 use Rattle.mpx_statement.specs.declared.statement.Statement.{Statement}
 use Rattle.mpx_statement.specs.declared.statement.Statement.TheVariants.{Post}
-use Rattle.mpx_statement.specs.Statements.{Gathers as Asked, draft_of, gathers_of, posted_on}
+use Rattle.mpx_statement.specs.Statements.{Gathers as Asked, draft_of, gathers_of, communicator_word}
 use Rattle.mpx_statement.specs.Lookups.{named}
 use Rattle.mpx_meaning.specs.Ranks.{Bindings, Bound, Communicator, Todo, Do, Local, Told, post_gathered, post_on}
-use Rattle.mpx_meaning.specs.Evaluation.{State, start, goes_on}
+use Rattle.mpx_meaning.specs.Evaluation.{State, start_state, rank_goes_on}
 
 pub record System : Type 0 where
   pub world : WorldView
@@ -55,7 +55,7 @@ module _ (ops : List Operation) where
 
   -- what the next move of a rank gives its node to post
   abbrev pub posts_of : (process : ℕ) → List Made → Bindings → List Todo → List Happening
-  posts_of p made bound (Do (Post posting) ∷ rest) = posts_bound p made posting (named bound (posted_on posting))
+  posts_of p made bound (Do (Post posting) ∷ rest) = posts_bound p made posting (named bound (communicator_word posting))
   posts_of p made bound todo = []
 
 -- something that makes no post, or a rank's next move by what its node's results tell and by the world's own operations, with the
@@ -68,7 +68,7 @@ abbrev pub does : System → Doing → System
 does s (Nets h) = record { world = happens s.world h; ranks = s.ranks }
 does s (Drives p) = record {
   world = goes_on_world s.world (posts_of s.world.operations p (s.world.each p).made (s.ranks p).bound (s.ranks p).todo);
-  ranks = goes_on s.world.operations s.ranks p (world_tells s.world p);
+  ranks = rank_goes_on s.world.operations s.ranks p (world_tells s.world p);
 }
 
 abbrev pub does_all : System → List Doing → System
@@ -85,7 +85,7 @@ MayDoAll ranks s [] = Unit {0}
 MayDoAll ranks s (d ∷ ds) = MayDo ranks s d × MayDoAll ranks (does s d) ds
 
 abbrev pub start_system : List Operation → List (List Statement) → (ranks size : ℕ) → System
-start_system ops script ranks size = record { world = start_world ops ranks size; ranks = start script ranks }
+start_system ops script ranks size = record { world = start_world ops ranks size; ranks = start_state script ranks }
 
 -- some list of doings leads there
 pub record Leads (ranks : ℕ) (from to : System) : Type 0 where

@@ -8,10 +8,10 @@ use Rattle.mpx_value.specs.Histories.{Answer, Made, Results, has_freed}
 use Rattle.mpx_statement.specs.declared.statement.Posting.{Posting}
 use Rattle.mpx_statement.specs.declared.statement.Statement.{Statement}
 use Rattle.mpx_statement.specs.declared.statement.Statement.TheVariants.{Post}
-use Rattle.mpx_statement.specs.Statements.{bound_to, posted_on, started_as}
+use Rattle.mpx_statement.specs.Statements.{bound_to, communicator_word, started_as}
 use Rattle.mpx_statement.specs.Lookups.{named}
 use Rattle.mpx_meaning.specs.Ranks.{Communicator, Do, Local, attempt, communicator_of, doing, done, next_call, step}
-use Rattle.mpx_meaning.specs.Evaluation.{known, start, statements_of, world_of, IsPrefixOf}
+use Rattle.mpx_meaning.specs.Evaluation.{known, start_state, statements_of, world_of, IsPrefixOf}
 use Rattle.mpx_meaning.specs.Going.{Goes, stays, moves}
 use Rattle.mpx_meaning.specs.Standing.{WaitView, has_statements, todo_of}
 use Rattle.mpx_meaning.specs.Reports.{is_left}
@@ -69,7 +69,7 @@ module _ (script : ScriptView) (relays : ℕ) (setup : Setup) (plan : Plans scri
   terms = thread_terms operations setup me before ledger
 
   abbrev first : Local
-  first = start script.statements script.ranks me
+  first = start_state script.statements script.ranks me
 
   -- the rank has come there, and the desk has made its posts
   record Fits (s : Local) (d : DeskView) : Type 0 where
@@ -126,15 +126,15 @@ module _ (script : ScriptView) (relays : ℕ) (setup : Setup) (plan : Plans scri
 
   module _ (s : Local) (d : DeskView) (fits : Fits s d) (r : RankView CommunicatorView) (stands : StandsInScript r s) (local_me : s.me ≡ me) (posting : Posting) (rest : List Statement) (waits : r.waits ≡ None) (todo : r.todo ≡ Post posting ∷ rest) where
     abbrev on : Option CommunicatorView
-    on = communicator_in (r.bound (posted_on posting))
+    on = communicator_in (r.bound (communicator_word posting))
 
     next_todo : s.todo ≡ Do (Post posting) ∷ doing rest
     next_todo = stands.todo ∙ λ i. todo_of (waits i) (todo i)
 
     attempt_is : attempt setup.operations s.me s.bound s.made posting ≡ attempt_by setup.operations me s.made posting on
     attempt_is =
-        attempt_same setup.operations s.me s.made posting (named s.bound (posted_on posting))
-        ∙ λ i. attempt_by setup.operations (local_me i) s.made posting ((ap communicator_of (sym (stands.bound (posted_on posting))) ∙ communicator_same (r.bound (posted_on posting))) i)
+        attempt_same setup.operations s.me s.made posting (named s.bound (communicator_word posting))
+        ∙ λ i. attempt_by setup.operations (local_me i) s.made posting ((ap communicator_of (sym (stands.bound (communicator_word posting))) ∙ communicator_same (r.bound (communicator_word posting))) i)
 
     posts_next : (m : Made) → attempt_by setup.operations me s.made posting on ≡ Ok m → (w : Option (List ℕ)) → started_as posting ≡ w → slice_get (planned_posts setup me) (before + d.1) ≡ Some m
     posts_next m e None f = next_is s d fits m (done s (posted s (bound_to posting) (doing rest) m)) (step_posts setup.operations by s posting (doing rest) m next_todo f (attempt_is ∙ e)) refl
@@ -144,7 +144,7 @@ module _ (script : ScriptView) (relays : ℕ) (setup : Setup) (plan : Plans scri
     may_post = record {
       planned = planned_is script relays setup plan;
       born = λ c e.
-          let there = goes-there setup.operations script.statements script.ranks plan.end me s (goes_there s fits.goes) (posted_on posting) c.0 c.1 (sym (stands.bound (posted_on posting)) ∙ bound_there (r.bound (posted_on posting)) c e) in
+          let there = goes-there setup.operations script.statements script.ranks plan.end me s (goes_there s fits.goes) (communicator_word posting) c.0 c.1 (sym (stands.bound (communicator_word posting)) ∙ bound_there (r.bound (communicator_word posting)) c e) in
           births_are script relays setup plan c.0 ∙ there.born;
       next = λ m e. posts_next m (ap (λ l. attempt_by setup.operations me l posting on) fits.made ∙ e) (started_as posting) refl;
     }
@@ -184,7 +184,7 @@ module _ (script : ScriptView) (relays : ℕ) (setup : Setup) (plan : Plans scri
 
 -- before its statements a rank stands at the start of its script
 pub stands_first : (script : ScriptView) (me : ℕ) (r : RankView CommunicatorView) → ((word : List ℕ) → r.bound word ≡ bound_first (Some ([], world_of script.ranks)) word) → ((word : List ℕ) → r.requests word ≡ None)
-    → r.todo ≡ statements_of script.statements me → r.waits ≡ None → r.lines ≡ [] → r.origins ≡ [] → StandsInScript r (start script.statements script.ranks me)
+    → r.todo ≡ statements_of script.statements me → r.waits ≡ None → r.lines ≡ [] → r.origins ≡ [] → StandsInScript r (start_state script.statements script.ranks me)
 stands_first script me r bound requests todo waits lines origins = record {
   bound = λ word. ap (option_map bound_as) (bound word) ∙ by_test word (bytes_eq word (codes "world"));
   requests = requests;

@@ -21,7 +21,7 @@ use Rattle.mpx_shared.proofs.Plans as P
 use Rattle.mpx_statement.specs.declared.statement.Statement.{Statement}
 use Rattle.mpx_meaning.specs.Ranks.{Told, doing}
 use Rattle.mpx_meaning.specs.Standing.{has_statements}
-use Rattle.mpx_meaning.specs.Evaluation.{IsPrefixOf, bound_at_start, known, start, statements_of}
+use Rattle.mpx_meaning.specs.Evaluation.{IsPrefixOf, bound_at_start, known, start_state, statements_of}
 use Rattle.mpx_meaning.specs.Going.{Goes, stays}
 use Rattle.mpx_meaning.specs.Told.{CarriesOut, none}
 use Rattle.mpx_meaning.specs.Reports.{is_left}
@@ -89,8 +89,8 @@ module _ (table : TableId) (setup : Setup) (me : ℕ) (port : PortView) (lawful 
       result_is name call found.0 found.1 ∙ ap Some found.2
 
   module _ (script : ScriptView) (relays : ℕ) (plan : Plans script relays setup) (ts : List ToldCall) (count : ℕ) (lines : List (List ℕ)) (waits : Bool) (calls : List (Name × ℕ)) (come : HasCome script setup me ts count lines waits calls) (counted : length (made_in port) ≡ count) (held : AllHeld (node_in port) ts) where
-    goes_there : Goes setup.operations (known setup.operations script.ranks plan.end me) (start script.statements script.ranks me) come.to
-    goes_there = subst (λ r. Goes setup.operations r (start script.statements script.ranks me) come.to) (results_are script relays setup plan me) come.goes
+    goes_there : Goes setup.operations (known setup.operations script.ranks plan.end me) (start_state script.statements script.ranks me) come.to
+    goes_there = subst (λ r. Goes setup.operations r (start_state script.statements script.ranks me) come.to) (results_are script relays setup plan me) come.goes
 
     -- the result of a line that tells an outcome
     line_held : (i : ℕ) (name : Name) (call : ℕ) (outcome : Outcome) → slice_get come.to.lines i ≡ Some (Told name call outcome) → (f : Finished) × (slice_get (results_on (node_in port) name) call ≡ Some f) × (f.outcome ≡ outcome)
@@ -150,7 +150,7 @@ taken_none (suc n) = refl
 -- a rank that has done nothing
 pub has_not_worked : (table : TableId) (script : ScriptView) (relays : ℕ) (setup : Setup) (me : ℕ) (port : PortView) (waits : Bool) → IsLawful table setup me port → waits ≡ has_statements (statements_of script.statements me) → HasWorked script relays setup me port [] waits []
 has_not_worked table script relays setup me port waits lawful e = record {
-  to = start script.statements script.ranks me;
+  to = start_state script.statements script.ranks me;
   done = λ plan. record {
     goes = stays;
     carries_out = inl (record { passed = []; left = statements_of script.statements me; all = refl; todo = refl; passes = none });

@@ -14,12 +14,12 @@ use Rattle.mpx_shared.proofs.LawfulPorts.{new_lawful, new_none}
 use Rattle.mpx_script.specs.ScriptView.{ScriptView}
 use Rattle.mpx_threads.specs.declared.worker.ReadyProcess.{ReadyProcess}
 use Rattle.mpx_threads.specs.declared.worker.Worked.{Worked}
-use Rattle.mpx_threads.specs.declared.gate.Step.{Step}
+use Rattle.mpx_threads.specs.declared.gate.BusStep.{BusStep}
 use Rattle.mpx_threads.specs.declared.gossip.GossipEnd.TheVariants.{GaveUp}
 use Rattle.mpx_threads.specs.Gates.{GivesUpAmong, GivesUpWithin}
 use Rattle.mpx_threads.specs.Plans.{Plans}
 use Rattle.mpx_threads.specs.Work.{AreGivenUpBy, AreJobs, AreReady, AreWorked, IsReadyProcess, IsWorked, gossip_at}
-use Rattle.mpx_threads.proofs.Tasks.{within_get}
+use Rattle.mpx_at_once.proofs.Tasks.{within_get}
 
 -- what is read there stands there
 pub read_at : {A : Type 0} (xs : List A) (i : ℕ) (x : A) → i < length xs → x ≡ slice_index_or xs i x → slice_get xs i ≡ Some x
@@ -109,7 +109,7 @@ worked_all script relays setup table jobs rs ws are count each all =
     are_worked script relays setup table jobs ws are (sym (length-map ws Ok) ∙ ap length all ∙ count) (of_its_job (λ j w. IsWorked script relays j.port.setup table j.me w) jobs rs ws count each all)
 
 -- and each of their gossips that ended for the gate ended at a step at which that gives up
-pub given_up_all : (gives_up : ℕ → Step → ℕ → Type 0) (turns : ℕ) (script : ScriptView) (relays : ℕ) (setup : Setup) (table : TableId) (jobs : List ReadyProcess) (rs : List (Result Worked OutOfMemory)) (ws : List Worked) → AreReady script relays setup table jobs → length rs ≡ length jobs
+pub given_up_all : (gives_up : ℕ → BusStep → ℕ → Type 0) (turns : ℕ) (script : ScriptView) (relays : ℕ) (setup : Setup) (table : TableId) (jobs : List ReadyProcess) (rs : List (Result Worked OutOfMemory)) (ws : List Worked) → AreReady script relays setup table jobs → length rs ≡ length jobs
     → ((i : ℕ) (d : Result Worked OutOfMemory) → i < length jobs → (j : ReadyProcess) × ((j ≡ slice_index_or jobs i j) × IfOk (slice_index_or rs i d) (λ w. w.gossip ≡ GaveUp → GivesUpWithin gives_up j.me turns)))
     → map Ok ws ≡ rs → AreGivenUpBy gives_up turns ws
 given_up_all gives_up turns script relays setup table jobs rs ws are count each all = λ i w e gave.
@@ -117,7 +117,7 @@ given_up_all gives_up turns script relays setup table jobs rs ws are count each 
     subst (λ k. GivesUpWithin gives_up k turns) (are.each i found.0 found.1.0).0 (found.1.1 gave)
 
 -- a gossip that ended for the gate is that of one of them
-pub gave_up_among : (gives_up : ℕ → Step → ℕ → Type 0) (processes turns : ℕ) (ws : List Worked) → AreGivenUpBy gives_up turns ws → length ws ≡ processes
+pub gave_up_among : (gives_up : ℕ → BusStep → ℕ → Type 0) (processes turns : ℕ) (ws : List Worked) → AreGivenUpBy gives_up turns ws → length ws ≡ processes
     → (p : ℕ) → gossip_at (slice_get ws p) ≡ Some GaveUp → GivesUpAmong gives_up processes turns
 gave_up_among gives_up processes turns ws given count p e = by_process (slice_get ws p) refl e where
   by_process : (o : Option Worked) → slice_get ws p ≡ o → gossip_at o ≡ Some GaveUp → GivesUpAmong gives_up processes turns

@@ -9,5 +9,4 @@ pub mod Telling
 pub mod Posting
 pub mod Calls
 pub mod Jobs
-pub mod Tasks
 pub mod Asking

@@ -12,7 +12,7 @@ use Rattle.mpx_bus.specs.Ports.{PortView, node_in}
 use Rattle.mpx_shared.specs.LawfulPorts.{IsLawful, made_in}
 use Rattle.mpx_script.specs.ScriptView.{ScriptView}
 use Rattle.mpx_meaning.specs.Ranks.{Local, step}
-use Rattle.mpx_meaning.specs.Evaluation.{IsEvaluation, IsPrefixOf, State, known, start}
+use Rattle.mpx_meaning.specs.Evaluation.{IsEvaluation, IsPrefixOf, State, known, start_state}
 use Rattle.mpx_meaning.specs.Going.{Goes, stays}
 use Rattle.mpx_meaning.specs.Reports.{is_left, waiting_in, which, lines_in as lines_of}
 use Rattle.mpx_meaning.specs.Transcripts.{line_text}
@@ -51,7 +51,7 @@ module _ (script : ScriptView) (relays : ℕ) (setup : Setup) (table : TableId) 
 
   abbrev local_by : (p : ℕ) → (p < script.ranks) ⊎ (script.ranks ≤ p) → Local
   local_by p (inl l) = (worked_at p l).1.1.to
-  local_by p (inr g) = start script.statements script.ranks p
+  local_by p (inr g) = start_state script.statements script.ranks p
 
   abbrev local : State
   local p = local_by p (lt_or_ge p script.ranks)
@@ -67,19 +67,19 @@ module _ (script : ScriptView) (relays : ℕ) (setup : Setup) (table : TableId) 
   at_local p w e l = at_by p w e l (lt_or_ge p script.ranks)
 
   -- each rank has come so far on its way
-  come_by : (p : ℕ) (x : (p < script.ranks) ⊎ (script.ranks ≤ p)) → Goes setup.operations (known setup.operations script.ranks end p) (start script.statements script.ranks p) (local_by p x)
+  come_by : (p : ℕ) (x : (p < script.ranks) ⊎ (script.ranks ≤ p)) → Goes setup.operations (known setup.operations script.ranks end p) (start_state script.statements script.ranks p) (local_by p x)
   come_by p (inl l) = ((worked_at p l).1.1.done are.plan).goes
   come_by p (inr g) = stays
 
-  come : (p : ℕ) → Goes setup.operations (known setup.operations script.ranks end p) (start script.statements script.ranks p) (local p)
+  come : (p : ℕ) → Goes setup.operations (known setup.operations script.ranks end p) (start_state script.statements script.ranks p) (local p)
   come p = come_by p (lt_or_ge p script.ranks)
 
   -- who is no rank has done nothing
-  past_by : (p : ℕ) → script.ranks ≤ p → (x : (p < script.ranks) ⊎ (script.ranks ≤ p)) → local_by p x ≡ start script.statements script.ranks p
+  past_by : (p : ℕ) → script.ranks ≤ p → (x : (p < script.ranks) ⊎ (script.ranks ≤ p)) → local_by p x ≡ start_state script.statements script.ranks p
   past_by p g (inl l) = absurd (omega (arith, g, l))
   past_by p g (inr h) = refl
 
-  local_past : (p : ℕ) → script.ranks ≤ p → local p ≡ start script.statements script.ranks p
+  local_past : (p : ℕ) → script.ranks ≤ p → local p ≡ start_state script.statements script.ranks p
   local_past p g = past_by p g (lt_or_ge p script.ranks)
 
   none_left : (p : ℕ) → p < script.ranks → (w : Worked) → slice_get ws p ≡ Some w → w.waits ≡ false → (local p).todo ≡ []
@@ -193,7 +193,7 @@ module _ (script : ScriptView) (relays : ℕ) (setup : Setup) (table : TableId) 
       one_end : end ≡ evaluation
       one_end = confluent setup.operations script.statements script.ranks end evaluation are.plan.evaluation is
 
-      goes_at : (p : ℕ) → p < script.ranks → Goes setup.operations (known setup.operations script.ranks end p) (start script.statements script.ranks p) (local p)
+      goes_at : (p : ℕ) → p < script.ranks → Goes setup.operations (known setup.operations script.ranks end p) (start_state script.statements script.ranks p) (local p)
       goes_at p l = let found = worked_at p l in (at_local p found.0 found.1.0 l).done.goes
 
       pub begins : Begin said evaluation

@@ -29,7 +29,7 @@ use Rattle.mpx_statement.specs.declared.statement.Statement.{Statement}
 use Rattle.mpx_statement.specs.declared.statement.Statement.TheVariants.{Wait}
 use Rattle.mpx_statement.specs.Lookups.{named}
 use Rattle.mpx_meaning.specs.Ranks.{Await, Do, Local, answers, awaited_by, doing, step}
-use Rattle.mpx_meaning.specs.Evaluation.{IsEvaluation, IsPrefixOf, State, history, known, move, moves as moves_of, start, statements_of}
+use Rattle.mpx_meaning.specs.Evaluation.{IsEvaluation, IsPrefixOf, State, history, known, move, moves as moves_of, start_state, statements_of}
 use Rattle.mpx_meaning.specs.Going.{Goes, stays, moves}
 use Rattle.mpx_meaning.specs.Standing.{WaitView, todo_of}
 use Rattle.mpx_meaning.proofs.Ahead.{goes_on_cases}
@@ -104,7 +104,7 @@ module _ (r : RankView CommunicatorView) (s : Local) (stands : StandsInScript r 
   }
 
 -- who starts waits for no call
-pub starts_free : (script : List (List Statement)) (ranks p : ℕ) (call : Name × ℕ) → WaitsFor (start script ranks p) call → ⊥
+pub starts_free : (script : List (List Statement)) (ranks p : ℕ) (call : Name × ℕ) → WaitsFor (start_state script ranks p) call → ⊥
 starts_free script ranks p call (awaits target rest todo) = by_list (statements_of script p) todo where
   by_list : (xs : List Statement) → doing xs ≡ Await call.0 call.1 target ∷ rest → ⊥
   by_list [] e = cc e
@@ -129,7 +129,7 @@ way_on ops less r more w v s t u (on {t = x} f rest) stuck e = subst (λ y. Way 
 
 -- ranks that have each come so far on the way to the evaluation's end, and of which none has a move by what they posted, are there
 module _ (ops : List Operation) (script : List (List Statement)) (ranks : ℕ) (end : State) (is : IsEvaluation ops script ranks end) (ours : State)
-    (come : (p : ℕ) → Goes ops (known ops ranks end p) (start script ranks p) (ours p)) (stuck : (p : ℕ) → step ops (known ops ranks ours p) (ours p) ≡ None) where
+    (come : (p : ℕ) → Goes ops (known ops ranks end p) (start_state script ranks p) (ours p)) (stuck : (p : ℕ) → step ops (known ops ranks ours p) (ours p) ≡ None) where
   record IsBehind (s : State) : Type 0 where
     each : (p : ℕ) → Way ops (known ops ranks end p) (s p) (ours p)
 
@@ -155,7 +155,7 @@ module _ (ops : List Operation) (script : List (List Statement)) (ranks : ℕ) (
   behind_all (p ∷ order) s b = behind_all order (move ops ranks s p) (behind_next s b p)
 
   end_behind : IsBehind end
-  end_behind = subst IsBehind is.reached.reached (behind_all is.reached.order (start script ranks) (record { each = λ p. as_way ops (known ops ranks end p) (start script ranks p) (ours p) (come p) }))
+  end_behind = subst IsBehind is.reached.reached (behind_all is.reached.order (start_state script ranks) (record { each = λ p. as_way ops (known ops ranks end p) (start_state script ranks p) (ours p) (come p) }))
 
   pub at_end : ours ≡ end
   at_end = λ i p. sym (way-stuck ops (known ops ranks end p) (end p) (ours p) (end_behind.each p) (is.maximal p)) i

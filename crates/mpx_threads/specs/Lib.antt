@@ -1,6 +1,5 @@
 pub mod Plans
 pub mod ToldCalls
-pub mod Tasks
 pub mod Rest
 pub mod Work
 pub mod ThreadRuns

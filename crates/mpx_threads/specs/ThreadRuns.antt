@@ -7,7 +7,7 @@ use Rattle.mpx_shared.specs.LawfulPorts.{IsLawful, made_in}
 use Rattle.mpx_value.specs.Histories.{birth_of}
 use Rattle.mpx_script.specs.ScriptView.{ScriptView}
 use Rattle.mpx_meaning.specs.Ranks.{Local}
-use Rattle.mpx_meaning.specs.Evaluation.{State, IsEvaluation, IsPrefixOf, bound_at_start, history, known, start, statements_of}
+use Rattle.mpx_meaning.specs.Evaluation.{State, IsEvaluation, IsPrefixOf, bound_at_start, history, known, start_state, statements_of}
 use Rattle.mpx_meaning.specs.Going.{Goes}
 use Rattle.mpx_meaning.specs.Told.{CarriesOut}
 use Rattle.mpx_meaning.specs.Reports.{lines_in, waiting_in}
@@ -19,7 +19,7 @@ use Rattle.mpx_threads.specs.Rest.{AreAtRest}
 -- communicators came to be as they do there; each line that tells an outcome tells that of a stored result, beside the rank's own
 -- post; and the port has made its posts, and where the rank has nothing left, no others
 pub record IsDone (ops : List Operation) (script : ScriptView) (end : State) (p : ℕ) (port : PortView) (s : Local) : Type 0 where
-  pub goes : Goes ops (known ops script.ranks end p) (start script.statements script.ranks p) s
+  pub goes : Goes ops (known ops script.ranks end p) (start_state script.statements script.ranks p) s
   pub carries_out : CarriesOut ops (node_tells (birth_of (history ops end) script.ranks) (node_in port)) (bound_at_start script.ranks) (statements_of script.statements p) s
   pub told : TellsResults (node_in port) s
   pub posts : IsPrefixOf s.made (made_in port)

@@ -1,5 +1,5 @@
 -- What a rank was told of its calls, and what its carrier says of itself.
-use Rattle.std.specs.Prelude.{◌≡◌, ℕ, ℤ, string_bytes, ◌+◌, ◌==◌, Bool, true, false, ◌&&◌, ◌||◌, cond, List, [], ◌∷◌, ◌++◌, length, take, Option, Some, None, Result, Ok, Err, IsTrue, is_some, slice_get}
+use Rattle.std.specs.Prelude.{◌≡◌, ℕ, ℤ, ◌<◌, string_bytes, ◌+◌, ◌==◌, Bool, true, false, ◌&&◌, ◌||◌, cond, List, [], ◌∷◌, ◌++◌, length, take, Option, Some, None, Result, Ok, Err, IsTrue, is_some, slice_get}
 use Rattle.std.proofs.Common.{refl, sym, ap, ◌∙◌, subst}
 use Rattle.std.specs.Option.{option_map}
 use Rattle.mpx_num.specs.declared.own.Operation.{Operation}
@@ -67,6 +67,10 @@ pub record MayPost (setup : Setup) (me count : ℕ) (posting : Posting) (on : Op
   pub planned : setup.planned ≡ true
   pub born : (c : CommunicatorView) → on ≡ Some c → planned_birth setup c.0 ≡ Some c.1
   pub next : (m : Made) → attempt_by setup.operations me (first_posts setup me count) posting on ≡ Ok m → slice_get (planned_posts setup me) count ≡ Some m
+
+-- a process can post by these operations: they are the setup's, all parts of its ledger are its own, and its posts are planned
+abbrev pub CanPost : List Operation → Setup → (all parts : ℕ) → Type 0
+CanPost operations setup all parts = (operations ≡ setup.operations) × (((all ≡ parts) × (0 < parts)) × (setup.planned ≡ true))
 
 -- where the post on a gathering of these ranks below the context comes to a post, by the plan, that is the plan's next
 abbrev pub IsNextGathered : Setup → (me count : ℕ) → (parent : Name) → (tag : ℤ) → (ranks : List ℤ) → Draft → Type 0

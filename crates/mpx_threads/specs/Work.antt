@@ -8,7 +8,7 @@ use Rattle.mpx_bus.specs.Ports.{PortView}
 use Rattle.mpx_shared.specs.LawfulPorts.{IsLawful, made_in}
 use Rattle.mpx_script.specs.ScriptView.{ScriptView}
 use Rattle.mpx_meaning.specs.Ranks.{Local, Told}
-use Rattle.mpx_meaning.specs.Evaluation.{start}
+use Rattle.mpx_meaning.specs.Evaluation.{start_state}
 use Rattle.mpx_meaning.specs.Going.{Goes}
 use Rattle.mpx_meaning.specs.Reports.{is_left}
 use Rattle.mpx_meaning.specs.Transcripts.{as_text, line_text}
@@ -16,7 +16,7 @@ use Rattle.mpx_rank.specs.Carriers.{outcomes_of}
 use Rattle.mpx_threads.specs.declared.told.ToldCall.{ToldCall}
 use Rattle.mpx_threads.specs.declared.worker.Worked.{Worked}
 use Rattle.mpx_threads.specs.declared.worker.ReadyProcess.{ReadyProcess}
-use Rattle.mpx_threads.specs.declared.gate.Step.{Step}
+use Rattle.mpx_threads.specs.declared.gate.BusStep.{BusStep}
 use Rattle.mpx_threads.specs.declared.gossip.GossipEnd.{GossipEnd}
 use Rattle.mpx_threads.specs.declared.gossip.GossipEnd.TheVariants.{GaveUp}
 use Rattle.mpx_threads.specs.Gates.{GivesUpWithin}
@@ -29,7 +29,7 @@ use Rattle.mpx_threads.specs.ToldCalls.{first_posts, told_of}
 -- calls that it waits for; its posts are the first so many of the plan; and of each line that tells an outcome it was told that
 pub record HasCome (script : ScriptView) (setup : Setup) (me : ℕ) (told : List ToldCall) (count : ℕ) (lines : List (List ℕ)) (waits : Bool) (calls : List (Name × ℕ)) : Type 0 where
   pub to : Local
-  pub goes : Goes setup.operations (planned_results setup me) (start script.statements script.ranks me) to
+  pub goes : Goes setup.operations (planned_results setup me) (start_state script.statements script.ranks me) to
   pub lines_are : lines ≡ map line_text to.lines
   pub waits_is : waits ≡ is_left to.todo
   pub calls_are : AreWaitedFor to calls
@@ -72,7 +72,7 @@ pub record IsWorked (script : ScriptView) (relays : ℕ) (setup : Setup) (table 
   pub relay : script.ranks ≤ me → made_in w.port ≡ []
 
 -- where a process's gossip ended for the gate, that gives up at one of its first so many steps of some kind
-abbrev pub GossipEndsSo : (ℕ → Step → ℕ → Type 0) → (process turns : ℕ) → GossipEnd → Type 0
+abbrev pub GossipEndsSo : (ℕ → BusStep → ℕ → Type 0) → (process turns : ℕ) → GossipEnd → Type 0
 GossipEndsSo gives_up process turns end = end ≡ GaveUp → GivesUpWithin gives_up process turns
 
 -- a ledger all of whose shares are one's own, which has seen nothing yet
@@ -96,7 +96,7 @@ gossip_at None = None
 gossip_at (Some w) = Some w.gossip
 
 -- where a process's gossip ended for the gate, that gives up at one of its first so many steps of some kind
-abbrev pub AreGivenUpBy : (ℕ → Step → ℕ → Type 0) → (turns : ℕ) → List Worked → Type 0
+abbrev pub AreGivenUpBy : (ℕ → BusStep → ℕ → Type 0) → (turns : ℕ) → List Worked → Type 0
 AreGivenUpBy gives_up turns ws = (i : ℕ) (w : Worked) → slice_get ws i ≡ Some w → w.gossip ≡ GaveUp → GivesUpWithin gives_up i turns
 
 -- the gossip of some process ended for the gate

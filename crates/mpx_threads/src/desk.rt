@@ -1,13 +1,13 @@
 //! The desk of a rank in a thread: it carries the rank's posts over a port that the rank shares with its gossip.
-ghost use Rattle.std.specs.Prelude.{◌≡◌, ◌+◌, ◌<◌, [], IfOk, IfSome, OnOk, Some, true};
+ghost use Rattle.std.specs.Prelude.{◌≡◌, [], IfOk, IfSome, OnOk, Some, true};
 ghost use Rattle.mpx_value.specs.Histories.{answer_with};
-ghost use Rattle.mpx_statement.specs.Statements.{draft_of};
 ghost use Rattle.mpx_rank.specs.Answered.{answer_of};
-ghost use Rattle.mpx_shared.specs.LawfulPorts.{IsNext, planned_birth};
+ghost use Rattle.mpx_shared.specs.LawfulPorts.{planned_birth};
 ghost use Rattle.mpx_shared.specs.Laws.{IsPlannedResult};
 ghost use Rattle.mpx_threads.specs.Plans.{planned_results};
-ghost use Rattle.mpx_threads.specs.ToldCalls.{HearsMore, IsNextGathered, IsNextIn, PostsAs, TellsCall, on_context, on_either, on_gathering, place_of};
+ghost use Rattle.mpx_threads.specs.ToldCalls.{HearsMore, TellsCall};
 
+use crate::attempt::Attempt;
 use crate::looks::Looks;
 use crate::told::Told;
 use join_core::{Exact, OutOfMemory};
@@ -16,7 +16,7 @@ use mpx_group::Proc;
 use mpx_meaning::line;
 use mpx_name::Name;
 use mpx_node::Finished;
-use mpx_num::{Listing, Ops};
+use mpx_num::Ops;
 use mpx_post::PostError;
 use mpx_rank::{Answered, Carrier, Heard};
 use mpx_shared::{PortLock, Poster, SharedPort, Ticket, TicketTested};
@@ -200,6 +200,7 @@ impl<'a, L: PortLock, R: Wait> Carrier for ThreadDesk<'a, L, R> {
         posting: &Posting,
         ops: &Ops,
     ) -> Result<Option<Ticket>, PostError> {
+        self.looks.begins();
         let Some(on) = on else {
             return Err(PostError::NotMember);
         };
@@ -210,7 +211,14 @@ impl<'a, L: PortLock, R: Wait> Carrier for ThreadDesk<'a, L, R> {
             poster,
             ..
         } = self;
-        attempt(*rt, alloc, *port, *looks, poster, &on.0, posting, ops)
+        let attempt = Attempt {
+            rt: *rt,
+            alloc,
+            port: *port,
+            posting,
+            ops,
+        };
+        attempt.make(*looks, poster, &on.0)
     }
 
     fn is_told(
@@ -255,153 +263,4 @@ impl<'a, L: PortLock, R: Wait> Carrier for ThreadDesk<'a, L, R> {
     ghost hears_more = { λ operations. hears_more };
 
     ghost stays_told = { λ operations. stays_told L.setup L.me };
-}
-
-// What a statement comes to on a context, once it isn't refused since the board doesn't know yet that the rank is a member: until then it
-// looks.
-fn attempt<L: PortLock, R: Wait>(
-    rt: &R,
-    alloc: Global,
-    port: &SharedPort<L>,
-    looks: &Looks<'_>,
-    poster: &mut Poster<L>,
-    name: &Name,
-    posting: &Posting,
-    ops: &Ops,
-) -> Result<Option<Ticket>, PostError>
-    requires list { ⟦<Ops as Listing>⟧.operations ops.now ≡ L.setup.operations }
-    requires ledger { (L.all ≡ L.parts) × (0 < L.parts) }
-    requires planned { L.setup.planned ≡ true }
-    requires next { IsNextIn L.setup L.me (L.before + poster.old.share.amount) name.now posting.now }
-    ensures { PostsAs L.setup L.me L.before name.now (on_either L.setup.operations L.me posting.now name.now) result poster.old.share.amount poster.new.share.amount }
-{
-    for _look in 0..looks.count {
-        let look = looks.begin();
-        match attempt_now(rt, alloc, port, poster, name, posting, ops)? {
-            Some(ticket) => {
-                looks.has_posted();
-                return Ok(Some(ticket));
-            }
-            None => {}
-        }
-        if !looks.goes_on(rt, look) {
-            return Ok(None);
-        }
-    }
-    Ok(None)
-}
-
-// A post there, or on a gathering of its members.
-fn attempt_now<L: PortLock, R: Wait>(
-    rt: &R,
-    alloc: Global,
-    port: &SharedPort<L>,
-    poster: &mut Poster<L>,
-    name: &Name,
-    posting: &Posting,
-    ops: &Ops,
-) -> Result<Option<Ticket>, PostError>
-    requires list { ⟦<Ops as Listing>⟧.operations ops.now ≡ L.setup.operations }
-    requires ledger { (L.all ≡ L.parts) × (0 < L.parts) }
-    requires planned { L.setup.planned ≡ true }
-    requires next { IsNextIn L.setup L.me (L.before + poster.old.share.amount) name.now posting.now }
-    ensures { PostsAs L.setup L.me L.before name.now (on_either L.setup.operations L.me posting.now name.now) result poster.old.share.amount poster.new.share.amount }
-{
-    match posting {
-        Posting::CreateGroup { tag, ranks, .. } => post_gathered(
-            rt,
-            alloc,
-            port,
-            poster,
-            name,
-            tag,
-            ranks.as_slice(),
-            posting,
-            ops,
-        ),
-        Posting::Call { .. } => post_on(rt, alloc, port, poster, name, posting, ops),
-        Posting::Start { .. } => post_on(rt, alloc, port, poster, name, posting, ops),
-        Posting::New { .. } => post_on(rt, alloc, port, poster, name, posting, ops),
-    }
-}
-
-// The next post on a context, by what the statement says. A rank is a member of the context: so a board that doesn't know that yet
-// means not now.
-fn post_on<L: PortLock, R: Wait>(
-    rt: &R,
-    alloc: Global,
-    port: &SharedPort<L>,
-    poster: &mut Poster<L>,
-    name: &Name,
-    posting: &Posting,
-    ops: &Ops,
-) -> Result<Option<Ticket>, PostError>
-    requires list { ⟦<Ops as Listing>⟧.operations ops.now ≡ L.setup.operations }
-    requires ledger { (L.all ≡ L.parts) × (0 < L.parts) }
-    requires planned { L.setup.planned ≡ true }
-    requires next { IsNext L.setup L.me (L.before + poster.old.share.amount) name.now (draft_of posting.now) }
-    ensures { PostsAs L.setup L.me L.before name.now (on_context L.setup.operations L.me posting.now name.now) result poster.old.share.amount poster.new.share.amount }
-{
-    let Ok(draft) = posting.draft() else {
-        return Err(PostError::OutOfMemory);
-    };
-    match port.post(rt, alloc, poster, name, draft, ops) {
-        Ok(ticket) => Ok(Some(ticket)),
-        Err(refusal) => {
-            if refusal.is_no_member() {
-                return Ok(None);
-            }
-            Err(refusal)
-        }
-    }
-}
-
-// Opens the gathering of these ranks below a context, and posts there.
-fn gather_and_post<L: PortLock, R: Wait>(
-    rt: &R,
-    alloc: Global,
-    port: &SharedPort<L>,
-    poster: &mut Poster<L>,
-    parent: &Name,
-    tag: i128,
-    ranks: &[i128],
-    posting: &Posting,
-    ops: &Ops,
-) -> Result<Option<Ticket>, PostError>
-    requires list { ⟦<Ops as Listing>⟧.operations ops.now ≡ L.setup.operations }
-    requires ledger { (L.all ≡ L.parts) × (0 < L.parts) }
-    requires planned { L.setup.planned ≡ true }
-    requires next { IsNextGathered L.setup L.me (L.before + poster.old.share.amount) parent.now tag ranks.now (draft_of posting.now) }
-    ensures { PostsAs L.setup L.me L.before parent.now (on_gathering L.setup.operations L.me posting.now parent.now tag ranks.now) result poster.old.share.amount poster.new.share.amount }
-{
-    match port.open_gathering(rt, alloc, poster, parent, tag, ranks) {
-        Ok(name) => post_on(rt, alloc, port, poster, &name, posting, ops),
-        Err(refusal) => {
-            if refusal.is_no_member() {
-                return Ok(None);
-            }
-            Err(refusal)
-        }
-    }
-}
-
-// Opens the gathering of these ranks below a context, under the tag of a statement, and posts there.
-fn post_gathered<L: PortLock, R: Wait>(
-    rt: &R,
-    alloc: Global,
-    port: &SharedPort<L>,
-    poster: &mut Poster<L>,
-    parent: &Name,
-    tag: &i128,
-    ranks: &[i128],
-    posting: &Posting,
-    ops: &Ops,
-) -> Result<Option<Ticket>, PostError>
-    requires list { ⟦<Ops as Listing>⟧.operations ops.now ≡ L.setup.operations }
-    requires ledger { (L.all ≡ L.parts) × (0 < L.parts) }
-    requires planned { L.setup.planned ≡ true }
-    requires next { IsNextGathered L.setup L.me (L.before + poster.old.share.amount) parent.now tag.now ranks.now (draft_of posting.now) }
-    ensures { PostsAs L.setup L.me L.before parent.now (on_gathering L.setup.operations L.me posting.now parent.now tag.now ranks.now) result poster.old.share.amount poster.new.share.amount }
-{
-    gather_and_post(rt, alloc, port, poster, parent, *tag, ranks, posting, ops)
 }

@@ -5,7 +5,7 @@ use mpx_group::Proc;
 
 /// A step of a process at the bus.
 #[derive(Clone, Copy, Debug, PartialEq, Eq)]
-pub enum Step {
+pub enum BusStep {
     /// It puts a frame in.
     Push,
     /// It takes a frame out.
@@ -26,13 +26,13 @@ pub enum Pass {
 /// run is told to have been given up elsewhere.
 pub trait Gate {
     ghost use Rattle.std.specs.Prelude.{ℕ};
-    ghost use Rattle.mpx_threads.specs.declared.gate.Step.{Step};
+    ghost use Rattle.mpx_threads.specs.declared.gate.BusStep.{BusStep};
 
     /// At which of a process's steps of a kind, by its number from 0, the gate may give up.
-    ghost gives_up: { Self → ℕ → Step → ℕ → Type 0 };
+    ghost gives_up: { Self → ℕ → BusStep → ℕ → Type 0 };
 
     /// Whether this process goes on with its next step of this kind; `nth` counts the process's steps of this kind, from 0.
-    fn pass(&self, process: Proc, step: Step, nth: u64) -> Pass
+    fn pass(&self, process: Proc, step: BusStep, nth: u64) -> Pass
         ensures { result ≡ Pass.GiveUp → gives_up self.now process step nth };
 }
 
@@ -45,7 +45,7 @@ impl Gate for OpenGate {
 
     ghost gives_up = { λ _gate. nowhere };
 
-    fn pass(&self, _process: Proc, _step: Step, _nth: u64) -> Pass {
+    fn pass(&self, _process: Proc, _step: BusStep, _nth: u64) -> Pass {
         Pass::Go
     }
 }

@@ -4,7 +4,7 @@ ghost use Rattle.mpx_bus.specs.Buses.{table_of};
 ghost use Rattle.mpx_threads.specs.Gates.{GivesUpAt, GivesUpWithin};
 
 use crate::calm::Calm;
-use crate::gate::{Gate, Pass, Step};
+use crate::gate::{BusStep, Gate, Pass};
 use crate::watch::{Signal, Watch};
 use join_core::OutOfMemory;
 use mpx_bus::Bus;
@@ -103,7 +103,7 @@ fn turn<L: PortLock, G: Gate, R: Wait>(
     requires queue { table_of bench.now.bus.now ≡ L.table }
     ensures { IfOk result (λ pass. pass ≡ Pass.GiveUp → GivesUpAt (G.gives_up bench.now.gate.now) me nth) }
 {
-    let Some(leave) = ask(bench.gate, me, Step::Pop, nth) else {
+    let Some(leave) = ask(bench.gate, me, BusStep::Pop, nth) else {
         return Ok(Pass::GiveUp);
     };
     let pulled = take_out(rt, alloc, bench.bus, port, leave, nth, ops);
@@ -113,7 +113,7 @@ fn turn<L: PortLock, G: Gate, R: Wait>(
         Pull::Empty => {}
         Pull::Took => {}
     }
-    let Some(leave) = ask(bench.gate, me, Step::Push, nth) else {
+    let Some(leave) = ask(bench.gate, me, BusStep::Push, nth) else {
         return Ok(Pass::GiveUp);
     };
     put_in(rt, alloc, bench.bus, port, leave, nth)?;
@@ -123,12 +123,12 @@ fn turn<L: PortLock, G: Gate, R: Wait>(
 // That the gate lets a process take its nth step of this kind.
 #[derive(Drop)]
 struct Leave {
-    step: Step,
+    step: BusStep,
     nth: u32,
 }
 
 // Asks the gate for a step: its leave, where it doesn't give up.
-fn ask<G: Gate>(gate: &G, me: Proc, step: Step, nth: u32) -> Option<Leave>
+fn ask<G: Gate>(gate: &G, me: Proc, step: BusStep, nth: u32) -> Option<Leave>
     ensures leave { IfSome result (λ leave. (leave.step ≡ step) × (leave.nth ≡ nth)) }
     ensures none { IfNone result (GivesUpAt (G.gives_up gate.now) me nth) }
 {
@@ -148,7 +148,7 @@ fn take_out<L: PortLock, R: Wait>(
     nth: u32,
     ops: &Ops,
 ) -> Pull
-    requires leave { (leave.step ≡ Step.Pop) × (leave.nth ≡ nth) }
+    requires leave { (leave.step ≡ BusStep.Pop) × (leave.nth ≡ nth) }
     requires list { ⟦<Ops as Listing>⟧.operations ops.now ≡ L.setup.operations }
     requires queue { table_of bus.now ≡ L.table }
 {
@@ -165,7 +165,7 @@ fn put_in<L: PortLock, R: Wait>(
     leave: Leave,
     nth: u32,
 ) -> Result<(), OutOfMemory>
-    requires leave { (leave.step ≡ Step.Push) × (leave.nth ≡ nth) }
+    requires leave { (leave.step ≡ BusStep.Push) × (leave.nth ≡ nth) }
     requires queue { table_of bus.now ≡ L.table }
 {
     let _ = (leave, nth);

@@ -38,6 +38,11 @@ impl<'a> Looks<'a> {
         true
     }
 
+    /// The rank has come to a call.
+    pub(crate) fn begins(&self) {
+        self.watch.call_begins();
+    }
+
     /// The rank has posted.
     pub(crate) fn has_posted(&self) {
         self.watch.tell_news();

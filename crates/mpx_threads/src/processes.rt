@@ -5,22 +5,25 @@ ghost use Rattle.mpx_bus.specs.Buses.{table_of};
 ghost use Rattle.mpx_bus.specs.declared.act.Setup.{Setup};
 ghost use Rattle.mpx_threads.specs.Work.{AreGivenUpBy, AreReady, AreWorked, GossipEndsSo, IsReadyProcess, IsWorked};
 
-use crate::at_once::map_at_once;
 use crate::gate::Gate;
 use crate::gossip::Bench;
+use crate::onlooker::{Onlooker, StandsBy};
 use crate::watch::Watch;
 use crate::worker::{ReadyProcess, Worked, work};
 use join_core::OutOfMemory;
+use mpx_at_once::map_at_once;
 use mpx_bus::Bus;
-use mpx_job::Options;
 use mpx_num::{Listing, Ops};
 use mpx_script::Script;
+use mpx_statement::Options;
 use std::alloc::Global;
+use std::cell::RefCell;
 use std::sync::Wait;
 use std::thread::Threads;
 
-/// Lets all processes work, each in a thread of its own. Where one is refused, or memory is wanting, the run stops.
-pub(crate) fn work_all<G: Gate + Sync, R: Threads + Wait + Sync>(
+/// Lets all processes work, each in a thread of its own, while somebody may look on. Where one is refused, or memory is wanting, the run
+/// stops.
+pub(crate) fn work_all<G: Gate + Sync, O: Onlooker, R: Threads + Wait + Sync>(
     rt: &R,
     alloc: Global,
     bus: &Bus,
@@ -28,6 +31,7 @@ pub(crate) fn work_all<G: Gate + Sync, R: Threads + Wait + Sync>(
     script: &Script,
     options: &Options,
     jobs: Vec<ReadyProcess>,
+    onlooker: O,
     ops: &Ops,
 ) -> Result<Vec<Worked>, OutOfMemory>
     requires ready { (setup : Setup) × (AreReady script.now options.now.relays setup (table_of bus.now) jobs.items × (⟦<Ops as Listing>⟧.operations ops.now ≡ setup.operations)) }
@@ -45,7 +49,12 @@ pub(crate) fn work_all<G: Gate + Sync, R: Threads + Wait + Sync>(
         relays: options.relays,
         turns: options.turns,
     };
-    work_each(rt, alloc, &bench, script, jobs, ops)
+    let by = StandsBy {
+        watch: &watch,
+        script,
+        onlooker: RefCell::new(onlooker),
+    };
+    work_each(rt, alloc, &bench, script, jobs, &by, ops)
 }
 
 // The job's own operations, lent to threads: that they may share these is plain of this type alone, whatever else they see.
@@ -64,12 +73,13 @@ struct Around<'a, G, R> {
 }
 
 // Has each process work in a thread of its own, at the bench that all of them share; the threads end before the call does.
-fn work_each<G: Gate + Sync, R: Threads + Wait + Sync>(
+fn work_each<G: Gate + Sync, O: Onlooker, R: Threads + Wait + Sync>(
     rt: &R,
     alloc: Global,
     bench: &Bench<'_, G>,
     script: &Script,
     jobs: Vec<ReadyProcess>,
+    by: &StandsBy<'_, O>,
     ops: &Ops,
 ) -> Result<Vec<Worked>, OutOfMemory>
     requires ready { (setup : Setup) × (AreReady script.now bench.now.relays setup (table_of bench.now.bus.now) jobs.items × (⟦<Ops as Listing>⟧.operations ops.now ≡ setup.operations)) }
@@ -90,16 +100,18 @@ fn work_each<G: Gate + Sync, R: Threads + Wait + Sync>(
         ensures worked { IfOk result (λ worked. IsWorked around.entry.now.script.now around.entry.now.bench.now.relays job.port.setup (table_of around.entry.now.bench.now.bus.now) job.me worked) }
         ensures gate { IfOk result (λ worked. GossipEndsSo (G.gives_up around.entry.now.bench.now.gate.now) job.me around.entry.now.bench.now.turns worked.gossip) }
     {
-        work(
+        let worked = work(
             around.rt,
             around.alloc,
             around.bench,
             around.script,
             job,
             lent.ops,
-        )
+        );
+        around.bench.watch.process_ends();
+        worked
     };
-    let worked = map_at_once(rt, alloc, bench.watch, jobs, &at_work, ops)?;
+    let worked = map_at_once(rt, alloc, jobs, &at_work, ops, by)?;
     all_worked(alloc, worked)
 }
 

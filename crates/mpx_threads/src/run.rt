@@ -14,16 +14,17 @@ ghost use Rattle.mpx_threads.specs.Work.{AreJobs, AreReady, NoneGaveUp, OneGaveU
 
 use crate::gate::Gate;
 use crate::gossip::GossipEnd;
+use crate::onlooker::Onlooker;
 use crate::processes::work_all;
 use crate::rest::are_at_rest;
 use crate::worker::{ReadyProcess, Worked};
 use join_core::OutOfMemory;
 use mpx_bus::{Bus, Named, Port};
-use mpx_job::Options;
 use mpx_meaning::Report;
 use mpx_num::{Listing, Ops};
 use mpx_rank::push_where;
 use mpx_script::Script;
+use mpx_statement::Options;
 use std::alloc::Global;
 use std::marker::Brand;
 use std::sync::Wait;
@@ -69,18 +70,20 @@ impl From<OutOfMemory> for ThreadsError {
 /// Runs a script's ranks, and relays, in threads of this program, over one queue of frames: each rank has one that carries out its
 /// statements and one that gossips, each relay one that gossips. A turn of a gossip takes a frame out of the queue and puts one in; each
 /// process makes at most `options.turns` of them, and none once all ranks have ended, or nobody can hear anything new. The gate is asked
-/// before each step. The seed and the loss aren't used. `ops` are the job's own operations, which all threads read: the script was read
-/// with the same. Whether the run came to rest is told by its ports, once all threads have ended. It may wait.
+/// before each step, and `onlooker` is told now and then how far the run is, in the caller's thread. The seed and the loss aren't used.
+/// `ops` are the job's own operations, which all threads read: the script was read with the same. Whether the run came to rest is told by
+/// its ports, once all threads have ended. It may wait.
 ///
 /// # Errors
 /// `OutOfMemory` where memory was wanting in some thread, or the system refused one; `GateGaveUp` where the gate gave up at some
 /// process's own step. All threads have ended then.
-pub fn run_threads<G: Gate + Sync, R: Threads + Wait + Sync>(
+pub fn run_threads<G: Gate + Sync, O: Onlooker, R: Threads + Wait + Sync>(
     rt: &R,
     alloc: Global,
     script: &Script,
     options: &Options,
     gate: &G,
+    onlooker: O,
     ops: &Ops,
 ) -> Result<ThreadRun, ThreadsError>
     requires { script.now.ranks + options.now.relays ≤ 64 }
@@ -91,7 +94,7 @@ pub fn run_threads<G: Gate + Sync, R: Threads + Wait + Sync>(
     ensures rests { IfOk result (λ run. run.rests ≡ true → (evaluation : State) → IsEvaluationOf (⟦<Ops as Listing>⟧.operations ops.now) script.now evaluation → AreAll (transcripts_of run.report) run.report.waiting.items script.now.ranks evaluation) }
 {
     let (bus, jobs) = planned_bus(alloc, script, options.relays, ops)?;
-    let worked = work_all(rt, alloc, &bus, gate, script, options, jobs, ops)?;
+    let worked = work_all(rt, alloc, &bus, gate, script, options, jobs, onlooker, ops)?;
     none_gave_up(worked.as_slice())?;
     let waiting = waiting_of(alloc, worked.as_slice(), script.ranks())?;
     let rests = are_at_rest(worked.as_slice(), script.ranks() as usize);

@@ -16,10 +16,17 @@ use std::time::Duration;
 // Told of the news by who has ended.
 const ENDED: u64 = u64::MAX;
 
-/// What all threads see: how many ranks have ended, whether the run is to stop, and what each process tells of itself.
+// So long the caller's thread sleeps at most before it tells how far the run is.
+const EACH_MILLIS: u64 = 200;
+
+/// What all threads see: how many calls were begun, how many ranks have ended and how many processes have worked, whether the run is to
+/// stop, and what each process tells of itself. The caller's thread sleeps on `caller`.
 #[derive(Drop)]
 pub(crate) struct Watch {
+    begun: AtomicU64,
     ended: AtomicU64,
+    worked: AtomicU64,
+    caller: Parker,
     stopped: AtomicBool,
     news: AtomicU64,
     processes: Vec<Quiet>,
@@ -61,7 +68,10 @@ impl Watch {
             told.push(Quiet::new(if process < ranks { 0 } else { ENDED }))?;
         }
         Ok(Watch {
+            begun: AtomicU64::new(0),
             ended: AtomicU64::new(0),
+            worked: AtomicU64::new(0),
+            caller: Parker::new(),
             stopped: AtomicBool::new(false),
             news: AtomicU64::new(1),
             processes: told,
@@ -103,6 +113,34 @@ impl Watch {
     pub(crate) fn rank_ends(&self, me: Proc) {
         self.has_looked(me, ENDED);
         self.ended.fetch_add(1, Ordering::SeqCst);
+    }
+
+    /// A rank has come to a call.
+    pub(crate) fn call_begins(&self) {
+        self.begun.fetch_add(1, Ordering::SeqCst);
+    }
+
+    /// All threads of a process have ended.
+    pub(crate) fn process_ends(&self) {
+        self.worked.fetch_add(1, Ordering::SeqCst);
+        self.caller.unpark();
+    }
+
+    /// To how many calls ranks have come.
+    pub(crate) fn begun(&self) -> u64 {
+        self.begun.load(Ordering::SeqCst)
+    }
+
+    /// How many ranks go no further.
+    pub(crate) fn ended(&self) -> u64 {
+        self.ended.load(Ordering::SeqCst)
+    }
+
+    /// Sleeps for a while, or until a process has worked; answers whether all have.
+    pub(crate) fn waits_for_all<R: Wait>(&self, rt: &R) -> bool {
+        self.caller
+            .park_timeout(rt, Duration::from_millis(EACH_MILLIS));
+        self.worked.load(Ordering::SeqCst) >= self.processes.len() as u64
     }
 
     /// Whether nobody can hear anything new, as far as all have told under this number.

@@ -6,15 +6,14 @@ ghost use Rattle.mpx_threads.specs.Gates.{GivesUpWithin};
 ghost use Rattle.mpx_threads.specs.Plans.{Plans};
 ghost use Rattle.mpx_threads.specs.Work.{GossipEndsSo, HasCome, HasWorked, IsNewLedger, IsReadyProcess, IsWorked, lines_in};
 
-use crate::at_once::both;
 use crate::carry::{Carried, carry_out};
 use crate::gate::Gate;
 use crate::gossip::{Bench, GossipEnd, gossip};
 use crate::looks::Looks;
-use crate::task::Task;
 use crate::told::Told;
 use crate::watch::Signal;
 use join_core::OutOfMemory;
+use mpx_at_once::{Task, both};
 use mpx_bus::Port;
 use mpx_group::Proc;
 use mpx_name::Name;
@@ -154,7 +153,7 @@ fn carry_and_gossip<L: PortLock + Send + Sync, G: Gate + Sync, R: Threads + Wait
     };
     match both(rt, carrying, gossiping, ops) {
         Ok((carried, gossiped)) => Ok((carried?, gossiped?)),
-        Err(OutOfMemory) => {
+        Err(_) => {
             bench.watch.stop();
             Err(OutOfMemory)
         }

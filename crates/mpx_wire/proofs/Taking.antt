@@ -1,23 +1,28 @@
 -- What is spelled is joined as it is read.
-use Rattle.std.proofs.Common.{◌≡◌, ℕ, true, List, [], Result, Ok, Err, OnErr, refl, sym, ap, ◌∙◌, subst}
+use Rattle.std.proofs.Common.{◌≡◌, ◌≢◌, ℕ, true, List, [], Result, Ok, Err, OnErr, refl, sym, ap, ◌∙◌, subst}
 use Rattle.std.proofs.lemmas.List.{append-nil}
-use Rattle.mpx_board.specs.Boards.{IsBetween, join}
+use Rattle.mpx_board.specs.Boards.{IsBetween, empty, join}
 use Rattle.mpx_board.specs.Contexts.{look_of}
-use Rattle.mpx_board.specs.Parts.{PartsView, parts_between, parts_between_laws, parts_joining}
+use Rattle.mpx_board.specs.Parts.{PartsView, parts_between, parts_joining}
 use Rattle.mpx_board.specs.Tidy.{is_tidy}
 use Rattle.mpx_board.proofs.Left.{taken_err}
-use Rattle.mpx_board.proofs.Looking.{look-join}
+use Rattle.mpx_board.proofs.Looking.{look-empty, look-join}
+use Rattle.mpx_board.proofs.Order.{same_look}
+use Rattle.mpx_board.proofs.Tidiness.{tidy_empty}
 use Rattle.mpx_format.specs.declared.defects.Defect.{Defect}
 use Rattle.mpx_format.specs.declared.defects.Defect.TheVariants.{BadMagic}
+use Rattle.mpx_format.specs.declared.defects.ReadError.{ReadError}
+use Rattle.mpx_format.specs.declared.defects.ReadError.TheVariants as errors
 use Rattle.mpx_format.specs.declared.versions.Version.{Version}
 use Rattle.mpx_format.specs.Codes.{version_byte}
 use Rattle.mpx_format.specs.Contexts.{frame, parts}
 use Rattle.mpx_format.specs.Decoding.{IsSpelled, Spells}
-use Rattle.mpx_format.specs.Format.{Format, ◌>>=◌, both, mark, mark_at}
+use Rattle.mpx_format.specs.declared.versions.Version.TheVariants.{One, Two}
+use Rattle.mpx_format.specs.Format.{Fails, Format, ◌>>=◌, both, mark, mark_at}
 use Rattle.mpx_format.proofs.ContextLaws.{frame_laws}
 use Rattle.mpx_format.proofs.Decoded.{frame_tidy}
 use Rattle.mpx_format.proofs.FormatLaws.{bind_ok, ok_is}
-use Rattle.mpx_decode.specs.Raising.{JoinsFront, StandsTidy, StopsBetween}
+use Rattle.mpx_decode.specs.Raising.{JoinsFront, StandsTidy, StopsBetween, no_parts}
 use Rattle.mpx_wire.specs.Reading.{front}
 
 pub on_err : {T E P : Type 0} (r : Result T E) → P → OnErr r P
@@ -45,10 +50,44 @@ parts_follow =
     (marked version_byte parts BadMagic 88 (mark BadMagic 71 both_of) (mark BadMagic 71 version_byte)
     (marked version_byte parts BadMagic 71 both_of version_byte (λ bytes. refl))))
 
+abbrev parts_after : Result (Version × List ℕ) Defect → Result ((Version × PartsView) × List ℕ) Defect
+parts_after front_read = front_read >>= λ (a : Version × List ℕ). (parts a.0).read a.1 >>= λ (b : PartsView × List ℕ). Ok ((a.0, b.0), b.1)
+
+-- where the front isn't read, the frame isn't
+pub front_fails : (bytes : List ℕ) (e : ReadError) → Fails e (front.read bytes) → Fails e (frame.read bytes)
+front_fails bytes errors.OutOfMemory h = tt
+front_fails bytes (errors.Defect d) h = parts_follow bytes ∙ ap parts_after h
+
+module _ (bytes : List ℕ) (version : Version) (rest : List ℕ) (is : front.read bytes ≡ Ok (version, rest)) where
+  abbrev with_version : Result (PartsView × List ℕ) Defect → Result ((Version × PartsView) × List ℕ) Defect
+  with_version parts_read = parts_read >>= λ (b : PartsView × List ℕ). Ok ((version, b.0), b.1)
+
+  behind_front : frame.read bytes ≡ with_version ((parts version).read rest)
+  behind_front = parts_follow bytes ∙ ap parts_after is
+
+  pub parts_fail : (e : ReadError) → Fails e ((parts version).read rest) → Fails e (frame.read bytes)
+  parts_fail errors.OutOfMemory h = tt
+  parts_fail (errors.Defect d) h = behind_front ∙ ap with_version h
+
+  pub parts_found : (v : PartsView) (left : List ℕ) → (parts version).read rest ≡ Ok (v, left) → frame.read bytes ≡ Ok ((version, v), left)
+  parts_found v left h = behind_front ∙ ap with_version h
+
+frame_spelled : (bytes : List ℕ) (v : PartsView) (s : IsSpelled bytes v) → frame.read bytes ≡ Ok ((s.0, v), [])
+frame_spelled bytes v s = ap frame.read (s.1.bytes_are ∙ sym (append-nil (frame.spelling (s.0, v)))) ∙ frame_laws.again (s.0, v) [] s.1.fits
+
+-- the front of what is spelled is read
+pub front_stands : (bytes : List ℕ) → ((v : PartsView) × IsSpelled bytes v) → (e : ReadError) → Fails e (front.read bytes) → e ≢ errors.OutOfMemory → ⊥
+front_stands bytes s errors.OutOfMemory fails other = other refl
+front_stands bytes s (errors.Defect d) fails other =
+    let none : frame.read bytes ≡ Err d = front_fails bytes (errors.Defect d) fails in
+    let found : (Version × PartsView) × List ℕ = ((s.1.0, s.0), []) in
+    let clash : Err d ≡ Ok found = sym none ∙ frame_spelled bytes s.0 s.1 in
+    absurd cc
+
 -- the parts that are spelled stand behind the front
 pub spelled_behind : (bytes : List ℕ) (v : PartsView) → IsSpelled bytes v → (version : Version) (rest : List ℕ) → front.read bytes ≡ Ok (version, rest) → (parts version).read rest ≡ Ok (v, [])
 spelled_behind bytes v s version rest e =
-    let read : frame.read bytes ≡ Ok ((s.0, v), []) = ap frame.read (s.1.bytes_are ∙ sym (append-nil (frame.spelling (s.0, v)))) ∙ frame_laws.again (s.0, v) [] s.1.fits in
+    let read : frame.read bytes ≡ Ok ((s.0, v), []) = frame_spelled bytes v s in
     let after : ((parts version).read rest >>= λ (b : PartsView × List ℕ). Ok ((version, b.0), b.1)) ≡ Ok ((s.0, v), []) =
     ap (λ (r : Result (Version × List ℕ) Defect). r >>= λ (a : Version × List ℕ). (parts a.0).read a.1 >>= λ (b : PartsView × List ℕ). Ok ((a.0, b.0), b.1)) (sym e) ∙ sym (parts_follow bytes) ∙ read in
     let b = bind_ok ((parts version).read rest) (λ (b : PartsView × List ℕ). Ok ((version, b.0), b.1)) ((s.0, v), []) after in
@@ -70,6 +109,19 @@ module _ (bytes : List ℕ) (version : Version) (rest : List ℕ) (e : front.rea
   pub spelled_left : StopsBetween (parts version) parts_between rest old new → (v : PartsView) → IsSpelled bytes v → IsBetween (look_of old) (look_of v) (look_of new)
   spelled_left r v s = taken_err (Err (tt {0})) old v new (subst (λ (w : PartsView). parts_between old w new) (only v r.value r.rest s r.read) r.left)
 
--- nothing was joined
-pub nothing_joined : (old v : PartsView) → IsBetween (look_of old) (look_of v) (look_of old)
-nothing_joined old v = taken_err (Err (tt {0})) old v old (parts_between_laws.old old v)
+-- NOTHING TOLD
+
+-- the front of a frame, and what is left behind it
+front_of : (version : Version) (v : PartsView) → front.read (frame.spelling (version, v)) ≡ Ok (version, (parts version).spelling v)
+unfolding frame
+front_of One v = refl
+front_of Two v = refl
+
+pub behind_it : (bytes : List ℕ) (version : Version) (rest : List ℕ) → front.read bytes ≡ Ok (version, rest) → (w : Version) (v : PartsView) → bytes ≡ frame.spelling (w, v) → rest ≡ (parts version).spelling v
+behind_it bytes version rest is w v e =
+    let same : (version, rest) ≡ (w, (parts w).spelling v) = ok_is (version, rest) (w, (parts w).spelling v) (sym is ∙ ap front.read e ∙ front_of w v) in
+    ap (λ (x : Version × List ℕ). x.1) same ∙ ap (λ (x : Version × List ℕ). (parts x.0).spelling v) (sym same)
+
+-- what tells nothing has no parts
+pub spells_none : (bytes : List ℕ) (v : PartsView) (s : IsSpelled bytes v) → look_of v ≡ empty → bytes ≡ frame.spelling (s.0, no_parts)
+spells_none bytes v s none = s.1.bytes_are ∙ ap (λ (w : PartsView). frame.spelling (s.0, w)) (same_look v no_parts (frame_tidy s.0 v s.1.fits) tidy_empty (none ∙ sym look-empty))

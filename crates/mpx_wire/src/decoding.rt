@@ -1,13 +1,14 @@
 //! Reading whole frames, into boards of their own or joined to another.
-ghost use Rattle.std.specs.Prelude.{◌≡◌, IfOk, IfErr, Ok, OnErr, OnOk};
-ghost use Rattle.mpx_board.specs.Boards.{IsBetween, join};
+ghost use Rattle.std.specs.Prelude.{◌≡◌, ◌≢◌, IfOk, IfErr, IsTrue, Ok, OnErr, OnOk, is_ok};
+ghost use Rattle.mpx_board.specs.Boards.{IsBetween, empty, join};
 ghost use Rattle.mpx_board.specs.Contexts.{look_of};
 ghost use Rattle.mpx_board.specs.Parts.{PartsView, parts_between, parts_joining};
 ghost use Rattle.mpx_board.specs.Looks.{look, parts_of};
-ghost use Rattle.mpx_format.specs.Format.{Gives, both, mark_at};
-ghost use Rattle.mpx_format.specs.Codes.{version_byte};
-ghost use Rattle.mpx_format.specs.Contexts.{frame, parts as parts_format};
+ghost use Rattle.mpx_format.specs.Format.{Gives, mark_at};
+ghost use Rattle.mpx_format.specs.Contexts.{frame};
 ghost use Rattle.mpx_format.specs.Decoding.{IsSpelled, Decodes, Refuses, decoded};
+ghost use Rattle.mpx_format.specs.declared.versions.Version.{Version};
+ghost use Rattle.mpx_decode.specs.Raising.{no_parts};
 ghost use Rattle.mpx_wire.specs.Reading.{front};
 
 use join_core::{Exact, OutOfMemory};
@@ -18,7 +19,8 @@ use std::alloc::Global;
 
 // This byte; else the fault.
 fn read_mark(wrong: Defect, mark: u8, bytes: &[u8]) -> Result<&[u8], ReadError>
-    ensures { Gives (λ x. x.now) result (mark_at wrong mark bytes.now) }
+    ensures gives { Gives (λ x. x.now) result (mark_at wrong mark bytes.now) }
+    ensures memory { IfErr result (λ e. e ≢ ReadError.OutOfMemory) }
 {
     match bytes {
         [] => Err(SHORT),
@@ -32,24 +34,27 @@ fn read_mark(wrong: Defect, mark: u8, bytes: &[u8]) -> Result<&[u8], ReadError>
     }
 }
 
-// The version, and the parts as it spells them.
-fn read_versioned(alloc: Global, bytes: &[u8]) -> Result<((Version, Parts), &[u8]), ReadError>
-    ensures { Gives (λ x. ((x.0.0, ⟦<Parts as Exact>⟧.view x.0.1), x.1.now)) result ((both version_byte parts_format).read bytes.now) }
-{
-    let (version, rest) = read_version(bytes)?;
-    let (parts, rest) = read_parts(version, alloc, rest)?;
-    Ok(((version, parts), rest))
-}
-
-#[tactic(auto, unfolding(mpx_format::specs::Contexts::frame))]
-fn read_frame(alloc: Global, bytes: &[u8]) -> Result<((Version, Parts), &[u8]), ReadError>
-    ensures { Gives (λ x. ((x.0.0, ⟦<Parts as Exact>⟧.view x.0.1), x.1.now)) result (frame.read bytes.now) }
+// What stands before the parts: the magic and the version.
+fn read_front(bytes: &[u8]) -> Result<(Version, &[u8]), ReadError>
+    ensures gives { Gives (λ x. (x.0, x.1.now)) result (front.read bytes.now) }
+    ensures memory { IfErr result (λ e. e ≢ ReadError.OutOfMemory) }
 {
     let rest = read_mark(Defect::BadMagic, 0x4d, bytes)?;
     let rest = read_mark(Defect::BadMagic, 0x50, rest)?;
     let rest = read_mark(Defect::BadMagic, 0x58, rest)?;
     let rest = read_mark(Defect::BadMagic, 0x47, rest)?;
-    read_versioned(alloc, rest)
+    read_version(rest)
+}
+
+// The version, and the parts as it spells them.
+fn read_frame(alloc: Global, bytes: &[u8]) -> Result<((Version, Parts), &[u8]), ReadError>
+    ensures gives { Gives (λ x. ((x.0.0, ⟦<Parts as Exact>⟧.view x.0.1), x.1.now)) result (frame.read bytes.now) }
+    ensures memory { IfErr result (λ e. e ≡ ReadError.OutOfMemory → IsTrue (is_ok (front.read bytes.now))) }
+    ensures some { IfErr result (λ e. e ≡ ReadError.OutOfMemory → (version : Version) → bytes.now ≢ frame.spelling (version, no_parts)) }
+{
+    let (version, rest) = read_front(bytes)?;
+    let (parts, rest) = read_parts(version, alloc, rest)?;
+    Ok(((version, parts), rest))
 }
 
 // The most bytes of a frame.
@@ -59,6 +64,8 @@ const MOST_BYTES: usize = 1_048_576;
 fn parts_of(alloc: Global, bytes: &[u8]) -> Result<Parts, WireError>
     ensures ok { IfOk result (λ parts. decoded bytes.now ≡ Ok (⟦<Parts as Exact>⟧.view parts)) }
     ensures err { IfErr result (λ e. Refuses e (decoded bytes.now)) }
+    ensures memory { IfErr result (λ e. e ≡ WireError.OutOfMemory → IsTrue (is_ok (front.read bytes.now))) }
+    ensures some { IfErr result (λ e. e ≡ WireError.OutOfMemory → (version : Version) → bytes.now ≢ frame.spelling (version, no_parts)) }
 {
     if bytes.len() > MOST_BYTES {
         return Err(WireError::TooLong);
@@ -88,6 +95,9 @@ pub fn decode(alloc: Global, bytes: &[u8]) -> Result<Board, WireError>
     ensures only { (v : PartsView) → IsSpelled bytes.now v → Decodes result (Ok v) }
     // Which field is refused, and with what.
     ensures exact { Decodes result (decoded bytes.now) }
+    // What stands before the parts takes no memory, and a frame that tells nothing takes none.
+    ensures memory { IfErr result (λ e. e ≡ WireError.OutOfMemory → IsTrue (is_ok (front.read bytes.now))) }
+    ensures some { IfErr result (λ e. e ≡ WireError.OutOfMemory → (v : PartsView) → IsSpelled bytes.now v → look_of v ≢ empty) }
 {
     let parts = parts_of(alloc, bytes)?;
     Ok(Board::from_tidy(parts))
@@ -96,28 +106,18 @@ pub fn decode(alloc: Global, bytes: &[u8]) -> Result<Board, WireError>
 /// Joins the board that these bytes spell to the board, in place, as [`decode`] and then [`Board::take`] do, without a board of
 /// its own for what they say: the numbers of acknowledgements are raised as they are read. That they spell one is the caller's
 /// condition. An `Err`, for want of memory, leaves a board between the old one and the join, each fact of which is one of the board,
-/// of the spelled one or of their join.
+/// of the spelled one or of their join; a frame that tells nothing wants none.
 pub fn take_spelled(alloc: Global, board: &mut Board, bytes: &[u8]) -> Result<(), OutOfMemory>
     requires { (v : PartsView) × IsSpelled bytes.now v }
     ensures ok { OnOk result ((v : PartsView) → IsSpelled bytes.now v → look board.new ≡ join (look board.old) (look_of v)) }
     ensures err { OnErr result ((v : PartsView) → IsSpelled bytes.now v → IsBetween (look board.old) (look_of v) (look board.new)) }
+    ensures some { OnErr result ((v : PartsView) → IsSpelled bytes.now v → look_of v ≢ empty) }
 {
     match read_front(bytes) {
-        Err(_) => Err(OutOfMemory),
+        Err(_) => unreachable!(),
         Ok((version, rest)) => {
             let _after = take_parts(version, alloc, board, rest)?;
             Ok(())
         }
     }
-}
-
-// What stands before the parts: the magic and the version.
-fn read_front(bytes: &[u8]) -> Result<(Version, &[u8]), ReadError>
-    ensures { Gives (λ x. (x.0, x.1.now)) result (front.read bytes.now) }
-{
-    let rest = read_mark(Defect::BadMagic, 0x4d, bytes)?;
-    let rest = read_mark(Defect::BadMagic, 0x50, rest)?;
-    let rest = read_mark(Defect::BadMagic, 0x58, rest)?;
-    let rest = read_mark(Defect::BadMagic, 0x47, rest)?;
-    read_version(rest)
 }

@@ -4,9 +4,9 @@ use Rattle.clap.specs.declared.error.kind.ErrorKind.TheVariants.{DisplayHelp, Di
 use Rattle.clap.specs.Faults.{walk_fault, defaults_fault}
 use Rattle.clap.specs.Walk.{walked}
 use Rattle.mpx_num.specs.Text.{magnitude, number_of}
-use Rattle.mpx_job.specs.declared.Command.TheVariants.{Run, Check}
+use Rattle.mpx_statement.specs.declared.job.Command.TheVariants.{Run, Check}
 use Rattle.mpx_words.specs.Usage.{refusal_kinds}
-use Rattle.mpx_words.specs.Words.{call_in, job_in, usual, with_threads}
+use Rattle.mpx_words.specs.Words.{invocation_in, job_in, usual}
 
 no_command : refusal_kinds (codes "gossipmpi" ∷ []) ≡ DisplayHelpOnMissingArgumentOrSubcommand ∷ []
 unfolding walk_fault defaults_fault
@@ -54,7 +54,7 @@ strange_flag = refl
 
 -- which jobs some words ask for
 
-threads_alone : job_in (codes "gossipmpi" ∷ codes "run" ∷ codes "--threads" ∷ []) ≡ Some (record { command = Run; options = with_threads usual })
+threads_alone : job_in (codes "gossipmpi" ∷ codes "run" ∷ codes "--threads" ∷ []) ≡ Some (record { command = Run; options = record usual { threads = true } })
 threads_alone = refl
 
 threads_and_turns : job_in (codes "gossipmpi" ∷ codes "run" ∷ codes "--turns" ∷ codes "9" ∷ codes "--threads" ∷ codes "--relays" ∷ codes "2" ∷ [])
@@ -80,20 +80,20 @@ nothing_in_the_same_word = refl
 
 -- what is asked for beside the job
 
-strict_run : call_in (codes "gossipmpi" ∷ codes "run" ∷ codes "--strict" ∷ codes "--threads" ∷ [])
-    ≡ Some (record { job = record { command = Run; options = with_threads usual }; flags = record { strict = true; explain = false; trace = false; table = false } })
+strict_run : invocation_in (codes "gossipmpi" ∷ codes "run" ∷ codes "--strict" ∷ codes "--threads" ∷ [])
+    ≡ Some (record { job = record { command = Run; options = record usual { threads = true } }; flags = record { strict = true; explain = false; trace = false; table = false } })
 strict_run = refl
 
-explained_check : call_in (codes "gossipmpi" ∷ codes "check" ∷ codes "--explain" ∷ [])
+explained_check : invocation_in (codes "gossipmpi" ∷ codes "check" ∷ codes "--explain" ∷ [])
     ≡ Some (record { job = record { command = Check; options = usual }; flags = record { strict = false; explain = true; trace = false; table = false } })
 explained_check = refl
 
-trace_in_threads : call_in (codes "gossipmpi" ∷ codes "run" ∷ codes "--trace" ∷ codes "--threads" ∷ []) ≡ None
+trace_in_threads : invocation_in (codes "gossipmpi" ∷ codes "run" ∷ codes "--trace" ∷ codes "--threads" ∷ []) ≡ None
 trace_in_threads = refl
 
-trace_of_an_evaluation : call_in (codes "gossipmpi" ∷ codes "eval" ∷ codes "--trace" ∷ []) ≡ None
+trace_of_an_evaluation : invocation_in (codes "gossipmpi" ∷ codes "eval" ∷ codes "--trace" ∷ []) ≡ None
 trace_of_an_evaluation = refl
 
-flag_is_no_number : call_in (codes "gossipmpi" ∷ codes "run" ∷ codes "--seed" ∷ codes "--strict" ∷ []) ≡ None
+flag_is_no_number : invocation_in (codes "gossipmpi" ∷ codes "run" ∷ codes "--seed" ∷ codes "--strict" ∷ []) ≡ None
 unfolding number_of magnitude
 flag_is_no_number = refl

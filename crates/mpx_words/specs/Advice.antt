@@ -7,7 +7,7 @@ use Rattle.clap.specs.Walk.{Text}
 use Rattle.clap.specs.declared.error.kind.ErrorKind.{ErrorKind}
 use Rattle.clap.specs.declared.error.kind.ErrorKind.TheVariants as kind
 use Rattle.mpx_num.specs.Text.{number_of}
-use Rattle.mpx_words.specs.Words.{begins_with, is_common, is_whole}
+use Rattle.mpx_words.specs.Words.{begins_with, is_common, is_in_one_word}
 
 -- a word that is `-`, or doesn't begin with it
 abbrev pub is_plain : Text → Bool
@@ -26,7 +26,7 @@ abbrev pub awaits_behind : (awaits : Bool) → Text → Option Bool
 awaits_behind awaits word =
     if awaits && is_plain word then Some false else
     if is_option word then Some true else
-    if is_whole word then Some false else
+    if is_in_one_word word then Some false else
     None
 
 -- the first word, if it is plain or says how many ranks there are

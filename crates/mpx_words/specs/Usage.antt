@@ -1,5 +1,5 @@
 -- The program's commands and options as clap sees them, and which kinds a refusal may have.
-use Rattle.std.specs.Prelude.{false, true, List, [], ◌∷◌, Some, codes}
+use Rattle.std.specs.Prelude.{false, true, List, [], ◌∷◌, ◌++◌, Some, codes, map}
 use Rattle.clap.specs.Walk.{Rule, Text}
 use Rattle.clap.specs.Simple.{App, Shape, new_rule, new_shape}
 use Rattle.clap.specs.declared.builder.action.ArgAction.TheVariants.{SetTrue}
@@ -19,55 +19,30 @@ common = flag (codes "strict") ∷ flag (codes "explain") ∷ []
 abbrev pub plain : Text → Shape
 plain name = record (new_shape name) { rules = common }
 
--- those of `run` that stand alone
-abbrev pub run_flags : List Rule
-run_flags = flag (codes "strict") ∷ flag (codes "explain") ∷ flag (codes "trace") ∷ flag (codes "table") ∷ flag (codes "threads") ∷ []
-
 -- an option that is followed by a value
 abbrev pub valued : Text → Rule
 valued name = record (new_rule name) { long = Some name }
 
--- those, and what a run draws from
+-- the options of `run`: those that stand alone, those that it draws from, and the others
+abbrev pub run_flags : List Rule
+run_flags = common ++ map flag (codes "trace" ∷ codes "table" ∷ codes "threads" ∷ [])
+
 abbrev pub run_draws : List Rule
-run_draws =
-    flag (codes "strict")
-    ∷ flag (codes "explain")
-    ∷ flag (codes "trace")
-    ∷ flag (codes "table")
-    ∷ flag (codes "threads")
-    ∷ valued (codes "seed")
-    ∷ valued (codes "loss")
-    ∷ []
+run_draws = run_flags ++ map valued (codes "seed" ∷ codes "loss" ∷ [])
 
--- `run` with its options: each of the others is followed by a value
 abbrev pub run : Shape
-run = record (new_shape (codes "run")) {
-  rules = flag (codes "strict")
-      ∷ flag (codes "explain")
-      ∷ flag (codes "trace")
-      ∷ flag (codes "table")
-      ∷ flag (codes "threads")
-      ∷ valued (codes "seed")
-      ∷ valued (codes "loss")
-      ∷ valued (codes "relays")
-      ∷ valued (codes "turns")
-      ∷ valued (codes "workers")
-      ∷ [];
-}
+run = record (new_shape (codes "run")) { rules = run_draws ++ map valued (codes "relays" ∷ codes "turns" ∷ codes "workers" ∷ []) }
 
--- the program without its commands: it tells its version, and wants a command
-abbrev pub bare_usage : App
-bare_usage = record {
-  top = record (new_shape (codes "gossipmpi")) { has_version = true; arg_required_else_help = true; subcommand_required = true };
-  subs = [];
-}
-
--- one of `run`, `eval` and `check` is wanted
+-- the program tells its version, and wants one of the commands `run`, `eval` and `check`
 abbrev pub usage : App
 usage = record {
-  top = record (bare_usage.top) { is_leaf = false };
+  top = record (new_shape (codes "gossipmpi")) { has_version = true; arg_required_else_help = true; subcommand_required = true; is_leaf = false };
   subs = run ∷ plain (codes "eval") ∷ plain (codes "check") ∷ [];
 }
+
+-- without its commands
+abbrev pub bare_usage : App
+bare_usage = record { top = record (usage.top) { is_leaf = true }; subs = [] }
 
 -- clap's, where it refuses the words (`--help` counts as refused); else the value of an option is wrong
 abbrev pub refusal_kinds : List Text → Kinds

@@ -1,13 +1,14 @@
 -- The words of a call, and the job that they ask for.
 use Rattle.std.specs.Prelude.{Bool, true, false, not, ℕ, ℤ, pos, negsuc, ◌&&◌, ◌||◌, List, [], ◌∷◌, Option, Some, None, codes, bytes_eq, drop, is_some, length, nat_le, option_and_then, take, if◌then◌else◌}
+use Rattle.std.specs.List.{list_all, list_any}
 use Rattle.std.specs.Option.{option_map}
 use Rattle.mpx_num.specs.Text.{number_of}
-use Rattle.mpx_job.specs.declared.Command.{Command}
-use Rattle.mpx_job.specs.declared.Command.TheVariants.{Run, Eval, Check}
-use Rattle.mpx_job.specs.declared.Job.{Job}
-use Rattle.mpx_job.specs.declared.Options.{Options}
-use Rattle.mpx_words.specs.declared.call.Call.{Call}
-use Rattle.mpx_words.specs.declared.call.Flags.{Flags}
+use Rattle.mpx_statement.specs.declared.job.Command.{Command}
+use Rattle.mpx_statement.specs.declared.job.Command.TheVariants.{Run, Eval, Check}
+use Rattle.mpx_statement.specs.declared.job.Job.{Job}
+use Rattle.mpx_statement.specs.declared.job.Options.{Options}
+use Rattle.mpx_words.specs.declared.invocation.Flags.{Flags}
+use Rattle.mpx_words.specs.declared.invocation.Invocation.{Invocation}
 use Rattle.clap.specs.Walk.{Text}
 
 -- a number from the least to the most
@@ -22,29 +23,17 @@ number_within least most word = option_and_then (in_range least most) (number_of
 abbrev pub usual : Options
 usual = record { threads = false; seed = 1; loss = 0; relays = 0; turns = 100000; workers = None }
 
--- the option of a run that stands alone
-abbrev pub is_threads : Text → Bool
-is_threads word = bytes_eq word (codes "--threads")
-
--- these options, in threads
-abbrev pub with_threads : Options → Options
-with_threads o = record o { threads = true }
-
--- the words that show a run as it goes
-abbrev pub is_view : Text → Bool
-is_view word = bytes_eq word (codes "--trace") || bytes_eq word (codes "--table")
-
 -- the words that each command may have
 abbrev pub is_common : Text → Bool
 is_common word = bytes_eq word (codes "--strict") || bytes_eq word (codes "--explain")
 
 -- an option of `run` that stands alone
 abbrev pub is_flag : Text → Bool
-is_flag word = is_threads word || (is_view word || is_common word)
+is_flag word = bytes_eq word (codes "--threads") || (bytes_eq word (codes "--trace") || (bytes_eq word (codes "--table") || is_common word))
 
 -- these options with that one: `--threads` alone is one of them
 abbrev pub with_flag : Options → Text → Options
-with_flag o word = if is_threads word then with_threads o else o
+with_flag o word = if bytes_eq word (codes "--threads") then record o { threads = true } else o
 
 -- these options with one more that has a number
 abbrev pub with_option : Options → (option value : Text) → Option Options
@@ -76,12 +65,12 @@ with_joined o word =
     None
 
 -- an option that is whole in one word: one that stands alone, or one with its number behind `=`
-abbrev pub is_whole : Text → Bool
-is_whole word = is_flag word || is_joined word
+abbrev pub is_in_one_word : Text → Bool
+is_in_one_word word = is_flag word || is_joined word
 
 -- these options with that one
 abbrev pub with_whole : Options → Text → Option Options
-with_whole o word = if is_flag word then Some (with_flag o word) else with_joined o word
+with_whole o word = if is_flag word then Some (if bytes_eq word (codes "--threads") then record o { threads = true } else o) else with_joined o word
 
 -- OPTIONS
 
@@ -90,59 +79,44 @@ abbrev pub options_in : Options → List Text → Option Options
 options_in o [] = Some o
 options_in o (option ∷ []) = with_whole o option
 options_in o (option ∷ value ∷ rest) =
-    if is_whole option then option_and_then (λ p. options_in p (value ∷ rest)) (with_whole o option) else
+    if is_in_one_word option then option_and_then (λ p. options_in p (value ∷ rest)) (with_whole o option) else
     option_and_then (λ p. options_in p rest) (with_option o option value)
 
--- each of the words is one that each command may have
-abbrev pub are_common : List Text → Bool
-are_common [] = true
-are_common (word ∷ rest) = if is_common word then are_common rest else false
-
--- a command that has no options but those
+-- a command that has no options but those that each command may have
 abbrev pub alone : Command → List Text → Option Job
-alone command words = if are_common words then Some (record { command = command; options = usual }) else None
+alone command words = if list_all is_common words then Some (record { command = command; options = usual }) else None
 
 -- the job that the words ask for: the program's name, `run` and options, or `eval` or `check`
 abbrev pub job_in : List Text → Option Job
-job_in [] = None
-job_in (name ∷ []) = None
 job_in (name ∷ command ∷ rest) =
     if bytes_eq command (codes "run") then option_map (λ o. record { command = Run; options = o }) (options_in usual rest) else
     if bytes_eq command (codes "eval") then alone Eval rest else
     if bytes_eq command (codes "check") then alone Check rest else
     None
+job_in words = None
 
 -- WHAT IS ASKED FOR BESIDE THE JOB
 
--- whether a word stands among these
-abbrev pub has : List Text → Text → Bool
-has [] flag = false
-has (word ∷ rest) flag = if bytes_eq word flag then true else has rest flag
-
 abbrev pub flags_of : List Text → Flags
 flags_of words = record {
-  strict = has words (codes "--strict");
-  explain = has words (codes "--explain");
-  trace = has words (codes "--trace");
-  table = has words (codes "--table");
+  strict = list_any (λ word. bytes_eq word (codes "--strict")) words;
+  explain = list_any (λ word. bytes_eq word (codes "--explain")) words;
+  trace = list_any (λ word. bytes_eq word (codes "--trace")) words;
+  table = list_any (λ word. bytes_eq word (codes "--table")) words;
 }
 
 -- behind the program's name and the command's
 abbrev pub flags_behind : List Text → Flags
-flags_behind [] = flags_of []
-flags_behind (name ∷ []) = flags_of []
 flags_behind (name ∷ command ∷ words) = flags_of words
+flags_behind words = flags_of []
 
--- a simulated run is shown in one way
-abbrev pub fits : Job → Flags → Bool
-fits job flags = not ((flags.trace || flags.table) && job.options.threads) && not (flags.trace && flags.table)
-
-abbrev pub fitting : Job → Flags → Option Call
-fitting job flags = if fits job flags then Some (record { job = job; flags = flags }) else None
+-- a job with what is asked for beside it: a simulated run is shown in one way
+abbrev pub fitting : Job → Flags → Option Invocation
+fitting job flags = if not ((flags.trace || flags.table) && job.options.threads) && not (flags.trace && flags.table) then Some (record { job = job; flags = flags }) else None
 
 -- what the words ask for: a job, and what is asked for beside it
-abbrev pub call_in : List Text → Option Call
-call_in words = option_and_then (λ job. fitting job (flags_behind words)) (job_in words)
+abbrev pub invocation_in : List Text → Option Invocation
+invocation_in words = option_and_then (λ job. fitting job (flags_behind words)) (job_in words)
 
 -- WHAT IS SAID OF WORDS THAT ASK FOR NO JOB
 
@@ -177,9 +151,9 @@ or_more (Some options) option more = more
 -- what is wrong with the first of these options that gives none
 abbrev pub complaint : List Text → Text
 complaint [] = no_pair
-complaint (option ∷ []) = if is_whole option then or_more (with_whole usual option) option no_pair else no_pair
+complaint (option ∷ []) = if is_in_one_word option then or_more (with_whole usual option) option no_pair else no_pair
 complaint (option ∷ value ∷ rest) =
-    if is_whole option then or_more (with_whole usual option) option (complaint (value ∷ rest)) else
+    if is_in_one_word option then or_more (with_whole usual option) option (complaint (value ∷ rest)) else
     or_more (with_option usual option value) option (complaint rest)
 
 -- what is said of words that ask for no job

@@ -4,7 +4,7 @@ ghost use Rattle.std.specs.Prelude.{◌≡◌, IfOk, false, map, option_map, str
 ghost use Rattle.std.specs.Option.{option_copied};
 ghost use Rattle.mpx_words.specs.Advice.{advice, advice_first, advice_of, asks_ranks, awaits_behind, file_advice, first_surplus, is_file, is_option, is_plain, is_run, ranks_advice, shown, stands_alone, surplus, surplus_alone, surplus_behind, told_instead};
 
-use crate::command::{is_common, is_whole};
+use crate::command::{is_common, is_in_one_word};
 use clap::error::ErrorKind;
 use mpx_num::parse_number;
 use std::alloc::{AllocError, Global};
@@ -151,7 +151,11 @@ fn awaits_behind(awaits: bool, word: &[u8]) -> Option<bool>
     if is_option(word) {
         return Some(true);
     }
-    if is_whole(word) { Some(false) } else { None }
+    if is_in_one_word(word) {
+        Some(false)
+    } else {
+        None
+    }
 }
 
 // The first word, or the one behind `--`, if it is plain or says how many ranks there are.

@@ -1,14 +1,15 @@
 //! The words of a call, and what they ask for.
-ghost use Rattle.std.specs.Prelude.{◌≡◌, ◌≤◌, IfErr, IfOk, IfSome, None, Some, drop, length, map, string_bytes};
+ghost use Rattle.std.specs.Prelude.{◌≡◌, ◌≤◌, IfErr, IfOk, IfSome, None, Some, bytes_eq, drop, length, map, string_bytes};
+ghost use Rattle.std.specs.List.{list_all, list_any};
 ghost use Rattle.clap.specs.Words.{HasKind};
 ghost use Rattle.mpx_words.specs.Usage.{refusal_kinds};
-ghost use Rattle.mpx_words.specs.Words.{alone, are_common, call_in, fits, fitting, flags_behind, flags_of, has, is_common, is_flag, is_joined, is_threads, is_view, is_whole, job_in, number_within, options_in, usual, with_flag, with_joined, with_option, with_threads, with_whole};
+ghost use Rattle.mpx_words.specs.Words.{alone, fitting, flags_behind, flags_of, invocation_in, is_common, is_flag, is_in_one_word, is_joined, job_in, number_within, options_in, usual, with_flag, with_joined, with_option, with_whole};
 
-use crate::call::{Call, Flags};
+use crate::invocation::{Flags, Invocation};
 use crate::refusal::no_job;
 use clap::Error;
-use mpx_job::{Command, Job, Options};
 use mpx_num::parse_number;
+use mpx_statement::{Command, Job, Options};
 use std::alloc::Global;
 
 /// What `words` ask for, of which the first is the program's own name and the second the command's: `run` with `--threads`, `--seed N`
@@ -16,40 +17,33 @@ use std::alloc::Global;
 /// `--trace` or `--table`, neither with `--threads`; or `eval` or `check`. Each command may have `--strict` and `--explain`. `--seed=N`
 /// is `--seed N`, and so of each option with a number. Of an option that is given twice the last counts. A refusal has clap's text, or
 /// is want of memory.
-pub fn call_of(alloc: Global, words: &[String]) -> Result<Call, Error>
-    ensures ok { IfOk result (λ call. call_in (map string_bytes words.now) ≡ Some call) }
-    ensures err { IfErr result (λ e. call_in (map string_bytes words.now) ≡ None) }
+pub fn call_of(alloc: Global, words: &[String]) -> Result<Invocation, Error>
+    ensures ok { IfOk result (λ call. invocation_in (map string_bytes words.now) ≡ Some call) }
+    ensures err { IfErr result (λ e. invocation_in (map string_bytes words.now) ≡ None) }
     ensures kind { IfErr result (HasKind (refusal_kinds (map string_bytes words.now))) }
 {
-    match call_in(words) {
+    match invocation_in(words) {
         Some(call) => Ok(call),
         None => Err(no_job(alloc, words)),
     }
 }
 
-fn call_in(words: &[String]) -> Option<Call>
-    ensures { result ≡ call_in (map string_bytes words.now) }
+fn invocation_in(words: &[String]) -> Option<Invocation>
+    ensures { result ≡ invocation_in (map string_bytes words.now) }
 {
     let job = job_in(words)?;
     fitting(job, flags_behind(words))
 }
 
-// A job with what is asked for beside it, where both fit.
-fn fitting(job: Job, flags: Flags) -> Option<Call>
+// A job with what is asked for beside it: a simulated run is shown in one way.
+fn fitting(job: Job, flags: Flags) -> Option<Invocation>
     ensures { result ≡ fitting job flags }
 {
-    if fits(job, flags) {
-        Some(Call { job, flags })
+    if !((flags.trace || flags.table) && job.options.threads) && !(flags.trace && flags.table) {
+        Some(Invocation { job, flags })
     } else {
         None
     }
-}
-
-// A simulated run is shown in one way.
-fn fits(job: Job, flags: Flags) -> bool
-    ensures { result ≡ fits job flags }
-{
-    !((flags.trace || flags.table) && job.options.threads) && !(flags.trace && flags.table)
 }
 
 /// What the words ask for beside a job, behind the program's name and the command's.
@@ -77,7 +71,7 @@ fn flags_of(words: &[String]) -> Flags
 
 // Whether a word stands among these.
 fn has(words: &[String], flag: &[u8]) -> bool
-    ensures { result ≡ has (map string_bytes words.now) flag.now }
+    ensures { result ≡ list_any (λ word. bytes_eq word flag.now) (map string_bytes words.now) }
 {
     let mut rest = words;
     while let [word, more @ ..] = rest {
@@ -130,7 +124,7 @@ fn alone(command: Command, words: &[String]) -> Option<Job>
 
 // Whether each of the words is one that each command may have.
 fn are_common(words: &[String]) -> bool
-    ensures { result ≡ are_common (map string_bytes words.now) }
+    ensures { result ≡ list_all is_common (map string_bytes words.now) }
 {
     let mut rest = words;
     while let [word, more @ ..] = rest {
@@ -163,7 +157,7 @@ fn options_in(options: Options, words: &[String]) -> Option<Options>
     let mut read = options;
     let mut rest = words;
     while let [option, behind @ ..] = rest {
-        if is_whole(option.as_bytes()) {
+        if is_in_one_word(option.as_bytes()) {
             read = with_whole(read, option.as_bytes())?;
             rest = behind;
             continue;
@@ -178,8 +172,8 @@ fn options_in(options: Options, words: &[String]) -> Option<Options>
 }
 
 // Whether the word is an option that is whole in one word.
-pub(crate) fn is_whole(word: &[u8]) -> bool
-    ensures { result ≡ is_whole word.now }
+pub(crate) fn is_in_one_word(word: &[u8]) -> bool
+    ensures { result ≡ is_in_one_word word.now }
 {
     is_flag(word) || is_joined(word)
 }
@@ -199,14 +193,10 @@ pub(crate) fn with_whole(options: Options, word: &[u8]) -> Option<Options>
 fn is_flag(word: &[u8]) -> bool
     ensures { result ≡ is_flag word.now }
 {
-    is_threads(word) || is_view(word) || is_common(word)
-}
-
-// Whether the word shows a run as it goes.
-fn is_view(word: &[u8]) -> bool
-    ensures { result ≡ is_view word.now }
-{
-    word == b"--trace".as_slice() || word == b"--table".as_slice()
+    word == b"--threads".as_slice()
+        || word == b"--trace".as_slice()
+        || word == b"--table".as_slice()
+        || is_common(word)
 }
 
 // Whether each command may have the word.
@@ -220,27 +210,13 @@ pub(crate) fn is_common(word: &[u8]) -> bool
 fn with_flag(options: Options, word: &[u8]) -> Options
     ensures { result ≡ with_flag options word.now }
 {
-    if is_threads(word) {
-        with_threads(options)
+    if word == b"--threads".as_slice() {
+        Options {
+            threads: true,
+            ..options
+        }
     } else {
         options
-    }
-}
-
-// Whether the word is the option of a run that stands alone.
-fn is_threads(word: &[u8]) -> bool
-    ensures { result ≡ is_threads word.now }
-{
-    word == b"--threads".as_slice()
-}
-
-// These options, in threads.
-fn with_threads(options: Options) -> Options
-    ensures { result ≡ with_threads options }
-{
-    Options {
-        threads: true,
-        ..options
     }
 }
 

@@ -125,7 +125,7 @@ const RELAYS: &str = "How many processes only carry frames, 0 to 63 [default: 0]
 const TURNS: &str = "How many turns are made at most, 1 to 10000000 [default: 100000]";
 
 const WORKERS: &str =
-    "In how many threads the processes work side by side, 1 to 64, which changes nothing that is printed; not used with --threads [default: one for each processor from 32 processes on, else 1]";
+    "In how many threads the processes work side by side, 1 to 64, which changes nothing that is printed; not used with --threads [default: from 32 processes on one for each processor, but at most one for 8 processes; else 1]";
 
 // A command without options.
 fn bare<'a>(alloc: Global, name: &'a str, about: &'a str) -> Command<'a>

@@ -5,7 +5,7 @@ ghost use Rattle.mpx_words.specs.Usage.{refusal_kinds};
 ghost use Rattle.mpx_words.specs.Words.{complaint, complaint_alone, complaint_of, is_of, limits_of};
 
 use crate::advice::told_instead;
-use crate::command::{is_whole, job_in, usual, with_option, with_whole};
+use crate::command::{is_in_one_word, job_in, usual, with_option, with_whole};
 use crate::program::{named, program};
 use clap::Error;
 use clap::error::ErrorKind;
@@ -75,7 +75,7 @@ fn complaint(words: &[String]) -> &'static str
 {
     let mut rest = words;
     while let [option, behind @ ..] = rest {
-        if is_whole(option.as_bytes()) {
+        if is_in_one_word(option.as_bytes()) {
             let Some(_) = with_whole(usual(), option.as_bytes()) else {
                 return limits_of(option.as_bytes());
             };

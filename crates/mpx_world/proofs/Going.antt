@@ -14,7 +14,7 @@ use Rattle.mpx_board.specs.declared.errors.PruneError.{PruneError}
 use Rattle.mpx_board.specs.Boards.{Look, IsBetween, IsGone, gone, Has}
 use Rattle.mpx_board.specs.Changes.{pruned_on}
 use Rattle.mpx_board.specs.Looks.{look}
-use Rattle.mpx_parts.specs.Facts.{OnlyFactsOf}
+use Rattle.mpx_delta.specs.Facts.{OnlyFactsOf}
 use Rattle.mpx_delta.specs.Digests.{HasUpTo}
 use Rattle.mpx_node.specs.declared.finished.Finished.{Finished}
 use Rattle.mpx_node.specs.declared.node.Harvest.{Harvest}

@@ -9,7 +9,7 @@ ghost use Rattle.mpx_board.specs.declared.board.Board.{Board};
 ghost use Rattle.mpx_board.specs.declared.errors.PruneError.{PruneError};
 ghost use Rattle.mpx_board.specs.Boards.{Look};
 ghost use Rattle.mpx_board.specs.Looks.{look};
-ghost use Rattle.mpx_parts.specs.Facts.{OnlyFactsOf};
+ghost use Rattle.mpx_delta.specs.Facts.{OnlyFactsOf};
 ghost use Rattle.mpx_node.specs.declared.node.Harvest.{Harvest};
 ghost use Rattle.mpx_node.specs.Deltas.{SaysWhatItHas};
 ghost use Rattle.mpx_node.specs.Harvests.{Harvests};

@@ -1,10 +1,9 @@
 //! What is made of boards: frames, parts, digests and rows.
 use join_core::{Exact, Join};
 use mpx_board::{Acks, Board};
-use mpx_delta::{common, delta_for, digest_of};
+use mpx_delta::{common, delta_for, digest_of, parts};
 use mpx_name::Name;
 use mpx_num::{Ops, Ty};
-use mpx_parts::parts;
 use mpx_post::Post;
 use mpx_wire::{decode, encode, take_spelled};
 use std::alloc::Global;
@@ -232,8 +231,8 @@ pub const FRAME_CALLS: &[(&str, FrameCall)] = &[
         "mpx_wire take_spelled, mpx_decode take_parts, behind decode",
         FrameCall::TakeSpelled,
     ),
-    ("mpx_parts parts", FrameCall::Parts),
-    ("mpx_parts parts of a long board", FrameCall::LongParts),
+    ("mpx_delta parts", FrameCall::Parts),
+    ("mpx_delta parts of a long board", FrameCall::LongParts),
     ("mpx_delta digest_of", FrameCall::DigestOf),
     ("mpx_delta common", FrameCall::Common),
     ("mpx_delta delta_for", FrameCall::DeltaFor),

@@ -3,13 +3,13 @@ ghost use Rattle.std.specs.Prelude.{◌≡◌};
 
 use crate::same::same_reports;
 use crate::troubles::{ended, read, threaded};
-use mpx_job::{Command, Job, Options};
 use mpx_meaning::Report;
 use mpx_num::Ops;
 use mpx_run::{End, run_bytes, run_text};
 use mpx_script::Script;
 use mpx_sim::{Run, run_sim};
-use mpx_threads::{OpenGate, run_threads};
+use mpx_statement::{Command, Job, Options};
+use mpx_threads::{NobodyLooks, OpenGate, run_threads};
 use std::alloc::Global;
 use std::io::{self, Write};
 use std::process::Abort;
@@ -103,7 +103,7 @@ fn run_in_threads<T: Threads + Wait + Sync>(
     if script.ranks() > 64 {
         return Err(Trouble::Refused);
     }
-    let run = threaded(run_threads(rt, alloc, script, &OPTIONS, &OpenGate, ops))?;
+    let run = threaded(run_threads(rt, alloc, script, &OPTIONS, &OpenGate, NobodyLooks, ops))?;
     Ok(run.report)
 }
 

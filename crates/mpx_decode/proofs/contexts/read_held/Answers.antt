@@ -9,4 +9,4 @@ from_rising-requires-clause-above c = from_first c.in_ok-dropped.dropped c.in_ok
 
 pub returns : goal.returns
 unfolding held calls
-returns c = rw (c.in_ok-dropped.ensures, c.in_ok-count.ensures, c.in_ok-calls.ensures.read) (ap (λ t. Ok (t, c.in_ok-calls.rest.now)) (trunc_read _ c.in_ok-dropped.dropped _ c.from_rising.ensures.dropped c.from_rising.ensures.calls))
+returns c = rw (c.in_ok-dropped.ensures.gives, c.in_ok-count.ensures.gives, c.in_ok-calls.ensures.read) (ap (λ t. Ok (t, c.in_ok-calls.rest.now)) (trunc_read _ c.in_ok-dropped.dropped _ c.from_rising.ensures.dropped c.from_rising.ensures.calls))

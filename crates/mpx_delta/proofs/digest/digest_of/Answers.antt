@@ -6,7 +6,7 @@ use Rattle.std.specs.FinMap.{from_sorted}
 use Rattle.join_core.specs.Cases.{first_true}
 use Rattle.mpx_board.specs.Looks.{look, parts_of}
 use Rattle.mpx_board.specs.Tidy.{are_tidy_acks, are_tidy_entries, are_tidy_numbers, is_tidy_lifted}
-use Rattle.mpx_parts.proofs.Adding.{passes_at}
+use Rattle.mpx_delta.proofs.Adding.{passes_at}
 use Rattle.mpx_delta.specs.Digests.{IsDigest, numbers_of}
 use Rattle.mpx_delta.specs.Keep.{keep, kept, unless_bare}
 use Rattle.mpx_delta.specs.Reach.{digest_lifted}

@@ -5,7 +5,7 @@ use Rattle.std.specs.FinMap.{entries_sorted}
 use Rattle.join_nest.specs.Seen.{seen}
 use Rattle.mpx_board.specs.Tidy.{is_tidy_call}
 use Rattle.mpx_board.specs.Views.{view_of_call, view_of_calls}
-use Rattle.mpx_parts.proofs.Adding.{passes_at}
+use Rattle.mpx_delta.proofs.Adding.{passes_at}
 use Rattle.mpx_delta.proofs.Passing.{passed, passed_is_reach}
 use Rattle.mpx_delta.proofs.Reaching.{low_calls}
 use Rattle.mpx_delta.proofs.digest.reaches.Goals as goal

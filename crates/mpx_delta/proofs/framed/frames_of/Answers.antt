@@ -6,8 +6,8 @@ use Rattle.mpx_board.specs.Looks.{look, parts_of}
 use Rattle.mpx_format.specs.Decoding.{Spells}
 use Rattle.mpx_format.specs.Encoding.{length_told}
 use Rattle.mpx_format.specs.declared.versions.Version.TheVariants.{Two}
-use Rattle.mpx_parts.specs.Facts.{OnlyFactsOf}
-use Rattle.mpx_parts.proofs.Joining.{one_join}
+use Rattle.mpx_delta.specs.Facts.{OnlyFactsOf}
+use Rattle.mpx_delta.proofs.Joining.{one_join}
 use Rattle.mpx_delta.proofs.Framing.{fit_more}
 use Rattle.mpx_delta.proofs.framed.frames_of.Goals as goal
 

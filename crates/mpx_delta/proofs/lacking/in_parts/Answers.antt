@@ -1,5 +1,5 @@
 use Rattle.std.proofs.Common.{refl}
-use Rattle.mpx_parts.proofs.Joining.{one_join}
+use Rattle.mpx_delta.proofs.Joining.{one_join}
 use Rattle.mpx_delta.proofs.lacking.in_parts.Goals as goal
 
 pub returns-clause-join : goal.returns-clause-join

@@ -2,7 +2,7 @@ use Rattle.std.proofs.Common.{◌≡◌, List, ℕ, map, length, ap, sym, ◌∙
 use Rattle.std.specs.Prelude.{slice_get}
 use Rattle.mpx_num.specs.declared.own.Operation.{Operation}
 use Rattle.mpx_num.specs.Own.{operation_of}
-use Rattle.mpx_meaning.specs.Evaluation.{start}
+use Rattle.mpx_meaning.specs.Evaluation.{start_state}
 use Rattle.mpx_meaning.specs.Reports.{which}
 use Rattle.mpx_name.specs.Name.{Name}
 use Rattle.mpx_rank.specs.declared.interpreter.Interpreter.{Interpreter}
@@ -28,7 +28,7 @@ returns g c =
     let xs = c.in_ok-ranks.ranks.items in
     let many : length script.statements ≡ script.ranks = c.ranks-count.ensures.each_rank ∙ c.ranks-count.ensures.ranks in
     let t = table_of c.new-table.result in
-    let begin = start script.statements script.ranks in
+    let begin = start_state script.statements script.ranks in
     let are : AreIn ops script.ranks (map shown xs) t begin = are_in_start ops script.statements script.ranks (map shown xs) t many c.in_ok-ranks.ensures c.new-table.ensures in
     let lent : AreIn ops script.ranks (map shown c.deref_mut.result.now) t begin = subst (λ (ps : List (Interpreter Table CommunicatorView (Name × ℕ))). AreIn ops script.ranks (map shown ps) t begin) (sym c.deref_mut.ensures.value) are in
     let ran = c.in_ok-rounds.ensures script.statements script.ranks begin (reached_start ops script.statements script.ranks) lent in

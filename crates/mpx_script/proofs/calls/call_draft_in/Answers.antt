@@ -5,7 +5,7 @@ use Rattle.std.specs.List.{filter_map}
 use Rattle.mpx_num.specs.Text.{number_of}
 use Rattle.mpx_kind.specs.Kinds.{fields_of}
 use Rattle.mpx_script.specs.Fields.{counts_named}
-use Rattle.mpx_script.specs.Meanings.{said}
+use Rattle.mpx_script.specs.Places.{said}
 use Rattle.mpx_script.specs.Sentences.{IsLineRefusal, counts_refusal}
 use Rattle.mpx_script.proofs.Accepted.{refusal_of_counts, said_is}
 use Rattle.mpx_script.proofs.calls.call_draft_in.Goals as goal

@@ -3,8 +3,8 @@ use Rattle.std.proofs.lemmas.List.{append-nil, append_assoc, map-id}
 use Rattle.std.specs.Prelude.{All}
 use Rattle.std.proofs.lemmas.Iterator.Adapters.{YieldsList-from_vec}
 use Rattle.std.proofs.lemmas.Iterator.Consumers.{YieldsList-end}
-use Rattle.mpx_parts.specs.Facts.{OnlyFactsOf}
-use Rattle.mpx_parts.proofs.Adding.{All-front, All-last}
+use Rattle.mpx_delta.specs.Facts.{OnlyFactsOf}
+use Rattle.mpx_delta.proofs.Adding.{All-front, All-last}
 use Rattle.mpx_sim.specs.Shown.{part_of}
 use Rattle.mpx_sim.proofs.Sending.{all_behind}
 use Rattle.mpx_sim.proofs.network.send_each.Goals as goal

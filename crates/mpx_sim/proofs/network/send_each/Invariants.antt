@@ -1,7 +1,7 @@
 use Rattle.std.proofs.Common.{◌≡◌, ◌++◌, List, ℕ, Some, map}
 use Rattle.std.specs.Prelude.{All, slice_get}
 use Rattle.mpx_num.specs.declared.own.Operation.{Operation}
-use Rattle.mpx_parts.specs.Facts.{OnlyFactsOf}
+use Rattle.mpx_delta.specs.Facts.{OnlyFactsOf}
 use Rattle.mpx_meaning.specs.Evaluation.{Script}
 use Rattle.mpx_sim.specs.Running.{IsUnderWay, ProcessView}
 use Rattle.mpx_sim.specs.Shown.{part_of, schedule_of}

@@ -1,4 +1,4 @@
-use Rattle.mpx_parts.specs.Facts.{OnlyFactsOf}
+use Rattle.mpx_delta.specs.Facts.{OnlyFactsOf}
 use Rattle.mpx_sim.specs.declared.frame_under_way.FrameUnderWay.{FrameUnderWay}
 use Rattle.mpx_sim.specs.Shown.{part_of, process_of}
 use Rattle.mpx_sim.proofs.SideBySide.{all_held}

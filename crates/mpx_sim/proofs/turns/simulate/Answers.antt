@@ -3,6 +3,7 @@ use Rattle.std.proofs.lemmas.List.{length-map}
 use Rattle.mpx_sim.specs.declared.process.Process.{Process}
 use Rattle.mpx_sim.specs.Ends.{OneWaits, RestsBy}
 use Rattle.mpx_sim.specs.Shown.{moment_of, part_of, process_of, schedule_of}
+use Rattle.mpx_sim.specs.SideBySide.{AreReady}
 use Rattle.mpx_system.specs.Systems.{start_system}
 use Rattle.mpx_sim.specs.Turns.{Alone, Coming}
 use Rattle.mpx_sim.proofs.Running.{run_same}
@@ -27,14 +28,14 @@ loop-number-init g c =
     let schedule = c.in_ok-network.network.schedule in
     let few : c.from.result ≤ script.ranks = omega (arith, c.ranks.ensures.ranks, c.from.ensures) in
     let before = run_same _ script.statements script.ranks size (moment_of start schedule) Alone (map process_of xs) (map process_of c.deref_mut.result.now) _ _ (ap (map process_of) (sym c.deref_mut.ensures.value)) (ap (map part_of) (sym c.in_ok-network.ensures.frames)) (c.in_ok-processes.ensures _ (schedule_of schedule)) in
-    let gone = c.in_ok-changed.ensures script.statements script.ranks size (moment_of start schedule) (map part_of c.in_ok-network.network.frames.items) few before in
+    let gone = c.in_ok-changed.ensures.run script.statements script.ranks size (moment_of start schedule) (map part_of c.in_ok-network.network.frames.items) few before in
     let lent : length c.deref_mut.result.now ≡ length xs = ap length c.deref_mut.ensures.value in
     let kept = c.first.auto.processes ∙ lent in
     let same = written_back c.in_ok-processes.processes.len xs c.first.new.processes kept (sym lent ∙ c.deref_mut.ensures.len) in
     let run = run_same _ script.statements script.ranks size (moment_of start schedule) Alone _ _ _ _ (ap (map process_of) (sym same)) refl gone in
     let first = c.in_ok-processes.ensures [] (schedule_of schedule) in
     let many : length xs ≡ size = sym (length-map xs process_of) ∙ first.count in
-    record { count = omega (arith, ap length same, kept, many); loss = c.in_ok-network.ensures.loss; run = (schedule_of schedule, start, (c.in_ok-network.ensures.loss, c.in_ok-network.ensures.seed), refl, run) }
+    record { count = omega (arith, ap length same, kept, many); loss = c.in_ok-network.ensures.loss; ready = λ less. subst AreReady (sym same) (c.in_ok-changed.ensures.ready less); run = (schedule_of schedule, start, (c.in_ok-network.ensures.loss, c.in_ok-network.ensures.seed), refl, run) }
 
 pub returns-then-over-clause-run : goal.returns-then-over-clause-run
 returns-then-over-clause-run g c =
@@ -87,5 +88,13 @@ loop-number-preserved g c =
     record {
       count = omega (arith, many);
       loss = c.in_ok-changed-2.ensures.loss ∙ c.in_ok-exchange.ensures.loss ∙ c.loop-number.invariant.loss;
+      ready = λ less. subst AreReady (sym same-3) (c.in_ok-changed-2.ensures.ready (omega (arith, less)));
       run = (before.0, turned.next, before.2, turns_more c.loop-number.number script.ranks _ begun next before.3 turned.turn, run);
     }
+
+pub exchange-requires : goal.exchange-requires
+exchange-requires g c =
+    let lent = c.deref_mut-in-loop-number.ensures in
+    let before = c.in_ok-over.ensures.ready (subst AreReady (sym lent.value) (c.loop-number.invariant.ready (omega (arith, c.loop-number-test.true)))) in
+    let same = written_back c.loop-number.processes.len c.loop-number.processes.items c.is_over.new.processes (c.is_over.auto.processes ∙ ap length lent.value) (sym (ap length lent.value) ∙ lent.len) in
+    subst AreReady (sym same ∙ sym c.deref_mut-in-loop-number-2.ensures.value) before

@@ -8,7 +8,7 @@ use Rattle.mpx_rank.specs.Shown.{requests_of}
 use Rattle.mpx_threads.specs.Rest.{IsOneOf, IsRequested}
 use Rattle.mpx_threads.specs.ToldCalls.{place_of}
 use Rattle.mpx_threads.proofs.Calls.{new_one, old_one}
-use Rattle.mpx_threads.proofs.Tasks.{within_get}
+use Rattle.mpx_at_once.proofs.Tasks.{within_get}
 use Rattle.mpx_threads.proofs.carry.requested.Goals as goal
 use Rattle.mpx_threads.proofs.carry.requested.Goals.{in-Some+in_ok-call_of+in_ok-push, in_default}
 

@@ -6,7 +6,7 @@ use Rattle.mpx_name.specs.Name.{Name}
 use Rattle.mpx_node.specs.Nodes.{NodeView}
 use Rattle.mpx_threads.specs.Rest.{Lacks}
 use Rattle.mpx_threads.proofs.Jobs.{read_at}
-use Rattle.mpx_threads.proofs.Tasks.{within_get}
+use Rattle.mpx_at_once.proofs.Tasks.{within_get}
 use Rattle.mpx_threads.proofs.rest.has_ended_or_lacks.Goals as goal
 
 pub returns-clause-no : goal.returns-clause-no

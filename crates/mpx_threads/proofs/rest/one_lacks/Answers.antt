@@ -6,7 +6,7 @@ use Rattle.std.proofs.lemmas.Option.{same_Some}
 use Rattle.mpx_board.specs.Boards.{told}
 use Rattle.mpx_board.specs.Looks.{look}
 use Rattle.mpx_threads.proofs.Jobs.{read_at}
-use Rattle.mpx_threads.proofs.Tasks.{within_get}
+use Rattle.mpx_at_once.proofs.Tasks.{within_get}
 use Rattle.mpx_threads.proofs.rest.one_lacks.Goals as goal
 
 -- what is there is no copy of nothing

@@ -1,5 +1,5 @@
 use Rattle.std.proofs.Common.{refl}
-use Rattle.mpx_threads.proofs.Tasks.{where_ok}
+use Rattle.mpx_at_once.proofs.Tasks.{where_ok}
 use Rattle.mpx_threads.proofs.run.planned_bus.Goals as goal
 
 pub returns : goal.returns

@@ -3,6 +3,7 @@ use Rattle.std.proofs.lemmas.Result.{err_from_is_err_and}
 use Rattle.mpx_board.specs.Looks.{parts_of}
 use Rattle.mpx_format.specs.Decoding.{Refuses}
 use Rattle.mpx_format.proofs.Decoded.{decoded_found, decoded_again, frame_tidy}
+use Rattle.mpx_wire.proofs.Taking.{spells_none}
 use Rattle.mpx_wire.proofs.decoding.decode.Goals as goal
 
 pub returns-in_err-parts-clause-only : goal.returns-in_err-parts-clause-only
@@ -20,3 +21,8 @@ returns-clause-found c = decoded_found c.args.bytes.now (parts_of c.from_tidy.re
 
 pub returns-clause-only : goal.returns-clause-only
 returns-clause-only c = λ v s. sym (decoded_again s.0 c.args.bytes.now v s.1) ∙ c.in_ok-parts.ensures.ok ∙ ap Ok (sym c.from_tidy.ensures)
+
+pub returns-in_err-parts-clause-some : goal.returns-in_err-parts-clause-some
+returns-in_err-parts-clause-some c =
+    let p = err_from_is_err_and c.from_residual.result c.from_residual.ensures.1 in
+    rw (p.1, p.2) (λ is v s none. c.in_err-parts.ensures.some is s.0 (spells_none c.args.bytes.now v s none))

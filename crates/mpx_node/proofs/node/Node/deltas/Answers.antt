@@ -2,7 +2,7 @@
 use Rattle.std.proofs.Common.{sym, ap, ◌∙◌, subst}
 use Rattle.std.specs.Prelude.{All}
 use Rattle.mpx_board.specs.Looks.{look}
-use Rattle.mpx_parts.specs.Facts.{OnlyFactsOf}
+use Rattle.mpx_delta.specs.Facts.{OnlyFactsOf}
 use Rattle.mpx_node.specs.Deltas.{SaysWhatItHas, lacking_on}
 use Rattle.mpx_node.specs.Nodes.{NodeView}
 use Rattle.mpx_node.specs.Shown.{node_of}

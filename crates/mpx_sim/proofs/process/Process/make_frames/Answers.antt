@@ -3,7 +3,7 @@ use Rattle.std.specs.Prelude.{IsTrue, is_ok}
 use Rattle.std.proofs.lemmas.Result.{IfOk-weaker}
 use Rattle.mpx_board.specs.Boards.{join_all}
 use Rattle.mpx_format.specs.Decoding.{decoded, shown}
-use Rattle.mpx_parts.specs.Facts.{OnlyFactsOf}
+use Rattle.mpx_delta.specs.Facts.{OnlyFactsOf}
 use Rattle.mpx_sim.specs.Shown.{process_of, part_of}
 use Rattle.mpx_sim.proofs.Sending.{all_behind, all_same}
 use Rattle.mpx_sim.proofs.Spelled.{spelled_facts, spelled_parts, spelled_whole}

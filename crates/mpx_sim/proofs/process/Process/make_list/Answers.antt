@@ -10,3 +10,9 @@ returns-clause-keeps c t ops =
     let old = node_of c.args.self.now.carrier.desk.host in
     let says = c.in_ok-made.ensures.own in
     keeps_node_acknowledge t ops says.numbers old (node_of c.framed_deltas.new.self.host) (digest_had says.numbers old.board says.digest) says.learnt (rank_of call_of c.args.self.now.rank)
+
+pub returns-in-Some-clause-keeps : goal.returns-in-Some-clause-keeps
+returns-in-Some-clause-keeps c t ops =
+    let old = node_of c.args.self.now.carrier.desk.host in
+    let says = c.say-frames.ensures.own in
+    keeps_node_acknowledge t ops says.numbers old (node_of c.say-frames.new.self.host) (digest_had says.numbers old.board says.digest) says.learnt (rank_of call_of c.args.self.now.rank)

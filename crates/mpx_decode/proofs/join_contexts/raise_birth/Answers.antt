@@ -1,0 +1,22 @@
+use Rattle.join_core.specs.BetweenLaws.{old_or_joined-laws}
+use Rattle.join_core.specs.Flat.{flat_joining}
+use Rattle.join_core.specs.FlatLaws.{flat_laws}
+use Rattle.join_core.specs.FlatSeen.{flat_view}
+use Rattle.join_core.specs.Laws.{old_or_joined}
+use Rattle.join_nest.proofs.Fronts.{on_err}
+use Rattle.mpx_birth.specs.Births.{birth_equality, same_birth}
+use Rattle.mpx_format.specs.Births.{birth}
+use Rattle.mpx_format.specs.Contexts.{told}
+use Rattle.mpx_decode.proofs.Taken.{read_joined, read_stops, stops_at_once}
+use Rattle.mpx_decode.proofs.join_contexts.raise_birth.Goals as goal
+
+pub returns-in-Err-clause-err : goal.returns-in-Err-clause-err
+returns-in-Err-clause-err c =
+    stops_at_once (told birth) (old_or_joined (flat_joining same_birth)) c.args.bytes.now (flat_view (λ b. b) c.args.birth.now) (λ b. (old_or_joined-laws (flat_laws birth_equality)).old (flat_view (λ b. b) c.args.birth.now) b) c.requires
+
+pub returns-in_err-join_in-in-Ok-clause-err : goal.returns-in_err-join_in-in-Ok-clause-err
+returns-in_err-join_in-in-Ok-clause-err c =
+    on_err c.from_residual.result (read_stops (told birth) c.args.bytes.now c.in-Ok.rest.now (flat_view (λ b. b) c.in-Ok.told) c.in-Ok.ensures c.in_err-join_in-in-Ok.ensures.err)
+
+pub returns-in_ok-join_in-in-Ok-clause-ok : goal.returns-in_ok-join_in-in-Ok-clause-ok
+returns-in_ok-join_in-in-Ok-clause-ok c = read_joined (told birth) c.args.bytes.now c.in-Ok.rest.now (flat_view (λ b. b) c.in-Ok.told) c.in-Ok.ensures c.in_ok-join_in-in-Ok.ensures.ok

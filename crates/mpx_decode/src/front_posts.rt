@@ -1,0 +1,159 @@
+//! Posts that the taker has, compared with their bytes where these stand.
+ghost use Rattle.std.specs.Prelude.{◌≡◌, [], true, IfSome, Ok, length};
+ghost use Rattle.std.specs.Bool.{OnTrue};
+ghost use Rattle.std.specs.Option.{option_map};
+ghost use Rattle.join_core.specs.FlatSeen.{flat_view};
+ghost use Rattle.mpx_num.specs.ItemList.{ItemList};
+ghost use Rattle.mpx_post.specs.Equality.{same_operations};
+ghost use Rattle.mpx_post.specs.Posts.{NoneUnless};
+ghost use Rattle.mpx_format.specs.Contexts.{posted};
+ghost use Rattle.mpx_format.specs.Format.{many_read};
+ghost use Rattle.mpx_format.specs.Posts.{count as count_format, counts_if, items as items_format, post as post_format};
+
+use crate::big_endian::{read_u8, read_u16};
+use crate::codes::{read_kind, read_mode, read_op, read_root, read_type};
+use crate::counts::read_count;
+use crate::items::{behind_numbers, read_item_count};
+use join_core::Flat;
+use mpx_format::Version;
+use mpx_kind::{Kind, Makes, Mode};
+use mpx_num::{Items, Op, Ty};
+use mpx_post::{Counts, Post, have_same_op};
+
+// The bytes behind what is told, where it is a post and just its bytes stand at the front.
+pub fn behind_told<'a>(version: Version, told: &Flat<Post>, bytes: &'a [u8]) -> Option<&'a [u8]>
+    ensures { IfSome result (λ rest. (posted version).read bytes.now ≡ Ok (flat_view (λ p. p) told.now, rest.now)) }
+{
+    match told {
+        Flat::Known(post) => match read_u8(bytes) {
+            Err(_) => None,
+            Ok((form, rest)) => {
+                if form == 1 {
+                    behind_post(version, post, rest)
+                } else {
+                    None
+                }
+            }
+        },
+        _ => None,
+    }
+}
+
+// The bytes behind this post, where just its bytes stand at the front, and it makes no communicator.
+fn behind_post<'a>(version: Version, post: &Post, bytes: &'a [u8]) -> Option<&'a [u8]>
+    ensures { IfSome result (λ rest. (post_format version).read bytes.now ≡ Ok (post.now, rest.now)) }
+{
+    let Ok((kind, rest)) = read_kind(version, bytes) else {
+        return None;
+    };
+    let Ok((mode, rest)) = read_mode(kind, rest) else {
+        return None;
+    };
+    let fields = kind.fields();
+    let sent = fields.scounts.is_had();
+    let got = fields.rcounts.is_had();
+    let front = has_front(post, kind, mode);
+    let plain = makes_nothing(fields.makes);
+    if !front || !plain {
+        return None;
+    }
+    let Ok((root, rest)) = read_root(fields.root, rest) else {
+        return None;
+    };
+    let Ok((op, rest)) = read_op(version, fields.op, rest) else {
+        return None;
+    };
+    let Ok((ty, rest)) = read_type(fields.items, op, rest) else {
+        return None;
+    };
+    let same = has_fields(post, root, op, ty);
+    if !same {
+        return None;
+    }
+    post.limits();
+    let first = behind_counts(sent, post.scounts(), rest)?;
+    let both = behind_counts(got, post.rcounts(), first)?;
+    match post.items() {
+        None => Some(both),
+        Some(items) => behind_items(items, both),
+    }
+}
+
+fn has_front(post: &Post, kind: Kind, mode: Mode) -> bool
+    ensures kind { OnTrue result (kind ≡ post.now.kind) }
+    ensures mode { OnTrue result (mode ≡ post.now.mode) }
+{
+    kind == post.kind() && mode == post.mode()
+}
+
+fn makes_nothing(makes: Makes) -> bool
+    ensures { OnTrue result (makes ≡ Makes.Nothing) }
+{
+    matches!(makes, Makes::Nothing)
+}
+
+fn has_fields(post: &Post, root: Option<u8>, op: Option<Op>, ty: Option<Ty>) -> bool
+    ensures root { OnTrue result (root ≡ post.now.root) }
+    ensures op { OnTrue result (same_operations op post.now.op ≡ true) }
+    ensures ty { OnTrue result (ty ≡ option_map (λ (items : ItemList). items.ty) post.now.items) }
+{
+    root == post.root() && have_same_op(op, post.op()) && ty == post.ty()
+}
+
+// The bytes behind these counts, where the kind has such.
+fn behind_counts<'a>(had: bool, counts: &Counts, bytes: &'a [u8]) -> Option<&'a [u8]>
+    requires { NoneUnless had counts.now }
+    ensures { IfSome result (λ rest. (counts_if had).read bytes.now ≡ Ok (counts.now, rest.now)) }
+{
+    if !had {
+        return Some(bytes);
+    }
+    let list = counts.as_slice();
+    match read_u16(bytes) {
+        Err(_) => None,
+        Ok((len, rest)) => {
+            if len as usize == list.len() {
+                behind_list(list, rest)
+            } else {
+                None
+            }
+        }
+    }
+}
+
+// The bytes behind these counts.
+fn behind_list<'a>(list: &[u16], bytes: &'a [u8]) -> Option<&'a [u8]>
+    ensures { IfSome result (λ rest. many_read (λ before. count_format) (length list.now) [] bytes.now ≡ Ok (list.now, rest.now)) }
+{
+    let mut rest = bytes;
+    for i in 0..list.len() {
+        match read_count(rest) {
+            Err(_) => return None,
+            Ok((count, after)) => {
+                if count != list[i] {
+                    return None;
+                }
+                rest = after;
+            }
+        }
+    }
+    Some(rest)
+}
+
+// The bytes behind these items.
+fn behind_items<'a>(items: &Items, bytes: &'a [u8]) -> Option<&'a [u8]>
+    ensures { IfSome result (λ rest. (items_format items.now.ty).read bytes.now ≡ Ok (items.now.nums, rest.now)) }
+{
+    let ty = items.ty();
+    let nums = items.nums();
+    match read_item_count(bytes) {
+        Err(_) => None,
+        Ok((count, rest)) => {
+            if count as usize * ty.item_len() == nums.len() {
+                behind_numbers(ty, nums, rest)
+            } else {
+                None
+            }
+        }
+    }
+}

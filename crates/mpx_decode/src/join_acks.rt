@@ -1,0 +1,257 @@
+//! Acknowledgements joined as their bytes are read.
+ghost use Rattle.std.specs.Prelude.{◌≡◌, ◌≢◌, ◌<◌, ◌-◌, ◌^◌, ℕ, [], IfOk, IfSome, List, Ok, OnErr, length};
+ghost use Rattle.std.specs.FinMap.{FinMap};
+ghost use Rattle.std.specs.Ordering.{nat_cmp};
+ghost use Rattle.join_core.specs.BetweenLaws.{old_or_joined-laws};
+ghost use Rattle.join_core.specs.Laws.{old_or_joined};
+ghost use Rattle.join_core.specs.Max.{max_joining, max_laws};
+ghost use Rattle.join_nest.specs.Seen.{keyed_view};
+ghost use Rattle.mpx_name.specs.Order.{name_cmp};
+ghost use Rattle.join_nest.specs.Keyed.{keyed_joining};
+ghost use Rattle.join_nest.specs.Between.{keyed_between};
+ghost use Rattle.mpx_board.specs.Parts.{acks_between, acks_between_laws, acks_joining, acks_laws, numbers_between, numbers_between_laws, numbers_joining, numbers_laws};
+ghost use Rattle.mpx_board.specs.Views.{view_of_all_acks};
+ghost use Rattle.mpx_name.specs.Name.{IsName, IsStep};
+ghost use Rattle.mpx_name.specs.declared.steps.Step.TheVariants.{Child};
+ghost use Rattle.mpx_format.specs.Format.{byte, many_read};
+ghost use Rattle.mpx_format.specs.Fields.{all_acks, acks, colour as colour_format, name, numbers, process, some_calls, step as step_format};
+ghost use Rattle.mpx_decode.specs.Raising.{JoinsFront, StandsInFront, StopsBetween};
+
+use crate::big_endian::{read_u8, read_u32};
+use crate::entries::WireValue;
+use crate::fields::{read_some_byte, read_some_calls, read_some_names};
+use crate::join_numbers::raise_numbers;
+use crate::join_rows::{FrontKey, WireJoin, raise_entries};
+use crate::process_numbers::front_row;
+use join_core::{Max, OutOfMemory};
+use join_nest::Keyed;
+use mpx_board::{Acks, VersionVector};
+use mpx_format::{ReadError, Version};
+use mpx_group::Proc;
+use mpx_name::{Name, Step};
+use std::alloc::Global;
+use std::mem;
+
+impl FrontKey for Proc {
+    #[tactic(auto, unfolding(mpx_format::specs::Fields::process))]
+    fn behind<'a>(&self, bytes: &'a [u8]) -> Option<&'a [u8]> {
+        match bytes {
+            [] => None,
+            [number, rest @ ..] => {
+                if *number == self.number() {
+                    Some(rest)
+                } else {
+                    None
+                }
+            }
+        }
+    }
+}
+
+impl FrontKey for Name {
+    fn behind<'a>(&self, bytes: &'a [u8]) -> Option<&'a [u8]> {
+        let steps = self.steps();
+        match read_u8(bytes) {
+            Err(_) => None,
+            Ok((count, rest)) => {
+                if count as usize == steps.len() {
+                    behind_steps(steps, rest)
+                } else {
+                    None
+                }
+            }
+        }
+    }
+}
+
+// The bytes behind these steps, where they stand at the front and none is a gathering.
+fn behind_steps<'a>(steps: &[Step], bytes: &'a [u8]) -> Option<&'a [u8]>
+    requires { IsName steps.now }
+    ensures { IfSome result (λ rest. many_read (λ before. step_format) (length steps.now) [] bytes.now ≡ Ok (steps.now, rest.now)) }
+{
+    let mut rest = bytes;
+    for i in 0..steps.len() {
+        match behind_step(&steps[i], rest) {
+            None => return None,
+            Some(after) => rest = after,
+        }
+    }
+    Some(rest)
+}
+
+fn behind_step<'a>(step: &Step, bytes: &'a [u8]) -> Option<&'a [u8]>
+    requires { IsStep step.now }
+    ensures { IfSome result (λ rest. step_format.read bytes.now ≡ Ok (step.now, rest.now)) }
+{
+    match step {
+        Step::Gathering { .. } => None,
+        Step::Child { call, colour } => behind_child(*call, *colour, bytes),
+    }
+}
+
+#[tactic(auto, unfolding(mpx_format::specs::Fields::step, mpx_format::specs::Fields::child, mpx_format::specs::Fields::call, mpx_format::specs::Fields::colour))]
+fn behind_child(call: u32, colour: u32, bytes: &[u8]) -> Option<&[u8]>
+    requires call { call < 2 ^ 32 - 1 }
+    requires colour { colour < 2 ^ 31 }
+    ensures { IfSome result (λ rest. step_format.read bytes.now ≡ Ok (Child call colour, rest.now)) }
+{
+    match front_row(bytes) {
+        None => None,
+        Some((form, number, after)) => {
+            if form == 0 && number == call {
+                behind_colour(colour, after)
+            } else {
+                None
+            }
+        }
+    }
+}
+
+#[tactic(auto, unfolding(mpx_format::specs::Fields::colour))]
+fn behind_colour(colour: u32, bytes: &[u8]) -> Option<&[u8]>
+    requires { colour < 2 ^ 31 }
+    ensures { IfSome result (λ rest. colour_format.read bytes.now ≡ Ok (colour, rest.now)) }
+{
+    match read_u32(bytes) {
+        Err(_) => None,
+        Ok((number, rest)) => { if number == colour { Some(rest) } else { None } }
+    }
+}
+
+impl WireJoin for Max {
+    ghost View = { ℕ };
+
+    ghost view = { λ m. m.0 };
+
+    ghost joining = { max_joining };
+
+    ghost between = { old_or_joined max_joining };
+
+    ghost wire = { λ version. some_calls };
+
+    fn read_new(version: Version, alloc: Global, bytes: &[u8]) -> Result<(Max, &[u8]), ReadError> {
+        <Max as WireValue>::read(version, alloc, bytes)
+    }
+
+    fn raise<'a>(
+        &mut self,
+        _version: Version,
+        _alloc: Global,
+        bytes: &'a [u8],
+    ) -> Result<&'a [u8], OutOfMemory> {
+        match read_some_calls(bytes) {
+            Err(_) => unreachable!(),
+            Ok((number, rest)) => {
+                if self.0 < number {
+                    self.0 = number;
+                }
+                Ok(rest)
+            }
+        }
+    }
+
+    ghost laws = { max_laws };
+
+    ghost between_laws = { old_or_joined-laws max_laws };
+}
+
+impl WireJoin for VersionVector {
+    ghost View = { FinMap nat_cmp ℕ };
+
+    ghost view = { λ m. keyed_view nat_cmp (λ n. n.0) m.entries.items };
+
+    ghost joining = { numbers_joining };
+
+    ghost between = { numbers_between };
+
+    ghost wire = { λ version. numbers };
+
+    fn read_new(
+        version: Version,
+        alloc: Global,
+        bytes: &[u8],
+    ) -> Result<(VersionVector, &[u8]), ReadError> {
+        <VersionVector as WireValue>::read(version, alloc, bytes)
+    }
+
+    fn raise<'a>(
+        &mut self,
+        version: Version,
+        alloc: Global,
+        bytes: &'a [u8],
+    ) -> Result<&'a [u8], OutOfMemory> {
+        match read_some_byte(bytes) {
+            Err(_) => unreachable!(),
+            Ok((count, rest)) => {
+                let mut entries = mem::replace(self, Keyed::new(alloc)).into_entries();
+                let raised = raise_numbers(version, alloc, &mut entries, count as usize, rest);
+                *self = Keyed::from_rising(entries);
+                raised
+            }
+        }
+    }
+
+    ghost laws = { numbers_laws };
+
+    ghost between_laws = { numbers_between_laws };
+}
+
+impl WireJoin for Acks {
+    ghost View = { FinMap name_cmp (FinMap nat_cmp ℕ) };
+
+    ghost view = { λ a. keyed_view name_cmp (λ m. keyed_view nat_cmp (λ n. n.0) m.entries.items) a.entries.items };
+
+    ghost joining = { acks_joining };
+
+    ghost between = { acks_between };
+
+    ghost wire = { λ version. acks };
+
+    fn read_new(version: Version, alloc: Global, bytes: &[u8]) -> Result<(Acks, &[u8]), ReadError> {
+        <Acks as WireValue>::read(version, alloc, bytes)
+    }
+
+    fn raise<'a>(
+        &mut self,
+        version: Version,
+        alloc: Global,
+        bytes: &'a [u8],
+    ) -> Result<&'a [u8], OutOfMemory> {
+        match read_some_names(bytes) {
+            Err(_) => unreachable!(),
+            Ok((count, rest)) => {
+                let mut entries = mem::replace(self, Keyed::new(alloc)).into_entries();
+                let raised = raise_entries(version, alloc, &mut entries, count as usize, rest);
+                *self = Keyed::from_rising(entries);
+                raised
+            }
+        }
+    }
+
+    ghost laws = { acks_laws };
+
+    ghost between_laws = { acks_between_laws };
+}
+
+// What all processes acknowledge.
+pub fn raise_all_acks<'a>(
+    version: Version,
+    alloc: Global,
+    all: &mut Keyed<Proc, Acks>,
+    bytes: &'a [u8],
+) -> Result<&'a [u8], OutOfMemory>
+    requires { StandsInFront all_acks bytes.now }
+    ensures ok { IfOk result (λ rest. JoinsFront all_acks (keyed_joining acks_joining) bytes.now rest.now (view_of_all_acks all.old) (view_of_all_acks all.new)) }
+    ensures err { OnErr result (StopsBetween all_acks (keyed_between acks_between) bytes.now (view_of_all_acks all.old) (view_of_all_acks all.new)) }
+    ensures some { OnErr result ((rest : List ℕ) → byte.read bytes.now ≢ Ok (0, rest)) }
+{
+    match read_u8(bytes) {
+        Err(_) => unreachable!(),
+        Ok((count, rest)) => {
+            let mut entries = mem::replace(all, Keyed::new(alloc)).into_entries();
+            let raised = raise_entries(version, alloc, &mut entries, count as usize, rest);
+            *all = Keyed::from_rising(entries);
+            raised
+        }
+    }
+}

@@ -1,0 +1,378 @@
+//! What is said of contexts joined as its bytes are read.
+ghost use Rattle.std.specs.Prelude.{◌≡◌, ◌≢◌, ℕ, IfOk, List, Ok, OnErr};
+ghost use Rattle.std.specs.Ordering.{nat_cmp};
+ghost use Rattle.join_core.specs.BetweenLaws.{old_or_joined-laws};
+ghost use Rattle.join_core.specs.Flat.{FlatView, flat_joining};
+ghost use Rattle.join_core.specs.FlatLaws.{flat_laws};
+ghost use Rattle.join_core.specs.FlatSeen.{flat_view};
+ghost use Rattle.join_core.specs.Laws.{old_or_joined};
+ghost use Rattle.join_core.specs.Pair.{pair_between, pair_joining};
+ghost use Rattle.join_nest.specs.Between.{keyed_between, trunc_between};
+ghost use Rattle.join_nest.specs.Keyed.{keyed_joining};
+ghost use Rattle.join_nest.specs.Trunc.{trunc_joining};
+ghost use Rattle.mpx_birth.specs.Births.{same_birth};
+ghost use Rattle.mpx_post.specs.Equality.{given_equality, same_given};
+ghost use Rattle.mpx_post.specs.Posts.{Given};
+ghost use Rattle.mpx_board.specs.Parts.{CallView, LiftedView, call_between, call_between_laws, call_joining, call_laws, entry_between, entry_joining, lifted_between, lifted_between_laws, lifted_joining, lifted_laws, numbers_between, numbers_joining};
+ghost use Rattle.mpx_board.specs.Views.{view_of_call, view_of_calls, view_of_entries, view_of_entry, view_of_lifted, view_of_numbers};
+ghost use Rattle.mpx_format.specs.Births.{birth as birth_format};
+ghost use Rattle.mpx_format.specs.Contexts.{call_posts, context, held as held_format, lift_form, lifted, posted, progress, told as told_format};
+ghost use Rattle.mpx_format.specs.Fields.{call as call_format, fronts as fronts_format, name_count};
+ghost use Rattle.mpx_decode.specs.Raising.{JoinsFront, PutsCall, RaisesCall, RaisesCalls, StandsInFront, StopsBetween, StopsCall, StopsCalls, contexts as contexts_format, row, rows};
+
+use crate::big_endian::{read_u8, read_u32};
+use crate::contexts::{read_live, read_told};
+use crate::entries::WireValue;
+use crate::fields::{read_call, read_name_count, read_some_byte};
+use crate::front_posts::behind_told;
+use crate::join_rows::{WireJoin, raise_entries};
+use join_core::{Flat, Join, OutOfMemory, Pair};
+use join_nest::{Keyed, Lift, Trunc};
+use mpx_birth::Birth;
+use mpx_board::{CallPosts, Entry, Lifted, VersionVector};
+use mpx_format::{ReadError, Version};
+use mpx_name::Name;
+use mpx_post::Post;
+use std::alloc::Global;
+use std::mem;
+
+impl WireJoin for Flat<Post> {
+    ghost View = { FlatView Given };
+
+    ghost view = { flat_view (λ p. p) };
+
+    ghost joining = { flat_joining same_given };
+
+    ghost between = { old_or_joined (flat_joining same_given) };
+
+    ghost wire = { posted };
+
+    fn read_new(
+        version: Version,
+        alloc: Global,
+        bytes: &[u8],
+    ) -> Result<(Flat<Post>, &[u8]), ReadError> {
+        <Flat<Post> as WireValue>::read(version, alloc, bytes)
+    }
+
+    fn raise<'a>(
+        &mut self,
+        version: Version,
+        alloc: Global,
+        bytes: &'a [u8],
+    ) -> Result<&'a [u8], OutOfMemory> {
+        if let Some(rest) = behind_told(version, self, bytes) {
+            return Ok(rest);
+        }
+        match <Flat<Post> as WireValue>::read(version, alloc, bytes) {
+            Err(_) => Err(OutOfMemory),
+            Ok((told, rest)) => {
+                self.join_in(alloc, &told)?;
+                Ok(rest)
+            }
+        }
+    }
+
+    ghost laws = { flat_laws given_equality };
+
+    ghost between_laws = { old_or_joined-laws (flat_laws given_equality) };
+}
+
+impl WireJoin for CallPosts {
+    ghost View = { CallView };
+
+    ghost view = { view_of_call };
+
+    ghost joining = { call_joining };
+
+    ghost between = { call_between };
+
+    ghost wire = { call_posts };
+
+    fn read_new(
+        version: Version,
+        alloc: Global,
+        bytes: &[u8],
+    ) -> Result<(CallPosts, &[u8]), ReadError> {
+        <CallPosts as WireValue>::read(version, alloc, bytes)
+    }
+
+    fn raise<'a>(
+        &mut self,
+        version: Version,
+        alloc: Global,
+        bytes: &'a [u8],
+    ) -> Result<&'a [u8], OutOfMemory> {
+        match read_some_byte(bytes) {
+            Err(_) => unreachable!(),
+            Ok((count, rest)) => {
+                let mut entries = mem::replace(self, Keyed::new(alloc)).into_entries();
+                let raised = raise_entries(version, alloc, &mut entries, count as usize, rest);
+                *self = Keyed::from_rising(entries);
+                raised
+            }
+        }
+    }
+
+    ghost laws = { call_laws };
+
+    ghost between_laws = { call_between_laws };
+}
+
+// HELD CALLS
+
+// The dropped front, and the calls at or above it.
+fn raise_held<'a>(
+    version: Version,
+    alloc: Global,
+    held: &mut Trunc<CallPosts>,
+    bytes: &'a [u8],
+) -> Result<&'a [u8], OutOfMemory>
+    requires { StandsInFront (held_format version) bytes.now }
+    ensures ok { IfOk result (λ rest. JoinsFront (held_format version) (trunc_joining call_joining) bytes.now rest.now (view_of_calls held.old) (view_of_calls held.new)) }
+    ensures err { OnErr result (StopsBetween (held_format version) (trunc_between call_between) bytes.now (view_of_calls held.old) (view_of_calls held.new)) }
+{
+    match read_u32(bytes) {
+        Err(_) => unreachable!(),
+        Ok((dropped, rest)) => match read_u32(rest) {
+            Err(_) => unreachable!(),
+            Ok((count, rest)) => {
+                held.drop_below(dropped);
+                raise_calls(version, alloc, held, count, rest)
+            }
+        },
+    }
+}
+
+// So many calls.
+fn raise_calls<'a>(
+    version: Version,
+    alloc: Global,
+    held: &mut Trunc<CallPosts>,
+    count: u32,
+    bytes: &'a [u8],
+) -> Result<&'a [u8], OutOfMemory>
+    requires { StandsInFront (rows nat_cmp call_format (call_posts version) count) bytes.now }
+    ensures ok { IfOk result (λ rest. RaisesCalls (rows nat_cmp call_format (call_posts version) count) call_joining bytes.now rest.now (view_of_calls held.old) (view_of_calls held.new)) }
+    ensures err { OnErr result (StopsCalls (rows nat_cmp call_format (call_posts version) count) call_between bytes.now (view_of_calls held.old) (view_of_calls held.new)) }
+{
+    let mut rest = bytes;
+    for _ in 0..count {
+        let after = raise_call(version, alloc, held, rest)?;
+        rest = after;
+    }
+    Ok(rest)
+}
+
+// The call at the front. Where it is below the dropped front, it is passed over.
+fn raise_call<'a>(
+    version: Version,
+    alloc: Global,
+    held: &mut Trunc<CallPosts>,
+    bytes: &'a [u8],
+) -> Result<&'a [u8], OutOfMemory>
+    requires { StandsInFront (row call_format (call_posts version)) bytes.now }
+    ensures ok { IfOk result (λ rest. RaisesCall (row call_format (call_posts version)) call_joining bytes.now rest.now (view_of_calls held.old) (view_of_calls held.new)) }
+    ensures err { OnErr result (StopsCall (row call_format (call_posts version)) call_between bytes.now (view_of_calls held.old) (view_of_calls held.new)) }
+{
+    let Ok((call, rest)) = read_call(bytes) else {
+        return Err(OutOfMemory);
+    };
+    match held.replace(&call, Keyed::new(alloc)) {
+        None => put_call(version, alloc, held, call, rest),
+        Some(mut posts) => {
+            let raised = posts.raise(version, alloc, rest);
+            held.replace(&call, posts);
+            raised
+        }
+    }
+}
+
+// The posts of a call that isn't held are put in, unless it is below the dropped front.
+fn put_call<'a>(
+    version: Version,
+    alloc: Global,
+    held: &mut Trunc<CallPosts>,
+    call: u32,
+    bytes: &'a [u8],
+) -> Result<&'a [u8], OutOfMemory>
+    requires { StandsInFront (call_posts version) bytes.now }
+    ensures dropped { (view_of_calls held.new).dropped ≡ (view_of_calls held.old).dropped }
+    ensures ok { IfOk result (λ rest. PutsCall (call_posts version) call bytes.now rest.now (view_of_calls held.old) (view_of_calls held.new)) }
+    ensures err { OnErr result ((view_of_calls held.new).calls ≡ (view_of_calls held.old).calls) }
+{
+    let Ok((posts, rest)) = <CallPosts as WireValue>::read(version, alloc, bytes) else {
+        return Err(OutOfMemory);
+    };
+    if call < held.dropped() {
+        return Ok(rest);
+    }
+    held.put(call, posts)?;
+    Ok(rest)
+}
+
+// CONTEXTS
+
+// How many calls each process has harvested.
+fn raise_fronts<'a>(
+    version: Version,
+    alloc: Global,
+    fronts: &mut VersionVector,
+    bytes: &'a [u8],
+) -> Result<&'a [u8], OutOfMemory>
+    requires { StandsInFront fronts_format bytes.now }
+    ensures ok { IfOk result (λ rest. JoinsFront fronts_format numbers_joining bytes.now rest.now (view_of_numbers fronts.old) (view_of_numbers fronts.new)) }
+    ensures err { OnErr result (StopsBetween fronts_format numbers_between bytes.now (view_of_numbers fronts.old) (view_of_numbers fronts.new)) }
+{
+    match read_u8(bytes) {
+        Err(_) => unreachable!(),
+        Ok((count, rest)) => {
+            let mut entries = mem::replace(fronts, Keyed::new(alloc)).into_entries();
+            let raised = raise_entries(version, alloc, &mut entries, count as usize, rest);
+            *fronts = Keyed::from_rising(entries);
+            raised
+        }
+    }
+}
+
+// What is told of the birth.
+fn raise_birth<'a>(
+    version: Version,
+    alloc: Global,
+    birth: &mut Flat<Birth>,
+    bytes: &'a [u8],
+) -> Result<&'a [u8], OutOfMemory>
+    requires { StandsInFront (told_format birth_format) bytes.now }
+    ensures ok { IfOk result (λ rest. JoinsFront (told_format birth_format) (flat_joining same_birth) bytes.now rest.now (flat_view (λ b. b) birth.old) (flat_view (λ b. b) birth.new)) }
+    ensures err { OnErr result (StopsBetween (told_format birth_format) (old_or_joined (flat_joining same_birth)) bytes.now (flat_view (λ b. b) birth.old) (flat_view (λ b. b) birth.new)) }
+{
+    let read: Result<(Flat<Birth>, &[u8]), ReadError> = read_told(version, alloc, bytes);
+    match read {
+        Err(_) => Err(OutOfMemory),
+        Ok((told, rest)) => {
+            birth.join_in(alloc, &told)?;
+            Ok(rest)
+        }
+    }
+}
+
+// How far it is: the fronts and the held calls.
+fn raise_progress<'a>(
+    version: Version,
+    alloc: Global,
+    known: &mut Pair<VersionVector, Trunc<CallPosts>>,
+    bytes: &'a [u8],
+) -> Result<&'a [u8], OutOfMemory>
+    requires { StandsInFront (progress version) bytes.now }
+    ensures ok { IfOk result (λ rest. JoinsFront (progress version) (pair_joining numbers_joining (trunc_joining call_joining)) bytes.now rest.now
+        (view_of_numbers known.old.first, view_of_calls known.old.second) (view_of_numbers known.new.first, view_of_calls known.new.second)) }
+    ensures err { OnErr result (StopsBetween (progress version) (pair_between numbers_between (trunc_between call_between)) bytes.now
+        (view_of_numbers known.old.first, view_of_calls known.old.second) (view_of_numbers known.new.first, view_of_calls known.new.second)) }
+{
+    let rest = raise_fronts(version, alloc, &mut known.first, bytes)?;
+    raise_held(version, alloc, &mut known.second, rest)
+}
+
+// A live context.
+fn raise_context<'a>(
+    version: Version,
+    alloc: Global,
+    entry: &mut Entry,
+    bytes: &'a [u8],
+) -> Result<&'a [u8], OutOfMemory>
+    requires { StandsInFront (context version) bytes.now }
+    ensures ok { IfOk result (λ rest. JoinsFront (context version) entry_joining bytes.now rest.now (view_of_entry entry.old) (view_of_entry entry.new)) }
+    ensures err { OnErr result (StopsBetween (context version) entry_between bytes.now (view_of_entry entry.old) (view_of_entry entry.new)) }
+{
+    let rest = raise_birth(version, alloc, &mut entry.first, bytes)?;
+    raise_progress(version, alloc, &mut entry.second, rest)
+}
+
+// The same, where the taker's may be dead.
+fn raise_live<'a>(
+    version: Version,
+    alloc: Global,
+    known: &mut Lifted,
+    bytes: &'a [u8],
+) -> Result<&'a [u8], OutOfMemory>
+    requires { StandsInFront (lift_form (context version) 0) bytes.now }
+    ensures ok { IfOk result (λ rest. JoinsFront (lift_form (context version) 0) lifted_joining bytes.now rest.now (view_of_lifted known.old) (view_of_lifted known.new)) }
+    ensures err { OnErr result (StopsBetween (lift_form (context version) 0) lifted_between bytes.now (view_of_lifted known.old) (view_of_lifted known.new)) }
+{
+    match known {
+        Lift::Live(entry) => raise_context(version, alloc, entry, bytes),
+        Lift::Dead => match read_live(version, alloc, bytes) {
+            Err(_) => Err(OutOfMemory),
+            Ok((_live, rest)) => Ok(rest),
+        },
+    }
+}
+
+impl WireJoin for Lifted {
+    ghost View = { LiftedView };
+
+    ghost view = { view_of_lifted };
+
+    ghost joining = { lifted_joining };
+
+    ghost between = { lifted_between };
+
+    ghost wire = { lifted };
+
+    fn read_new(
+        version: Version,
+        alloc: Global,
+        bytes: &[u8],
+    ) -> Result<(Lifted, &[u8]), ReadError> {
+        <Lifted as WireValue>::read(version, alloc, bytes)
+    }
+
+    fn raise<'a>(
+        &mut self,
+        version: Version,
+        alloc: Global,
+        bytes: &'a [u8],
+    ) -> Result<&'a [u8], OutOfMemory> {
+        match version {
+            Version::One => raise_live(version, alloc, self, bytes),
+            Version::Two => match read_u8(bytes) {
+                Err(_) => unreachable!(),
+                Ok((form, rest)) => {
+                    if form == 0 {
+                        raise_live(version, alloc, self, rest)
+                    } else {
+                        *self = Lift::Dead;
+                        Ok(rest)
+                    }
+                }
+            },
+        }
+    }
+
+    ghost laws = { lifted_laws };
+
+    ghost between_laws = { lifted_between_laws };
+}
+
+// What is said of contexts, by name.
+pub fn raise_contexts<'a>(
+    version: Version,
+    alloc: Global,
+    contexts: &mut Keyed<Name, Lifted>,
+    bytes: &'a [u8],
+) -> Result<&'a [u8], OutOfMemory>
+    requires { StandsInFront (contexts_format version) bytes.now }
+    ensures ok { IfOk result (λ rest. JoinsFront (contexts_format version) (keyed_joining lifted_joining) bytes.now rest.now (view_of_entries contexts.old) (view_of_entries contexts.new)) }
+    ensures err { OnErr result (StopsBetween (contexts_format version) (keyed_between lifted_between) bytes.now (view_of_entries contexts.old) (view_of_entries contexts.new)) }
+    ensures some { OnErr result ((rest : List ℕ) → name_count.read bytes.now ≢ Ok (0, rest)) }
+{
+    match read_name_count(bytes) {
+        Err(_) => unreachable!(),
+        Ok((count, rest)) => {
+            let mut entries = mem::replace(contexts, Keyed::new(alloc)).into_entries();
+            let raised = raise_entries(version, alloc, &mut entries, count as usize, rest);
+            *contexts = Keyed::from_rising(entries);
+            raised
+        }
+    }
+}

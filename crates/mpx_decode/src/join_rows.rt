@@ -1,0 +1,137 @@
+//! Values joined as their bytes are read. The bytes are known to be spelled, so a refusal is want of memory.
+ghost use Rattle.std.specs.Prelude.{◌≡◌, ◌<◌, IfOk, IfSome, IsTrue, Ok, OnErr, length};
+ghost use Rattle.std.specs.FinMap.{is_sorted};
+ghost use Rattle.join_core.specs.Laws.{BetweenLaws, JoinLaws, Joining};
+ghost use Rattle.join_nest.specs.Keyed.{keyed_joining};
+ghost use Rattle.join_nest.specs.Between.{keyed_between};
+ghost use Rattle.join_nest.specs.Seen.{keyed_view};
+ghost use Rattle.mpx_format.specs.declared.versions.Version.{Version};
+ghost use Rattle.mpx_format.specs.Format.{Format, Gives};
+ghost use Rattle.mpx_decode.specs.Raising.{JoinsFront, RaisesRow, StandsInFront, StopsBetween, StopsRow, row, rows};
+
+use crate::entries::WireKey;
+use join_core::{Key, OutOfMemory};
+use join_nest::place_of_key;
+use mpx_format::{ReadError, Version};
+use std::alloc::Global;
+
+/// A key that is known without being read.
+pub trait FrontKey: WireKey {
+    /// The bytes behind this key, where it stands at the front.
+    fn behind<'a>(&self, bytes: &'a [u8]) -> Option<&'a [u8]>
+        ensures { IfSome result (λ rest. Self.format.read bytes.now ≡ Ok (self.now, rest.now)) };
+}
+
+/// A value that is joined as its bytes are read. Its ghost members are those of `Join`, which types of others can't name.
+pub trait WireJoin: Drop {
+    ghost View: { Type 0 };
+
+    ghost view: { Self → View };
+
+    ghost joining: { Joining View };
+
+    ghost between: { View → View → View → Type 0 };
+
+    /// How each version spells what it says.
+    ghost wire: { Version → Format View };
+
+    /// The value at the front, and the bytes after it.
+    fn read_new(version: Version, alloc: Global, bytes: &[u8]) -> Result<(Self, &[u8]), ReadError>
+        ensures { Gives (λ x. (view x.0, x.1.now)) result ((wire version).read bytes.now) };
+
+    /// Joins the value at the front to this one, and gives the bytes after it. An `Err` leaves a value between.
+    fn raise<'a>(
+        &mut self,
+        version: Version,
+        alloc: Global,
+        bytes: &'a [u8],
+    ) -> Result<&'a [u8], OutOfMemory>
+        requires { StandsInFront (wire version) bytes.now }
+        ensures ok { IfOk result (λ rest. JoinsFront (wire version) joining bytes.now rest.now (view self.old) (view self.new)) }
+        ensures err { OnErr result (StopsBetween (wire version) between bytes.now (view self.old) (view self.new)) };
+
+    ghost laws: { JoinLaws joining };
+
+    ghost between_laws: { BetweenLaws joining between };
+}
+
+// Joins so many entries at the front, one after the other. Where the taker has the same keys, each is found at once.
+pub fn raise_entries<'a, K: Key + FrontKey, J: WireJoin>(
+    version: Version,
+    alloc: Global,
+    entries: &mut Vec<(K, J)>,
+    count: usize,
+    bytes: &'a [u8],
+) -> Result<&'a [u8], OutOfMemory>
+    requires rising { IsTrue (is_sorted K.cmp entries.old.items) }
+    requires spelled { StandsInFront (rows K.cmp K.format (J.wire version) count) bytes.now }
+    ensures ok { IfOk result (λ rest. JoinsFront (rows K.cmp K.format (J.wire version) count) (keyed_joining J.joining) bytes.now rest.now
+        (keyed_view K.cmp J.view entries.old.items) (keyed_view K.cmp J.view entries.new.items)) }
+    ensures err { OnErr result (StopsBetween (rows K.cmp K.format (J.wire version) count) (keyed_between J.between) bytes.now
+        (keyed_view K.cmp J.view entries.old.items) (keyed_view K.cmp J.view entries.new.items)) }
+    ensures rising { IsTrue (is_sorted K.cmp entries.new.items) }
+    ensures some { OnErr result (0 < count) }
+{
+    let mut next = 0usize;
+    let mut rest = bytes;
+    for _ in 0..count {
+        let (after, left) = raise_entry(version, alloc, entries, next, rest)?;
+        next = after;
+        rest = left;
+    }
+    Ok(rest)
+}
+
+// Joins the entry at the front, whose key stands at this place, or where else it may. Tells the place after it.
+pub fn raise_entry<'a, K: Key + FrontKey, J: WireJoin>(
+    version: Version,
+    alloc: Global,
+    entries: &mut Vec<(K, J)>,
+    next: usize,
+    bytes: &'a [u8],
+) -> Result<(usize, &'a [u8]), OutOfMemory>
+    requires rising { IsTrue (is_sorted K.cmp entries.old.items) }
+    requires spelled { StandsInFront (row K.format (J.wire version)) bytes.now }
+    ensures ok { IfOk result (λ x. RaisesRow K.cmp J.view (row K.format (J.wire version)) J.joining bytes.now x.1.now entries.old.items entries.new.items) }
+    ensures err { OnErr result (StopsRow K.cmp J.view (row K.format (J.wire version)) J.between bytes.now entries.old.items entries.new.items) }
+    ensures rising { IsTrue (is_sorted K.cmp entries.new.items) }
+{
+    if next < entries.len() {
+        if let Some(after) = entries[next].0.behind(bytes) {
+            let rest = entries[next].1.raise(version, alloc, after)?;
+            return Ok((next + 1, rest));
+        }
+    }
+    raise_placed(version, alloc, entries, bytes)
+}
+
+// Joins the entry at the front to the one with its key, found by a search, or puts it in. Tells the place after it.
+fn raise_placed<'a, K: Key + FrontKey, J: WireJoin>(
+    version: Version,
+    alloc: Global,
+    entries: &mut Vec<(K, J)>,
+    bytes: &'a [u8],
+) -> Result<(usize, &'a [u8]), OutOfMemory>
+    requires rising { IsTrue (is_sorted K.cmp entries.old.items) }
+    requires spelled { StandsInFront (row K.format (J.wire version)) bytes.now }
+    ensures ok { IfOk result (λ x. RaisesRow K.cmp J.view (row K.format (J.wire version)) J.joining bytes.now x.1.now entries.old.items entries.new.items) }
+    ensures err { OnErr result (StopsRow K.cmp J.view (row K.format (J.wire version)) J.between bytes.now entries.old.items entries.new.items) }
+    ensures rising { IsTrue (is_sorted K.cmp entries.new.items) }
+{
+    let Ok((key, rest)) = K::read(alloc, bytes) else {
+        return Err(OutOfMemory);
+    };
+    match place_of_key(entries, &key) {
+        Ok(at) => {
+            let rest = entries[at].1.raise(version, alloc, rest)?;
+            Ok((at + 1, rest))
+        }
+        Err(at) => {
+            let Ok((value, rest)) = J::read_new(version, alloc, rest) else {
+                return Err(OutOfMemory);
+            };
+            entries.insert(at, (key, value))?;
+            Ok((at + 1, rest))
+        }
+    }
+}

@@ -1,6 +1,0 @@
--- One piece.
-use Rattle.mpx_parts.proofs.Adding.{adds_piece}
-use Rattle.mpx_parts.proofs.walk.add_dead.Goals as goal
-
-pub returns : goal.returns
-returns c = rw c.in_ok-push.ensures.items (adds_piece _ _ _ c.in_ok-dead_piece.ensures)

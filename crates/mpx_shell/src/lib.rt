@@ -1,0 +1,15 @@
+//! A call of a program, from its words to its exit status, over any streams: by which operation of their own scripts may name, and who
+//! looks on at a run.
+//!
+//! In the order of reading: [`exit_code`], which a `main` calls with its words ([`words_of`]), its streams and who looks on ([`seen_by`]); its part
+//! [`answer`]; [`Seen`], who looks on.
+#![tactic(auto)]
+
+mod answering;
+mod process;
+mod progress;
+mod seen;
+
+pub use answering::answer;
+pub use process::{exit_code, seen_by, words_of};
+pub use seen::Seen;

@@ -1,0 +1,62 @@
+//! What a program's `main` calls: the words of its process, and what it exits with.
+ghost use Rattle.std.specs.Prelude.{◌≡◌, IfErr, IfOk, OnErr, map, string_bytes};
+ghost use Rattle.std.specs.Process.{exit_status};
+ghost use Rattle.clap.specs.Words.{kind_of};
+ghost use Rattle.mpx_program.specs.Jobs.{IsRefused};
+ghost use Rattle.mpx_shell.specs.Answers.{Answers, EndsBy};
+
+use crate::answering::answer;
+use crate::seen::Seen;
+use mpx_program::refuse;
+use mpx_sim::Observer;
+use mpx_words::not_text;
+use std::alloc::{AllocError, Global};
+use std::io::{IsTerminal, Read, Write};
+use std::process::ExitCode;
+use std::sync::Wait;
+use std::thread::Threads;
+use std::time::Clock;
+use std::{env, io};
+
+/// The words that the process was called with.
+pub fn words_of(rt: &HostRuntime) -> Result<Vec<String>, clap::Error> {
+    match env::args(rt) {
+        Ok(args) => Ok(args.collect(rt.alloc())?),
+        Err(error) if error.kind() == io::ErrorKind::OutOfMemory => Err(AllocError.into()),
+        Err(_) => Err(not_text(rt.alloc())),
+    }
+}
+
+/// Who looks on, by what these words ask for.
+pub fn seen_by<'a, C: Clock, S: Write + IsTerminal>(
+    words: &Result<Vec<String>, clap::Error>,
+    alloc: Global,
+    clock: &'a C,
+    out: S,
+) -> Seen<'a, C, S> {
+    match words {
+        Ok(words) => Seen::of(words, alloc, clock, out),
+        Err(_) => Seen::of(&[], alloc, clock, out),
+    }
+}
+
+/// Answers a call with these words, and gives its status as the process's. What fails on the standard error is let go: the status stands.
+pub fn exit_code<T: Threads + Wait + Sync, R: Read, W: Write, E: Write>(
+    rt: &T,
+    alloc: Global,
+    words: &Result<Vec<String>, clap::Error>,
+    reader: &mut R,
+    out: &mut W,
+    err: &mut E,
+    observer: &mut dyn Observer,
+) -> ExitCode
+    ensures answers { IfOk words.now (λ words. EndsBy (Answers (map string_bytes words.items) (R.remaining reader.old) (R.remaining reader.new) (W.contents out.old) (W.contents out.new)) (E.contents err.old) (E.contents err.new) (exit_status result)) }
+    ensures refused { IfErr words.now (λ why. EndsBy (IsRefused (kind_of why)) (E.contents err.old) (E.contents err.new) (exit_status result)) }
+    ensures unread { OnErr words.now (R.remaining reader.new ≡ R.remaining reader.old) }
+    ensures unwritten { OnErr words.now (W.contents out.new ≡ W.contents out.old) }
+{
+    match words {
+        Ok(words) => ExitCode::from(answer(rt, alloc, words, reader, out, err, observer).status),
+        Err(why) => ExitCode::from(refuse(why, err).status),
+    }
+}

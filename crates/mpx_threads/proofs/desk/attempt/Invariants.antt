@@ -1,6 +1,0 @@
-use Rattle.mpx_threads.proofs.Looking.{Unposted}
-use Rattle.mpx_threads.proofs.desk.attempt.Given as goal
-
--- nothing was posted so far
-abbrev pub invariant-loop-look : goal.invariant-loop-look
-invariant-loop-look g l = Unposted g.L.PortLock.setup l.fn.name l.fn.poster.share.amount l.poster.share.amount

@@ -1,0 +1,144 @@
+//! Jobs of ranks in threads: how many there may be, a rank that returns before others post, and ranks that ask again where memory was
+//! wanting.
+use mpx_comm::{Comm, Desk, Host, Request, WaitError};
+use mpx_num::{Numbers, Op, Ops, Ty};
+use mpx_post::PostError;
+use mpx_ranks::{Program, RanksError, numbers_of, ranks};
+use std::alloc::Global;
+use std::sync::Wait;
+use std::test::Fail;
+use std::thread::{Parker, Threads};
+use std::time::Duration;
+
+// So many turns, 20 seconds and more, a call waits at most.
+const TURNS: u64 = 20_000;
+
+// The sum of all ranks. Rank 0 posts and returns at once; rank 3 posts when that is long past.
+#[derive(Drop)]
+struct Leaves<'a, R> {
+    rt: &'a R,
+}
+
+impl<'a, R: Wait> Program for Leaves<'a, R> {
+    type Answer = Option<i128>;
+
+    fn run<H: Host>(
+        &self,
+        alloc: Global,
+        desk: &mut Desk<H>,
+        world: &Comm,
+        ops: &Ops,
+    ) -> Option<i128> {
+        if world.rank() == 0 {
+            drop(posted(alloc, desk, world, ops)?);
+            return Some(0);
+        }
+        if world.rank() == 3 {
+            Parker::new().park_timeout(self.rt, Duration::from_millis(50));
+        }
+        sum_of(alloc, desk, world, ops)
+    }
+}
+
+// Two sums of all ranks, one behind the other.
+#[derive(Drop)]
+struct Sums;
+
+impl Program for Sums {
+    type Answer = Option<(i128, i128)>;
+
+    fn run<H: Host>(
+        &self,
+        alloc: Global,
+        desk: &mut Desk<H>,
+        world: &Comm,
+        ops: &Ops,
+    ) -> Option<(i128, i128)> {
+        let first = sum_of(alloc, desk, world, ops)?;
+        Some((first, sum_of(alloc, desk, world, ops)?))
+    }
+}
+
+// Posts the rank's number to a sum, and once more where memory was wanting.
+fn posted<H: Host>(alloc: Global, desk: &mut Desk<H>, world: &Comm, ops: &Ops) -> Option<Request> {
+    for _ in 0..2 {
+        let mine = Numbers::one(i128::from(world.rank()));
+        match desk.iallreduce(alloc, world, Op::Sum, Ty::I64, mine, ops) {
+            Ok(request) => return Some(request),
+            Err(PostError::OutOfMemory) => {}
+            Err(_) => return None,
+        }
+    }
+    None
+}
+
+// The sum of the ranks' numbers: a wait is made again where memory was wanting.
+fn sum_of<H: Host>(alloc: Global, desk: &mut Desk<H>, world: &Comm, ops: &Ops) -> Option<i128> {
+    let mut request = posted(alloc, desk, world, ops)?;
+    for _ in 0..3 {
+        match desk.wait(alloc, request, TURNS, ops) {
+            Ok(finished) => return numbers_of(&finished).ok()?.first().copied(),
+            Err(WaitError::OutOfMemory(again)) => request = again,
+            Err(WaitError::StillWaiting(_)) => return None,
+        }
+    }
+    None
+}
+
+// What so many ranks and relays come to.
+fn answers_of<P: Program + Sync, R: Threads + Wait + Sync>(
+    rt: &R,
+    alloc: Global,
+    counts: (u8, u8),
+    program: &P,
+) -> Result<Vec<P::Answer>, RanksError>
+where
+    P::Answer: Send + Drop,
+{
+    let ops = Ops::none(alloc);
+    let ran = ranks(rt, alloc, counts.0, counts.1, program, &ops)?;
+    drop(ran.nodes);
+    Ok(ran.answers)
+}
+
+// How many ranks have both sums, where there are four ranks and a relay. A job for which memory or a thread was wanting is run again.
+fn both_sums<R: Threads + Wait + Sync>(rt: &R, alloc: Global) -> Result<usize, RanksError> {
+    let answers = match answers_of(rt, alloc, (4, 1), &Sums) {
+        Ok(answers) => answers,
+        Err(RanksError::BadCount) => return Err(RanksError::BadCount),
+        Err(_) => answers_of(rt, alloc, (4, 1), &Sums)?,
+    };
+    let mut count: usize = 0;
+    for answer in answers.iter() {
+        if *answer == Some((6, 6)) {
+            count = count.saturating_add(1);
+        }
+    }
+    Ok(count)
+}
+
+#[test]
+fn four_ranks_have_two_sums(rt: HostRuntime) -> Result<(), Fail> {
+    assert_eq!(rt; both_sums(&rt, rt.alloc()), Ok(4));
+    Ok(())
+}
+
+#[test]
+fn a_rank_that_returned_is_heard(rt: HostRuntime) -> Result<(), Fail> {
+    let answers = answers_of(&rt, rt.alloc(), (4, 0), &Leaves { rt: &rt });
+    let wanted = vec![in rt.alloc(); Some(0), Some(6), Some(6), Some(6)]?;
+    assert_eq!(rt; answers, Ok(wanted));
+    Ok(())
+}
+
+#[test]
+fn a_job_has_1_to_64_processes(rt: HostRuntime) -> Result<(), Fail> {
+    for counts in [(0u8, 0u8), (0, 1), (65, 0), (64, 1), (1, 64), (255, 255)] {
+        let answers = answers_of(&rt, rt.alloc(), counts, &Sums);
+        assert_eq!(rt; answers.err(), Some(RanksError::BadCount));
+    }
+    let alone = answers_of(&rt, rt.alloc(), (1, 0), &Sums);
+    let wanted = vec![in rt.alloc(); Some((0, 0))]?;
+    assert_eq!(rt; alone, Ok(wanted));
+    Ok(())
+}
