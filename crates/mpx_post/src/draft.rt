@@ -302,7 +302,7 @@ impl Draft {
         let ty = self.ty;
         // before the items are moved out of the draft
         let rest = self.rest(alloc, refusal);
-        match given_items(fields.items, ty, self.into_items()) {
+        match given_items(alloc, fields.items, ty, self.into_items()) {
             Ok(items) => match rest {
                 Ok((scounts, rcounts, making)) => Ok(Post::new(
                     kind, mode, root, op, scounts, rcounts, items, making,

@@ -12,7 +12,7 @@ ghost use Rattle.mpx_post.specs.declared.draft.PostError.TheVariants.{ItemsLengt
 use crate::counts::{Counts, are_counts, total};
 use crate::draft::PostError;
 use join_core::OutOfMemory;
-use mpx_num::{Items, ItemsError, Numbers, Op, Ty, is_in_range};
+use mpx_num::{Items, ItemsError, Numbers, Op, Spelled, Ty, is_in_range};
 use std::alloc::Global;
 
 // The numbers of a list that the kind has, and none of one that it hasn't.
@@ -80,7 +80,12 @@ pub(crate) fn given_op(had: bool, op: Op) -> Option<Op>
 }
 
 // The items, where the kind has them, or why the numbers are none.
-pub(crate) fn given_items(had: bool, ty: Ty, numbers: Numbers) -> Result<Option<Items>, PostError>
+pub(crate) fn given_items(
+    alloc: Global,
+    had: bool,
+    ty: Ty,
+    numbers: Numbers,
+) -> Result<Option<Spelled>, PostError>
     ensures { let nums = cond had numbers [] in
         result ≡ unless (first_that_holds
         ((not (is_whole ty nums), ItemsLength)
@@ -92,7 +97,10 @@ pub(crate) fn given_items(had: bool, ty: Ty, numbers: Numbers) -> Result<Option<
         return Ok(None);
     }
     match Items::new(ty, numbers) {
-        Ok(items) => Ok(Some(items)),
+        Ok(items) => match Spelled::of(alloc, &items) {
+            Ok(items) => Ok(Some(items)),
+            Err(_) => Err(PostError::OutOfMemory),
+        },
         Err(ItemsError::ItemsLength) => Err(PostError::ItemsLength),
         Err(ItemsError::ItemOutOfRange) => Err(PostError::ItemOutOfRange),
         Err(ItemsError::TooManyItems) => Err(PostError::TooManyItems),
