@@ -4,7 +4,7 @@ ghost use Rattle.std.specs.List.{list_all, sum};
 ghost use Rattle.mpx_num.specs.Types.{item_len};
 ghost use Rattle.mpx_num.specs.ItemList.{is_whole};
 ghost use Rattle.mpx_post.specs.Blocks.{repeated};
-ghost use Rattle.mpx_post.specs.Posts.{most_counts, most_items};
+ghost use Rattle.mpx_post.specs.Posts.{few_items, most_counts, most_items};
 ghost use Rattle.mpx_birth.specs.Topologies.{most_neighbours};
 ghost use Rattle.mpx_post.specs.Drafts.{first_that_holds, is_count, is_of, is_rank as is_rank_of, natural, naturals, unless, where_had as where_had_of};
 ghost use Rattle.mpx_post.specs.declared.draft.PostError.TheVariants.{ItemsLength, ItemOutOfRange, TooManyItems};
@@ -80,12 +80,7 @@ pub(crate) fn given_op(had: bool, op: Op) -> Option<Op>
 }
 
 // The items, where the kind has them, or why the numbers are none.
-pub(crate) fn given_items(
-    alloc: Global,
-    had: bool,
-    ty: Ty,
-    numbers: Numbers,
-) -> Result<Option<Spelled>, PostError>
+pub(crate) fn given_items(had: bool, ty: Ty, numbers: Numbers) -> Result<Option<Items>, PostError>
     ensures { let nums = cond had numbers [] in
         result ≡ unless (first_that_holds
         ((not (is_whole ty nums), ItemsLength)
@@ -97,13 +92,21 @@ pub(crate) fn given_items(
         return Ok(None);
     }
     match Items::new(ty, numbers) {
-        Ok(items) => match Spelled::of(alloc, &items) {
-            Ok(items) => Ok(Some(items)),
-            Err(_) => Err(PostError::OutOfMemory),
-        },
+        Ok(items) => Ok(Some(items)),
         Err(ItemsError::ItemsLength) => Err(PostError::ItemsLength),
         Err(ItemsError::ItemOutOfRange) => Err(PostError::ItemOutOfRange),
         Err(ItemsError::TooManyItems) => Err(PostError::TooManyItems),
+    }
+}
+
+// The items as posts keep them.
+pub(crate) fn spelled(alloc: Global, items: Option<Items>) -> Result<Option<Spelled>, OutOfMemory>
+    requires { few_items items }
+    ensures { IfOk result (λ spelled. spelled ≡ items) }
+{
+    match items {
+        None => Ok(None),
+        Some(items) => Ok(Some(Spelled::of(alloc, &items)?)),
     }
 }
 
