@@ -4,7 +4,7 @@ ghost use Rattle.std.specs.List.{list_all, sum};
 ghost use Rattle.mpx_num.specs.Types.{item_len};
 ghost use Rattle.mpx_num.specs.ItemList.{is_whole};
 ghost use Rattle.mpx_post.specs.Blocks.{repeated};
-ghost use Rattle.mpx_post.specs.Posts.{few_items, most_counts, most_items};
+ghost use Rattle.mpx_post.specs.Posts.{most_counts, most_items};
 ghost use Rattle.mpx_birth.specs.Topologies.{most_neighbours};
 ghost use Rattle.mpx_post.specs.Drafts.{first_that_holds, is_count, is_of, is_rank as is_rank_of, natural, naturals, unless, where_had as where_had_of};
 ghost use Rattle.mpx_post.specs.declared.draft.PostError.TheVariants.{ItemsLength, ItemOutOfRange, TooManyItems};
@@ -101,7 +101,6 @@ pub(crate) fn given_items(had: bool, ty: Ty, numbers: Numbers) -> Result<Option<
 
 // The items as posts keep them.
 pub(crate) fn spelled(alloc: Global, items: Option<Items>) -> Result<Option<Spelled>, OutOfMemory>
-    requires { few_items items }
     ensures { IfOk result (λ spelled. spelled ≡ items) }
 {
     match items {
