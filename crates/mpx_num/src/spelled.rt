@@ -67,7 +67,9 @@ impl Spelled {
     /// Items of the type whose bytes these are.
     pub fn from_slice(alloc: Global, ty: Ty, bytes: &[u8]) -> Result<Self, AllocError>
         requires { IsTrue (are_whole ty bytes.now) }
-        ensures { IfOk result (λ spelled. spelled ≡ record { ty = ty; nums = numbers_in ty bytes.now }) }
+        ensures value { IfOk result (λ spelled. spelled ≡ record { ty = ty; nums = numbers_in ty bytes.now }) }
+        ensures spelling { IfOk result (λ spelled. flat_map (bytes_of ty) spelled.nums ≡ bytes.now) }
+        ensures items { IfOk result (λ spelled. AreItems ty spelled.nums) }
     {
         if bytes.len() <= FEW {
             Ok(few(ty, bytes))
