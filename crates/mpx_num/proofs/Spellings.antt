@@ -1,5 +1,5 @@
 -- Numbers of a type, and the bytes that spell them.
-use Rattle.std.proofs.Common.{◌≡◌, ℕ, zero, suc, ◌+◌, ◌-◌, ◌*◌, ◌/◌, ◌%◌, ◌^◌, ◌<◌, ◌≤◌, ℤ, pos, negsuc, neg_ℤ, ◌≤ℤ◌, Bool, true, false, List, [], ◌∷◌, ◌++◌, length, get_or, take, drop, FitsSigned, refl, sym, ap, subst, ◌∙◌, append_assoc, arith, ltb}
+use Rattle.std.proofs.Common.{◌≡◌, ℕ, zero, suc, ◌+◌, ◌-◌, ◌*◌, ◌/◌, ◌%◌, ◌^◌, ◌<◌, ◌≤◌, ℤ, pos, negsuc, neg_ℤ, ◌≤ℤ◌, Bool, true, false, List, [], ◌∷◌, ◌++◌, length, get_or, take, drop, FitsSigned, Result, Ok, Err, IfOk, refl, sym, ap, subst, ◌∙◌, append_assoc, arith, ltb}
 use Rattle.std.specs.Prelude.{slice_index_or}
 use Rattle.std.specs.Int.{Width, w8, w16, w32, w64, byte_len, cast_signed, cast_unsigned, from_be_bytes, to_be_bytes}
 use Rattle.std.specs.List.{All, flat_map}
@@ -15,7 +15,7 @@ use mir.ValLaws.{of_z_fits}
 use Rattle.mpx_num.specs.declared.types.Ty.{Ty}
 use Rattle.mpx_num.specs.declared.types.Ty.TheVariants.{I8, I16, I32, I64, U8, U16, U32, U64, TwoInt}
 use Rattle.mpx_num.specs.Types.{IsInRange, depth, item_len, width}
-use Rattle.mpx_num.specs.ItemList.{AreItems, is_whole}
+use Rattle.mpx_num.specs.ItemList.{AreItems, ItemList, is_whole}
 use Rattle.mpx_num.specs.Spelling.{are_whole, bytes_of, number_in, number_len, numbers_from, numbers_in, width_of}
 use Rattle.mpx_num.proofs.Parts.{whole_from_multiple, multiple_from_whole, item_len-positive}
 
@@ -278,3 +278,15 @@ module _ (s : ℤ → List ℕ) (nums : List ℤ) (i : ℕ) (z : ℤ) where
   pub written_at : (d : ℤ) (old out new : List ℕ) → i < length nums → z ≡ get_or nums i d → out ≡ old ++ flat_map s (take i nums) → new ≡ out ++ s z → new ≡ old ++ flat_map s (take (i + 1) nums)
   written_at d old out new lt is so_far e =
       e ∙ ap (λ l. l ++ s z) so_far ∙ append_assoc old (flat_map s (take i nums)) (s z) ∙ ap (λ l. old ++ l) (sym (spelled_more lt (is ∙ get_or_default nums i d z lt)))
+
+-- what is made of bytes is spelled by them
+pub if_ok_spelled : {E : Type 0} (made : Result ItemList E) (ty : Ty) (given bytes : List ℕ) → IfOk made (λ spelled. spelled ≡ record { ty = ty; nums = numbers_in ty given }) → given ≡ bytes → flat_map (bytes_of ty) (numbers_in ty bytes) ≡ bytes
+    → IfOk made (λ spelled. flat_map (bytes_of ty) spelled.nums ≡ bytes)
+if_ok_spelled (Ok spelled) ty given bytes is same spelling = ap (λ (items : ItemList). flat_map (bytes_of ty) items.nums) is ∙ ap (λ (l : List ℕ). flat_map (bytes_of ty) (numbers_in ty l)) same ∙ spelling
+if_ok_spelled (Err e) ty given bytes is same spelling = tt
+
+-- what is made of the bytes of items is these items
+pub if_ok_read : {E : Type 0} (made : Result ItemList E) (items : ItemList) (ty : Ty) (bytes : List ℕ) → IfOk made (λ spelled. spelled ≡ record { ty = ty; nums = numbers_in ty bytes }) → ty ≡ items.ty → numbers_in ty bytes ≡ items.nums
+    → IfOk made (λ spelled. spelled ≡ items)
+if_ok_read (Ok spelled) items ty bytes is ty_is nums_are = is ∙ (λ i. record { ty = ty_is i; nums = nums_are i })
+if_ok_read (Err e) items ty bytes is ty_is nums_are = tt

@@ -7,7 +7,7 @@ ghost use Rattle.mpx_num.specs.ItemList.{AreItems, item_count};
 ghost use Rattle.mpx_num.specs.Spelling.{are_whole, bytes_of, number_in, number_len, numbers_in};
 ghost use Rattle.mpx_num.specs.KeptSpelled.{spelled_items};
 
-use crate::items::{Items, MOST_ITEMS};
+use crate::items::Items;
 use crate::types::Ty;
 use std::alloc::{AllocError, Global};
 use std::marker::Model;
@@ -52,12 +52,14 @@ impl Spelled {
 
     /// These items.
     pub fn of(alloc: Global, items: &Items) -> Result<Self, AllocError>
-        requires few { length items.now.nums ≤ MOST_ITEMS * item_len items.now.ty }
         ensures { IfOk result (λ spelled. spelled ≡ items.now) }
     {
         let ty = items.ty();
         let nums = items.nums();
-        let mut bytes = Vec::with_capacity(alloc, nums.len() * ty.number_len())?;
+        let Some(room) = nums.len().checked_mul(ty.number_len()) else {
+            return Err(AllocError);
+        };
+        let mut bytes = Vec::with_capacity(alloc, room)?;
         spell_numbers(ty, nums, &mut bytes)?;
         Spelled::new(alloc, ty, bytes)
     }
@@ -65,7 +67,9 @@ impl Spelled {
     /// Items of the type whose bytes these are.
     pub fn from_slice(alloc: Global, ty: Ty, bytes: &[u8]) -> Result<Self, AllocError>
         requires { IsTrue (are_whole ty bytes.now) }
-        ensures { IfOk result (λ spelled. spelled ≡ record { ty = ty; nums = numbers_in ty bytes.now }) }
+        ensures value { IfOk result (λ spelled. spelled ≡ record { ty = ty; nums = numbers_in ty bytes.now }) }
+        ensures spelling { IfOk result (λ spelled. flat_map (bytes_of ty) spelled.nums ≡ bytes.now) }
+        ensures items { IfOk result (λ spelled. AreItems ty spelled.nums) }
     {
         if bytes.len() <= FEW {
             Ok(few(ty, bytes))

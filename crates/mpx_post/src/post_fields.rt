@@ -80,12 +80,7 @@ pub(crate) fn given_op(had: bool, op: Op) -> Option<Op>
 }
 
 // The items, where the kind has them, or why the numbers are none.
-pub(crate) fn given_items(
-    alloc: Global,
-    had: bool,
-    ty: Ty,
-    numbers: Numbers,
-) -> Result<Option<Spelled>, PostError>
+pub(crate) fn given_items(had: bool, ty: Ty, numbers: Numbers) -> Result<Option<Items>, PostError>
     ensures { let nums = cond had numbers [] in
         result ≡ unless (first_that_holds
         ((not (is_whole ty nums), ItemsLength)
@@ -97,13 +92,20 @@ pub(crate) fn given_items(
         return Ok(None);
     }
     match Items::new(ty, numbers) {
-        Ok(items) => match Spelled::of(alloc, &items) {
-            Ok(items) => Ok(Some(items)),
-            Err(_) => Err(PostError::OutOfMemory),
-        },
+        Ok(items) => Ok(Some(items)),
         Err(ItemsError::ItemsLength) => Err(PostError::ItemsLength),
         Err(ItemsError::ItemOutOfRange) => Err(PostError::ItemOutOfRange),
         Err(ItemsError::TooManyItems) => Err(PostError::TooManyItems),
+    }
+}
+
+// The items as posts keep them.
+pub(crate) fn spelled(alloc: Global, items: Option<Items>) -> Result<Option<Spelled>, OutOfMemory>
+    ensures { IfOk result (λ spelled. spelled ≡ items) }
+{
+    match items {
+        None => Ok(None),
+        Some(items) => Ok(Some(Spelled::of(alloc, &items)?)),
     }
 }
 
