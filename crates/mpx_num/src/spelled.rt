@@ -106,6 +106,7 @@ impl Spelled {
         ensures spelled { numbers_in self.now.ty result.now ≡ self.now.nums }
         ensures spelling { result.now ≡ flat_map (bytes_of self.now.ty) self.now.nums }
         ensures len { length result.now ≡ length self.now.nums * number_len self.now.ty }
+        ensures most { length self.now.nums ≤ length result.now }
         ensures items { AreItems self.now.ty self.now.nums }
     {
         match &self.kept {
