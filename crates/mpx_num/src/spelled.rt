@@ -81,7 +81,8 @@ impl Spelled {
 
     // Items of the type whose bytes these are, which it takes over.
     fn new(alloc: Global, ty: Ty, bytes: Vec<u8>) -> Result<Self, AllocError>
-        requires { IsTrue (are_whole ty bytes.items) }
+        requires items { AreItems ty (numbers_in ty bytes.items) }
+        requires spelling { flat_map (bytes_of ty) (numbers_in ty bytes.items) ≡ bytes.items }
         ensures { IfOk result (λ spelled. spelled ≡ record { ty = ty; nums = numbers_in ty bytes.items }) }
     {
         if bytes.len() <= FEW {
@@ -154,7 +155,8 @@ impl Spelled {
 
 // Items of so few bytes.
 fn few(ty: Ty, bytes: &[u8]) -> Spelled
-    requires whole { IsTrue (are_whole ty bytes.now) }
+    requires items { AreItems ty (numbers_in ty bytes.now) }
+    requires spelling { flat_map (bytes_of ty) (numbers_in ty bytes.now) ≡ bytes.now }
     requires few { length bytes.now ≤ 16 }
     ensures { result ≡ record { ty = ty; nums = numbers_in ty bytes.now } }
 {
@@ -167,7 +169,8 @@ fn few(ty: Ty, bytes: &[u8]) -> Spelled
 
 // Items whose bytes copies share.
 fn shared(alloc: Global, ty: Ty, bytes: Vec<u8>) -> Result<Spelled, AllocError>
-    requires whole { IsTrue (are_whole ty bytes.items) }
+    requires items { AreItems ty (numbers_in ty bytes.items) }
+    requires spelling { flat_map (bytes_of ty) (numbers_in ty bytes.items) ≡ bytes.items }
     ensures { IfOk result (λ spelled. spelled ≡ record { ty = ty; nums = numbers_in ty bytes.items }) }
 {
     match Arc::new(alloc, bytes) {
