@@ -1,5 +1,5 @@
 //! Posts that the taker has, compared with their bytes where these stand.
-ghost use Rattle.std.specs.Prelude.{◌≡◌, [], true, IfSome, Ok, length};
+ghost use Rattle.std.specs.Prelude.{◌≡◌, ◌++◌, [], true, IfSome, Ok, length};
 ghost use Rattle.std.specs.Bool.{OnTrue};
 ghost use Rattle.std.specs.Option.{option_map};
 ghost use Rattle.join_core.specs.FlatSeen.{flat_view};
@@ -145,10 +145,11 @@ fn behind_items<'a>(items: &Spelled, bytes: &'a [u8]) -> Option<&'a [u8]>
     ensures { IfSome result (λ rest. (items_format items.now.ty).read bytes.now ≡ Ok (items.now.nums, rest.now)) }
 {
     let spelled = items.bytes();
+    let items = items.count();
     match read_item_count(bytes) {
         Err(_) => None,
         Ok((count, rest)) => {
-            if count as usize == items.count() {
+            if count as usize == items {
                 behind_bytes(spelled, rest)
             } else {
                 None
@@ -158,7 +159,9 @@ fn behind_items<'a>(items: &Spelled, bytes: &'a [u8]) -> Option<&'a [u8]>
 }
 
 // The bytes behind these ones, where they stand at the front.
-fn behind_bytes<'a>(front: &[u8], bytes: &'a [u8]) -> Option<&'a [u8]> {
+fn behind_bytes<'a>(front: &[u8], bytes: &'a [u8]) -> Option<&'a [u8]>
+    ensures { IfSome result (λ rest. bytes.now ≡ front.now ++ rest.now) }
+{
     if bytes.len() < front.len() {
         return None;
     }

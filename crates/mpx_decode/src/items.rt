@@ -1,9 +1,6 @@
-//! Reading numbers of the types, and items.
-ghost use Rattle.std.specs.Prelude.{◌≡◌, ◌+◌, ◌*◌, ◌<◌, ◌≤◌, [], Ok, IfOk, IfSome, length};
-ghost use Rattle.std.specs.List.{All};
-ghost use Rattle.mpx_num.specs.Types.{IsInRange, item_len, width};
-ghost use Rattle.mpx_num.specs.declared.types.Ty.{Ty};
-ghost use Rattle.mpx_num.specs.declared.types.Ty.TheVariants.{I8, I16, I32, I64, U8, U16, U32, U64, TwoInt};
+//! Reading items.
+ghost use Rattle.std.specs.Prelude.{◌≡◌, ◌*◌, ◌/◌, ◌≤◌, [], IfOk, length};
+ghost use Rattle.mpx_num.specs.Types.{item_len};
 ghost use Rattle.mpx_format.specs.Format.{Gives, many_read};
 ghost use Rattle.mpx_format.specs.Posts.{integer, item_count, items};
 
@@ -25,6 +22,27 @@ pub fn read_item_count(bytes: &[u8]) -> Result<(u16, &[u8]), ReadError>
     }
 }
 
+// So many numbers of the type, which are whole items.
+fn read_numbers(
+    ty: Ty,
+    alloc: Global,
+    count: usize,
+    bytes: &[u8],
+) -> Result<(Spelled, &[u8]), ReadError>
+    requires whole { count / item_len ty * item_len ty ≡ count }
+    requires few { count ≤ 8192 }
+    ensures read { Gives (λ x. (x.0.nums, x.1.now)) result (many_read (λ before. integer ty) count [] bytes.now) }
+    ensures ty { IfOk result (λ x. x.0.ty ≡ ty) }
+    ensures len { IfOk result (λ x. length x.0.nums ≡ count) }
+{
+    let len = count * ty.number_len();
+    if bytes.len() < len {
+        return Err(SHORT);
+    }
+    let (front, rest) = bytes.split_at(len);
+    Ok((Spelled::from_slice(alloc, ty, front)?, rest))
+}
+
 // How many items, and the numbers of all of them.
 #[tactic(auto, unfolding(mpx_format::specs::Posts::items))]
 pub fn read_items(ty: Ty, alloc: Global, bytes: &[u8]) -> Result<(Spelled, &[u8]), ReadError>
@@ -33,10 +51,5 @@ pub fn read_items(ty: Ty, alloc: Global, bytes: &[u8]) -> Result<(Spelled, &[u8]
     ensures few { IfOk result (λ x. length x.0.nums ≤ MOST_ITEMS * item_len ty) }
 {
     let (count, rest) = read_item_count(bytes)?;
-    let len = count as usize * ty.item_len() * ty.number_len();
-    if rest.len() < len {
-        return Err(SHORT);
-    }
-    let (front, behind) = rest.split_at(len);
-    Ok((Spelled::from_slice(alloc, ty, front)?, behind))
+    read_numbers(ty, alloc, count as usize * ty.item_len(), rest)
 }

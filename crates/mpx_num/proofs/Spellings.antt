@@ -7,7 +7,7 @@ use Rattle.std.proofs.lemmas.Bool.{eq-eqb, eqb-true, ltb-true, ltb-false}
 use Rattle.std.proofs.lemmas.Int.{ints, of_z-to_z, to_z-of_z}
 use Rattle.std.proofs.lemmas.List.{length-append, length-take, length-drop, take_at, drop_at, drop-drop, take-append-drop, get_or-take, get_or-drop, get_or_past, take_more, append-nil, get_or_default}
 use Rattle.std.proofs.lemmas.Grind.{flat_map-append}
-use Rattle.std.proofs.lemmas.Nat.{be_bytes_2, be_bytes_4, be_bytes_8, from_be_bytes-to_be_bytes_2, from_be_bytes-to_be_bytes_4, from_be_bytes-to_be_bytes_8}
+use Rattle.std.proofs.lemmas.Nat.{mul-le, be_bytes_2, be_bytes_4, be_bytes_8, from_be_bytes-to_be_bytes_2, from_be_bytes-to_be_bytes_4, from_be_bytes-to_be_bytes_8}
 use Rattle.std.proofs.Math.Nat.{mul-div_cancel, mul_assoc}
 use native.Mathlib.Nat.{mul-pos}
 use mir.Val.{bits, hbits}
@@ -15,7 +15,10 @@ use mir.ValLaws.{of_z_fits}
 use Rattle.mpx_num.specs.declared.types.Ty.{Ty}
 use Rattle.mpx_num.specs.declared.types.Ty.TheVariants.{I8, I16, I32, I64, U8, U16, U32, U64, TwoInt}
 use Rattle.mpx_num.specs.Types.{IsInRange, depth, item_len, width}
+use Rattle.std.proofs.lemmas.List.Elements.{All-nil}
 use Rattle.mpx_num.specs.ItemList.{AreItems, ItemList, is_whole}
+use Rattle.mpx_num.specs.KeptSpelled.{AreKept}
+use Rattle.mpx_num.specs.declared.spelled.KeptBytes.TheVariants.{Few}
 use Rattle.mpx_num.specs.Spelling.{are_whole, bytes_of, number_in, number_len, numbers_from, numbers_in, width_of}
 use Rattle.mpx_num.proofs.Parts.{whole_from_multiple, multiple_from_whole, item_len-positive}
 
@@ -264,6 +267,19 @@ pub no_numbers : (ty : Ty) → numbers_in ty [] ≡ []
 unfolding numbers_in
 no_numbers ty = let none : 0 / number_len ty ≡ 0 = omega arith in rw none refl
 
+pub nothing_kept : (ty : Ty) (place : List ℕ) → AreKept (Few ty 0 place)
+nothing_kept ty place = record {
+  items = subst (AreItems ty) (sym (no_numbers ty)) (record { whole = whole_from_multiple ty [] 0 (omega arith); in_range = All-nil (IsInRange ty) });
+  spelling = ap (flat_map (bytes_of ty)) (no_numbers ty);
+  few = omega arith;
+}
+
+-- there are no more numbers than bytes
+pub most_numbers : (ty : Ty) (nums : List ℤ) (bytes : List ℕ) → length bytes ≡ length nums * number_len ty → length nums ≤ length bytes
+most_numbers ty nums bytes len =
+    let le : length nums * 1 ≤ length nums * number_len ty = mul-le (length nums) 1 (length nums) (number_len ty) (omega arith) (omega (arith, (spells ty).some)) in
+    omega (arith, le, len)
+
 -- the number at a place of whole items
 pub number_of_items : (ty : Ty) (bytes : List ℕ) (place : ℕ) (d : ℤ) → place < length (numbers_in ty bytes) → get_or (numbers_in ty bytes) place d ≡ number_in ty (take (number_len ty) (drop (place * number_len ty) bytes))
 unfolding numbers_in
@@ -284,6 +300,11 @@ pub if_ok_spelled : {E : Type 0} (made : Result ItemList E) (ty : Ty) (given byt
     → IfOk made (λ spelled. flat_map (bytes_of ty) spelled.nums ≡ bytes)
 if_ok_spelled (Ok spelled) ty given bytes is same spelling = ap (λ (items : ItemList). flat_map (bytes_of ty) items.nums) is ∙ ap (λ (l : List ℕ). flat_map (bytes_of ty) (numbers_in ty l)) same ∙ spelling
 if_ok_spelled (Err e) ty given bytes is same spelling = tt
+
+pub if_ok_len : {E : Type 0} (made : Result ItemList E) (ty : Ty) (given bytes : List ℕ) → IfOk made (λ spelled. spelled ≡ record { ty = ty; nums = numbers_in ty given }) → given ≡ bytes → length bytes ≡ length (numbers_in ty bytes) * number_len ty
+    → IfOk made (λ spelled. length spelled.nums * number_len ty ≡ length bytes)
+if_ok_len (Ok spelled) ty given bytes is same len = ap (λ (items : ItemList). length items.nums * number_len ty) is ∙ ap (λ (l : List ℕ). length (numbers_in ty l) * number_len ty) same ∙ sym len
+if_ok_len (Err e) ty given bytes is same len = tt
 
 -- what is made of the bytes of items is these items
 pub if_ok_read : {E : Type 0} (made : Result ItemList E) (items : ItemList) (ty : Ty) (bytes : List ℕ) → IfOk made (λ spelled. spelled ≡ record { ty = ty; nums = numbers_in ty bytes }) → ty ≡ items.ty → numbers_in ty bytes ≡ items.nums

@@ -69,6 +69,7 @@ impl Spelled {
         requires { IsTrue (are_whole ty bytes.now) }
         ensures value { IfOk result (λ spelled. spelled ≡ record { ty = ty; nums = numbers_in ty bytes.now }) }
         ensures spelling { IfOk result (λ spelled. flat_map (bytes_of ty) spelled.nums ≡ bytes.now) }
+        ensures len { IfOk result (λ spelled. length spelled.nums * number_len ty ≡ length bytes.now) }
         ensures items { IfOk result (λ spelled. AreItems ty spelled.nums) }
     {
         if bytes.len() <= FEW {
@@ -106,6 +107,7 @@ impl Spelled {
         ensures spelled { numbers_in self.now.ty result.now ≡ self.now.nums }
         ensures spelling { result.now ≡ flat_map (bytes_of self.now.ty) self.now.nums }
         ensures len { length result.now ≡ length self.now.nums * number_len self.now.ty }
+        ensures most { length self.now.nums ≤ length result.now }
         ensures items { AreItems self.now.ty self.now.nums }
     {
         match &self.kept {

@@ -1,8 +1,8 @@
-use Rattle.std.proofs.Common.{◌≡◌, ap, ◌∙◌, sym, subst, rules, arith}
+use Rattle.std.proofs.Common.{◌≡◌, ◌*◌, length, ap, ◌∙◌, sym, subst, rules, arith}
 use Rattle.std.specs.List.{flat_map}
 use Rattle.mpx_num.specs.ItemList.{AreItems}
-use Rattle.mpx_num.specs.Spelling.{bytes_of, numbers_in}
-use Rattle.mpx_num.proofs.Spellings.{are_spelled, if_ok_spelled}
+use Rattle.mpx_num.specs.Spelling.{bytes_of, number_len, numbers_in}
+use Rattle.mpx_num.proofs.Spellings.{are_spelled, if_ok_len, if_ok_spelled}
 use Rattle.mpx_num.proofs.spelled.Spelled.from_slice.Goals as goal
 
 pub few-requires-clause-items : goal.few-requires-clause-items
@@ -31,3 +31,14 @@ returns-in_ok-from_slice-clause-spelling c =
     let is : c.in_ok-from_slice.field-0.items ≡ c.args.bytes.now = search rules in
     let spelling = (are_spelled c.args.ty c.args.bytes.now c.requires (λ i. omega (arith, c.type_inv.bytes i))).spelling in
     if_ok_spelled c.shared.result c.args.ty c.in_ok-from_slice.field-0.items c.args.bytes.now c.shared.ensures is spelling
+
+pub returns-then-bytes-le-FEW-clause-len : goal.returns-then-bytes-le-FEW-clause-len
+returns-then-bytes-le-FEW-clause-len c =
+    let made : c.few.result.nums ≡ numbers_in c.args.ty c.args.bytes.now = search rules in
+    ap (λ l. length l * number_len c.args.ty) made ∙ sym (are_spelled c.args.ty c.args.bytes.now c.requires (λ i. omega (arith, c.type_inv.bytes i))).len
+
+pub returns-in_ok-from_slice-clause-len : goal.returns-in_ok-from_slice-clause-len
+returns-in_ok-from_slice-clause-len c =
+    let is : c.in_ok-from_slice.field-0.items ≡ c.args.bytes.now = search rules in
+    let len = (are_spelled c.args.ty c.args.bytes.now c.requires (λ i. omega (arith, c.type_inv.bytes i))).len in
+    if_ok_len c.shared.result c.args.ty c.in_ok-from_slice.field-0.items c.args.bytes.now c.shared.ensures is len
