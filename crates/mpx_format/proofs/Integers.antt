@@ -1,5 +1,5 @@
 -- Numbers of the types, spelled as items keep them.
-use Rattle.std.proofs.Common.{◌≡◌, ℕ, zero, suc, ℤ, pos, negsuc, ◌+◌, ◌-◌, ◌*◌, ◌/◌, ◌^◌, ◌<◌, ◌≤ℤ◌, neg_ℤ, List, [], ◌∷◌, ◌++◌, length, Some, Result, Ok, refl, sym, ap, ◌∙◌, append_assoc, arith}
+use Rattle.std.proofs.Common.{◌≡◌, ℕ, zero, suc, ℤ, pos, negsuc, ◌+◌, ◌-◌, ◌*◌, ◌/◌, ◌^◌, ◌<◌, ◌≤ℤ◌, neg_ℤ, List, [], ◌∷◌, ◌++◌, length, Some, Result, Ok, refl, sym, ap, ◌∙◌, append_assoc, length-append, arith}
 use Rattle.std.specs.Int.{Width, byte_len, cast_unsigned, bytes_high_first, byte_at}
 use Rattle.std.specs.List.{All, flat_map}
 use mir.Val.{bits}
@@ -7,7 +7,7 @@ use Rattle.std.proofs.lemmas.Bool.{lt-ltb}
 use Rattle.std.proofs.lemmas.List.Elements.{All-head, All-tail}
 use Rattle.std.proofs.lemmas.Int.{ints}
 use Rattle.mpx_num.specs.Types.{IsInRange, width, depth}
-use Rattle.mpx_num.specs.Spelling.{bytes_of, width_of}
+use Rattle.mpx_num.specs.Spelling.{bytes_of, number_len, width_of}
 use Rattle.mpx_num.specs.declared.types.Ty.{Ty}
 use Rattle.mpx_num.specs.declared.types.Ty.TheVariants.{I8, I16, I32, I64, U8, U16, U32, U64, TwoInt}
 use Rattle.mpx_format.specs.declared.defects.Defect.{Defect}
@@ -91,6 +91,11 @@ integers_are ty (z ∷ zs) h = ap (λ l. l ++ flat_map (integer ty).spelling zs)
 
 pub length-integer : (ty : Ty) (z : ℤ) → IsInRange ty z → length ((integer ty).spelling z) ≡ width ty / 8
 length-integer ty z h = ap length (integer_is ty z h) ∙ length-bytes (byte_len (width_of ty)) (cast_unsigned (width_of ty) z) ∙ sym (byte_count ty)
+
+-- numbers of a type take its bytes
+pub length-spelled : (ty : Ty) (zs : List ℤ) → length (flat_map (bytes_of ty) zs) ≡ length zs * number_len ty
+length-spelled ty [] = omega arith
+length-spelled ty (z ∷ zs) = length-append (bytes_of ty z) (flat_map (bytes_of ty) zs) ∙ omega (arith, length-bytes (number_len ty) (cast_unsigned (width_of ty) z), length-spelled ty zs)
 
 -- READ BACK
 
