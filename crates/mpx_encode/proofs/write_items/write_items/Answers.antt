@@ -14,5 +14,5 @@ returns c =
     let items = c.args.items.now in
     let first : c.write_u16.new.out.items ≡ c.args.out.now.items ++ to_be_bytes w16 (length items.nums / item_len items.ty) = search rules in
     let nums : c.bytes.result.now ≡ flat_map (integer items.ty).spelling items.nums = c.bytes.ensures.spelling ∙ sym (integers_are items.ty items.nums c.bytes.ensures.items.in_range) in
-    written_behind c.args.out.now.items c.write_u16.new.out.items c.extend_from_slice.new.self.items _ _ first (c.in_ok-extend_from_slice.ensures ∙ ap (λ l. c.write_u16.new.out.items ++ l) nums)
+    written_behind c.args.out.now.items c.write_u16.new.out.items c.extend_from_slice.new.self.items _ _ first (c.in_ok-extend_from_slice.ensures.items ∙ ap (λ l. c.write_u16.new.out.items ++ l) nums)
     ∙ ap (λ l. c.args.out.now.items ++ l) (sym (items_spelled items.ty items.nums))
