@@ -1,11 +1,13 @@
 -- A post whose fields stand at the front.
-use Rattle.std.proofs.Common.{◌≡◌, ℕ, ◌*◌, ℤ, Bool, true, false, List, [], length, Option, Some, None, Result, Ok, IfSome, refl, sym, ap, ◌∙◌}
+use Rattle.std.proofs.Common.{◌≡◌, ℕ, ◌*◌, ℤ, Bool, true, false, List, [], ◌++◌, length, Option, Some, None, Result, Ok, IfSome, refl, sym, ap, ◌∙◌}
 use Rattle.std.specs.Int.{w16}
 use Rattle.std.specs.Bool.{OnTrue}
 use Rattle.std.specs.Option.{option_map}
 use Rattle.join_core.specs.Flat.{known}
 use Rattle.mpx_num.specs.ItemList.{ItemList}
-use Rattle.mpx_num.specs.Types.{item_len}
+use Rattle.std.specs.List.{All, flat_map}
+use Rattle.mpx_num.specs.Types.{IsInRange, item_len}
+use Rattle.mpx_num.specs.Spelling.{bytes_of}
 use Rattle.mpx_num.specs.declared.types.Ty.{Ty}
 use Rattle.mpx_num.specs.declared.operations.Op.{Op}
 use Rattle.mpx_kind.specs.declared.kinds.Kind.{Kind}
@@ -23,6 +25,7 @@ use Rattle.mpx_format.specs.Fields.{process}
 use Rattle.mpx_format.specs.Contexts.{posted}
 use Rattle.mpx_format.specs.Format.{byte, many_read, number}
 use Rattle.mpx_format.specs.Posts.{count, counts, counts_if, given_from, integer, item_count, items as items_format, items_for, nums_of, post, type_for}
+use Rattle.mpx_format.proofs.Integers.{numbers_stand}
 use Rattle.mpx_decode.proofs.PostLimits.{post_whole}
 
 nothing_made : (m : Making) → makes_of m ≡ M.Nothing → m ≡ Nothing
@@ -64,13 +67,21 @@ counts_behind (Some x) left true list bytes after n e is same h =
     let all : many_read (λ before. count) n [] after ≡ Ok (list, left x) = ap (λ (k : ℕ). many_read (λ before. count) k [] after) same ∙ h in
     rw (is, all) refl
 
-pub nums_behind : {T : Type 0} (r : Option T) (left : T → List ℕ) (ty : Ty) (nums : List ℤ) (bytes after : List ℕ) (n : ℕ) → item_count.read bytes ≡ Ok (n, after) → n * item_len ty ≡ length nums
+nums_behind : {T : Type 0} (r : Option T) (left : T → List ℕ) (ty : Ty) (nums : List ℤ) (bytes after : List ℕ) (n : ℕ) → item_count.read bytes ≡ Ok (n, after) → n * item_len ty ≡ length nums
     → IfSome r (λ x. many_read (λ before. integer ty) (length nums) [] after ≡ Ok (nums, left x)) → IfSome r (λ x. (items_format ty).read bytes ≡ Ok (nums, left x))
 unfolding items_format
 nums_behind None left ty nums bytes after n is same h = tt
 nums_behind (Some x) left ty nums bytes after n is same h =
     let all : many_read (λ before. integer ty) (n * item_len ty) [] after ≡ Ok (nums, left x) = ap (λ (k : ℕ). many_read (λ before. integer ty) k [] after) same ∙ h in
     rw (is, all) refl
+
+-- the bytes of these numbers stand there
+pub bytes_behind : {T : Type 0} (r : Option T) (left : T → List ℕ) (ty : Ty) (nums : List ℤ) (bytes after spelled : List ℕ) (n : ℕ) → item_count.read bytes ≡ Ok (n, after) → n * item_len ty ≡ length nums → spelled ≡ flat_map (bytes_of ty) nums → All (IsInRange ty) nums
+    → IfSome r (λ x. after ≡ spelled ++ left x) → IfSome r (λ x. (items_format ty).read bytes ≡ Ok (nums, left x))
+bytes_behind None left ty nums bytes after spelled n is same e h front = tt
+bytes_behind (Some x) left ty nums bytes after spelled n is same e h front =
+    let there : after ≡ flat_map (bytes_of ty) nums ++ left x = front ∙ ap (λ l. l ++ left x) e in
+    nums_behind (Some x) left ty nums bytes after n is same (ap (many_read (λ before. integer ty) (length nums) []) there ∙ numbers_stand ty [] nums (left x) h)
 
 -- a post behind the byte that says that it is known
 pub told_behind : {T : Type 0} (r : Option T) (left : T → List ℕ) (version : Version) (g : Given) (bytes after : List ℕ) (n : ℕ) → byte.read bytes ≡ Ok (n, after) → n ≡ 1

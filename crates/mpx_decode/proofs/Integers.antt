@@ -1,15 +1,18 @@
 -- So many numbers of one type: too few bytes for all of them.
-use Rattle.std.proofs.Common.{◌≡◌, ℕ, zero, suc, ◌+◌, ◌-◌, ◌*◌, ◌/◌, ◌^◌, ◌<◌, ◌≤◌, ℤ, List, [], ◌∷◌, ◌++◌, length, drop, take, Ok, Err, refl, sym, ap, ◌∙◌, arith, inl, inr}
+use Rattle.std.proofs.Common.{◌≡◌, ℕ, zero, suc, ◌+◌, ◌-◌, ◌*◌, ◌/◌, ◌^◌, ◌<◌, ◌≤◌, true, ℤ, List, [], ◌∷◌, ◌++◌, length, drop, take, Result, Ok, Err, refl, sym, ap, ◌∙◌, arith, inl, inr}
 use Rattle.std.specs.Int.{Width, w16, w32, w64, byte_len, from_be_bytes}
-use Rattle.std.proofs.lemmas.Bool.{cases_lt, lt-ltb, le-ltb}
+use Rattle.std.proofs.lemmas.Bool.{cases_lt, eq-eqb, lt-ltb, le-ltb}
 use Rattle.std.proofs.lemmas.List.{length-drop}
-use Rattle.std.proofs.Math.Nat.{mul-le-mul_left, mul-div-le, mul_assoc, mul-suc, div-lt_iff_lt-mul}
-use Rattle.mpx_num.specs.Types.{width, depth}
+use Rattle.std.proofs.Math.Nat.{mul_assoc, mul-div_cancel}
+use Rattle.mpx_num.specs.Types.{width, depth, item_len}
+use Rattle.mpx_num.specs.Spelling.{are_whole, number_len}
 use Rattle.mpx_num.specs.declared.types.Ty.{Ty}
 use Rattle.mpx_num.specs.declared.types.Ty.TheVariants.{I8, I16, I32, I64, U8, U16, U32, U64, TwoInt}
 use Rattle.mpx_format.specs.declared.defects.Defect.TheVariants.{ShortFrame}
-use Rattle.mpx_format.specs.Format.{Format, byte, number, many_read}
-use Rattle.mpx_format.specs.Posts.{integer, bits_of, signed}
+use Rattle.mpx_format.specs.declared.defects.ReadError.{ReadError}
+use Rattle.mpx_format.specs.declared.defects.ReadError.TheVariants as errors
+use Rattle.mpx_format.specs.Format.{Format, Gives, byte, number, many_read}
+use Rattle.mpx_format.specs.Posts.{integer, item_count, items, bits_of, signed}
 
 -- a number of so many bytes stands at the front, or there are too few
 record Stands (len : ℕ) (f : Format ℕ) : Type 0 where
@@ -64,20 +67,45 @@ too_short ty (suc n) before bytes lt = elim (cases_lt (length bytes) (width ty /
       rw (z.1, too_short ty n (before ++ z.0 ∷ []) (drop (width ty / 8) bytes) less) refl
 ]
 
--- WHAT A LOOP OVER THEM HAS LEFT
+-- ENOUGH BYTES
 
-module _ (wide len : ℕ) (is : 8 * len ≡ wide) where
-  pub enough : (count l : ℕ) → count ≤ l / len → wide * count ≤ 8 * l
-  enough count l le =
-      let a : len * count ≤ len * (l / len) = mul-le-mul_left len le in
-      let b : len * (l / len) ≤ l = mul-div-le l len in
-      let c : wide * count ≡ 8 * (len * count) = ap (λ n. n * count) (sym is) ∙ mul_assoc 8 len count in
-      omega (arith, a, b, c)
+some_bytes : (ty : Ty) → 0 < number_len ty
+some_bytes I8 = omega arith
+some_bytes I16 = omega arith
+some_bytes I32 = omega arith
+some_bytes I64 = omega arith
+some_bytes U8 = omega arith
+some_bytes U16 = omega arith
+some_bytes U32 = omega arith
+some_bytes U64 = omega arith
+some_bytes TwoInt = omega arith
 
-  pub too_few : (count l : ℕ) → 0 < len → l / len < count → l < count * (wide / 8)
-  too_few count l some lt =
-      let k : wide / 8 ≡ len = omega (arith, is) in
-      rw k ((div-lt_iff_lt-mul {k = len} {x = l} {y = count} some).0 lt)
+some_numbers : (ty : Ty) → 0 < item_len ty * number_len ty
+some_numbers I8 = omega arith
+some_numbers I16 = omega arith
+some_numbers I32 = omega arith
+some_numbers I64 = omega arith
+some_numbers U8 = omega arith
+some_numbers U16 = omega arith
+some_numbers U32 = omega arith
+some_numbers U64 = omega arith
+some_numbers TwoInt = omega arith
 
-pub one_fewer : (wide count i : ℕ) → i < count → wide * (count - i) ≡ wide * (count - (i + 1)) + wide
-one_fewer wide count i lt = let k : count - i ≡ suc (count - (i + 1)) = omega arith in ap (λ n. wide * n) k ∙ mul-suc wide (count - (i + 1))
+pub as_many : (ty : Ty) (a b : ℕ) → a * number_len ty ≡ b * number_len ty → a ≡ b
+as_many ty a b e = sym (mul-div_cancel a (some_bytes ty)) ∙ ap (λ n. n / number_len ty) e ∙ mul-div_cancel b (some_bytes ty)
+
+-- whole items have whole bytes
+pub whole_bytes : (ty : Ty) (bytes : List ℕ) (count : ℕ) → count / item_len ty * item_len ty ≡ count → length bytes ≡ count * number_len ty → are_whole ty bytes ≡ true
+whole_bytes ty bytes count whole len =
+    let size : ℕ = item_len ty * number_len ty in
+    let items : length bytes ≡ count / item_len ty * size = len ∙ ap (λ n. n * number_len ty) (sym whole) ∙ mul_assoc (count / item_len ty) (item_len ty) (number_len ty) in
+    let back : length bytes / size ≡ count / item_len ty = ap (λ n. n / size) items ∙ mul-div_cancel (count / item_len ty) (some_numbers ty) in
+    eq-eqb _ _ (ap (λ n. n * size) back ∙ sym items)
+
+-- what is read of so many numbers is what items give behind their count
+pub items_given : {T : Type 0} (r : Result T ReadError) (nums : T → List ℤ) (left : T → List ℕ) (ty : Ty) (bytes after : List ℕ) (n : ℕ) → item_count.read bytes ≡ Ok (n, after)
+    → Gives (λ x. (nums x, left x)) r (many_read (λ before. integer ty) (n * item_len ty) [] after) → Gives (λ x. (nums x, left x)) r ((items ty).read bytes)
+unfolding items
+items_given (Ok x) nums left ty bytes after n count given = rw (count, given) refl
+items_given (Err errors.OutOfMemory) nums left ty bytes after n count given = tt
+items_given (Err (errors.Defect f)) nums left ty bytes after n count given = rw (count, given) refl

@@ -10,7 +10,7 @@ use crate::big_endian::read_u16;
 use crate::items::read_items;
 use crate::lists::{Repeated, read_list};
 use mpx_format::{ReadError, out_of_limits};
-use mpx_num::{Items, Ty};
+use mpx_num::{Spelled, Ty};
 use mpx_post::Counts;
 use std::alloc::Global;
 
@@ -73,7 +73,7 @@ pub fn read_items_for(
     ty: Option<Ty>,
     alloc: Global,
     bytes: &[u8],
-) -> Result<(Option<Items>, &[u8]), ReadError>
+) -> Result<(Option<Spelled>, &[u8]), ReadError>
     ensures read { Gives (λ x. (nums_of x.0, x.1.now)) result ((items_for ty).read bytes.now) }
     ensures ty { IfOk result (λ x. option_map (λ (items : ItemList). items.ty) x.0 ≡ ty) }
     ensures few { IfOk result (λ x. few_items x.0) }

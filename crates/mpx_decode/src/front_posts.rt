@@ -1,5 +1,5 @@
 //! Posts that the taker has, compared with their bytes where these stand.
-ghost use Rattle.std.specs.Prelude.{◌≡◌, [], true, IfSome, Ok, length};
+ghost use Rattle.std.specs.Prelude.{◌≡◌, ◌++◌, [], true, IfSome, Ok, length};
 ghost use Rattle.std.specs.Bool.{OnTrue};
 ghost use Rattle.std.specs.Option.{option_map};
 ghost use Rattle.join_core.specs.FlatSeen.{flat_view};
@@ -13,11 +13,11 @@ ghost use Rattle.mpx_format.specs.Posts.{count as count_format, counts_if, items
 use crate::big_endian::{read_u8, read_u16};
 use crate::codes::{read_kind, read_mode, read_op, read_root, read_type};
 use crate::counts::read_count;
-use crate::items::{behind_numbers, read_item_count};
+use crate::items::read_item_count;
 use join_core::Flat;
 use mpx_format::Version;
 use mpx_kind::{Kind, Makes, Mode};
-use mpx_num::{Items, Op, Ty};
+use mpx_num::{Op, Spelled, Ty, are_equal};
 use mpx_post::{Counts, Post, have_same_op};
 
 // The bytes behind what is told, where it is a post and just its bytes stand at the front.
@@ -141,19 +141,34 @@ fn behind_list<'a>(list: &[u16], bytes: &'a [u8]) -> Option<&'a [u8]>
 }
 
 // The bytes behind these items.
-fn behind_items<'a>(items: &Items, bytes: &'a [u8]) -> Option<&'a [u8]>
+fn behind_items<'a>(items: &Spelled, bytes: &'a [u8]) -> Option<&'a [u8]>
     ensures { IfSome result (λ rest. (items_format items.now.ty).read bytes.now ≡ Ok (items.now.nums, rest.now)) }
 {
-    let ty = items.ty();
-    let nums = items.nums();
+    let spelled = items.bytes();
+    let items = items.count();
     match read_item_count(bytes) {
         Err(_) => None,
         Ok((count, rest)) => {
-            if count as usize * ty.item_len() == nums.len() {
-                behind_numbers(ty, nums, rest)
+            if count as usize == items {
+                behind_bytes(spelled, rest)
             } else {
                 None
             }
         }
+    }
+}
+
+// The bytes behind these ones, where they stand at the front.
+fn behind_bytes<'a>(front: &[u8], bytes: &'a [u8]) -> Option<&'a [u8]>
+    ensures { IfSome result (λ rest. bytes.now ≡ front.now ++ rest.now) }
+{
+    if bytes.len() < front.len() {
+        return None;
+    }
+    let (there, rest) = bytes.split_at(front.len());
+    if are_equal(front, there) {
+        Some(rest)
+    } else {
+        None
     }
 }

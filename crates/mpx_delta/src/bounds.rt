@@ -7,7 +7,6 @@ use mpx_birth::Birth;
 use mpx_board::{Acks, CallPosts, Entry, Lifted, VersionVector};
 use mpx_group::Proc;
 use mpx_name::{Name, Step};
-use mpx_num::Ty;
 use mpx_post::Post;
 
 // How many bytes a process with its number has.
@@ -148,16 +147,6 @@ fn after_lists(room: usize, post: &Post) -> usize {
     let room = after(room, post.destinations().len(), 1);
     match post.items() {
         None => room,
-        Some(items) => after(room, items.nums().len(), bytes_of(items.ty())),
-    }
-}
-
-// How many bytes a number of the type has.
-fn bytes_of(ty: Ty) -> usize {
-    match ty {
-        Ty::I8 | Ty::U8 => 1,
-        Ty::I16 | Ty::U16 => 2,
-        Ty::I32 | Ty::U32 | Ty::TwoInt => 4,
-        Ty::I64 | Ty::U64 => 8,
+        Some(items) => after(room, items.bytes().len(), 1),
     }
 }

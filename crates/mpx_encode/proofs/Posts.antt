@@ -31,7 +31,7 @@ use Rattle.mpx_format.specs.Births.{weight, neighbour, neighbours}
 use Rattle.mpx_format.specs.Posts.{type_for, count, counts, counts_if, integer, items_for, choice, split, ranks, group, edge, edge_count, edges, few_neighbours, own, making_for, nums_of, post}
 use Rattle.mpx_encode.proofs.Rising.{many_alike}
 use Rattle.mpx_encode.proofs.Births.{length_each, length-weight, neighbours_spelled}
-use Rattle.mpx_encode.proofs.Integers.{length-integers}
+use Rattle.mpx_format.proofs.Integers.{length-integer}
 
 -- FIELDS THAT MAY BE MISSING
 
@@ -67,9 +67,9 @@ length-counts cs = ap length (counts_spelled cs) ∙ length-append (to_be_bytes 
 
 -- MAKINGS
 
-pub split_spelled : (c : Option ℕ) (k : ℤ) → split.spelling (Split c k) ≡ choice.spelling c ++ flat_map (integer I32).spelling (k ∷ [])
+pub split_spelled : (c : Option ℕ) (k : ℤ) → split.spelling (Split c k) ≡ choice.spelling c ++ (integer I32).spelling k
 unfolding split
-split_spelled c k = ap (λ l. choice.spelling c ++ l) (sym (append-nil ((integer I32).spelling k)))
+split_spelled c k = refl
 
 length-choice-none : length (choice.spelling None) ≡ 1
 unfolding choice
@@ -79,15 +79,11 @@ length-choice-some : (c : ℕ) → length (choice.spelling (Some c)) ≡ 5
 unfolding choice colour
 length-choice-some c = refl
 
-one_key : (k : ℤ) → IsInRange I32 k → All (IsInRange I32) (k ∷ [])
-one_key k h zero d lt = h
-one_key k h (suc i) d lt = absurd (omega (arith, lt))
-
-length-key : (k : ℤ) → IsInRange I32 k → length (flat_map (integer I32).spelling (k ∷ [])) ≡ 4
-length-key k h = length-integers I32 (k ∷ []) (one_key k h)
+length-key : (k : ℤ) → IsInRange I32 k → length ((integer I32).spelling k) ≡ 4
+length-key k h = length-integer I32 k h
 
 length_split : (c : Option ℕ) (k : ℤ) → IsInRange I32 k → length (split.spelling (Split c k)) ≡ length (choice.spelling c) + 4
-length_split c k h = ap length (split_spelled c k) ∙ length-append (choice.spelling c) (flat_map (integer I32).spelling (k ∷ [])) ∙ ap (λ n. length (choice.spelling c) + n) (length-key k h)
+length_split c k h = ap length (split_spelled c k) ∙ length-append (choice.spelling c) ((integer I32).spelling k) ∙ ap (λ n. length (choice.spelling c) + n) (length-key k h)
 
 pub length-split_none : (k : ℤ) → IsInRange I32 k → length (split.spelling (Split None k)) ≡ 5
 length-split_none k h = length_split None k h ∙ ap (λ n. n + 4) length-choice-none

@@ -9,11 +9,9 @@ ghost use Rattle.mpx_format.specs.Codes.{flag as flag_format};
 ghost use Rattle.mpx_format.specs.Posts.{choice, edge as edge_format, edges as edges_format, making_for, own as own_format, ranks as ranks_format, split};
 
 use crate::write_births::{neighbours_len, weight_len, write_neighbours, write_weight};
-use crate::write_items::write_integers;
 use crate::write_numbers::{write_u8, write_u16, write_u32};
 use join_core::OutOfMemory;
 use mpx_birth::Edge;
-use mpx_num::Ty;
 use mpx_post::{Edges, Making, OwnNeighbours, Post, Ranks};
 
 fn write_choice(colour: Option<u32>, out: &mut Vec<u8>) -> Result<(), OutOfMemory>
@@ -32,7 +30,7 @@ fn write_split(colour: Option<u32>, key: i32, out: &mut Vec<u8>) -> Result<(), O
     ensures { OnOk result (out.new.items ≡ out.old.items ++ split.spelling (Split colour key)) }
 {
     write_choice(colour, out)?;
-    write_integers(Ty::I32, &[i128::from(key)], out)
+    write_u32(key.cast_unsigned(), out)
 }
 
 fn split_len(colour: Option<u32>, key: i32) -> usize

@@ -10,7 +10,7 @@ ghost use Rattle.mpx_fold.specs.Folds.{all_folded, fold_of, fold_value, folded, 
 
 use join_core::OutOfMemory;
 use mpx_kind::{Kind, Reduction};
-use mpx_num::{Items, Listing, Ops, apply};
+use mpx_num::{Items, Listing, Ops, Spelled, apply};
 use mpx_post::{Block, Row, Value};
 use std::alloc::Global;
 
@@ -105,8 +105,7 @@ fn block_value(alloc: Global, row: &Row<'_>, block: Block, ops: &Ops) -> Result<
     ensures { IfOk result (λ value. value ≡ as_items row.now (part (type_of (first_of row.now)) block (all_folded (⟦<Ops as Listing>⟧.operations ops.now) row.now))) }
 {
     let all = fold_upto(alloc, row, row.len(), ops)?;
-    let mut items = Items::empty(all.ty());
-    items.extend(alloc, &all, block.first, block.count)?;
+    let items = all.block(alloc, block.first, block.count)?;
     Ok(Value::Items(items))
 }
 
@@ -134,7 +133,7 @@ fn fold_upto(alloc: Global, row: &Row<'_>, ranks: usize, ops: &Ops) -> Result<It
 {
     let first = row.post(0);
     let op = first.op().unwrap();
-    let mut folded = given(row, 0).copy()?;
+    let mut folded = Items::spelled(alloc, given(row, 0))?;
     let ty = folded.ty();
     for rank in 1..ranks {
         apply(op, ty, &mut folded, given(row, rank), ops)?;
@@ -143,7 +142,7 @@ fn fold_upto(alloc: Global, row: &Row<'_>, ranks: usize, ops: &Ops) -> Result<It
 }
 
 // What the member with this rank gives to a reduction.
-fn given<'a>(row: &Row<'a>, rank: usize) -> &'a Items
+fn given<'a>(row: &Row<'a>, rank: usize) -> &'a Spelled
     requires fine { IsFine row.now }
     requires reduces { reduces row.now ≡ true }
     requires rank { rank < length row.now }
@@ -151,7 +150,7 @@ fn given<'a>(row: &Row<'a>, rank: usize) -> &'a Items
     ensures whole { AreItems (type_of (first_of row.now)) (numbers_of (post_at row.now rank)) }
 {
     let items = row.post(rank).items().unwrap();
-    // The numbers tell that no item is cut.
-    let _whole = items.nums();
+    // The bytes tell that no item is cut.
+    let _whole = items.bytes();
     items
 }

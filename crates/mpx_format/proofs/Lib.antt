@@ -10,3 +10,4 @@ pub mod Decoded
 pub mod Examples
 pub mod Spelled
 pub mod SpelledPosts
+pub mod Integers

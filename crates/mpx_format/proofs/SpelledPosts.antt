@@ -117,7 +117,7 @@ module _ (size below : ℕ) (f : Format ℕ) (within : (n : ℕ) → n < size �
       let lt : m < below = omega (arith, ints) in
       ap (λ b. fits_by f (cond b (Some (size - 1 - m)) None)) (lt-ltb m below lt) ∙ within (size - 1 - m) (omega arith)
 
-integer_fits : (ty : Ty) (z : ℤ) → IsInRange ty z → (integer ty).fits z ≡ true
+pub integer_fits : (ty : Ty) (z : ℤ) → IsInRange ty z → (integer ty).fits z ≡ true
 unfolding integer
 integer_fits I8 z h = signed_fits (2 ^ 8) (2 ^ 7) byte (λ n lt. lt-ltb n (2 ^ 8) lt) (omega arith) z h.low h.high
 integer_fits I16 z h = signed_fits (2 ^ 16) (2 ^ 15) (number w16) (λ n lt. lt-ltb n (2 ^ 16) lt) (omega arith) z h.low h.high

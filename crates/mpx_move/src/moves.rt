@@ -42,7 +42,7 @@ fn value_of(
     match exchange {
         Exchange::Barrier => Ok(Value::Nothing),
         Exchange::Bcast => {
-            let items = row.given(root(row)).copy()?;
+            let items = Items::spelled(alloc, row.given(root(row)))?;
             Ok(Value::Items(items))
         }
         Exchange::Gather | Exchange::Gatherv => {

@@ -15,7 +15,7 @@ use crate::drafted_edges::DraftedGraph;
 use crate::making::Making;
 use crate::making_fields::given_making;
 use crate::post::Post;
-use crate::post_fields::{given_counts, given_items, given_op, given_root, where_had};
+use crate::post_fields::{given_counts, given_items, given_op, given_root, spelled, where_had};
 use join_core::OutOfMemory;
 use mpx_birth::Birth;
 use mpx_group::Proc;
@@ -304,9 +304,12 @@ impl Draft {
         let rest = self.rest(alloc, refusal);
         match given_items(fields.items, ty, self.into_items()) {
             Ok(items) => match rest {
-                Ok((scounts, rcounts, making)) => Ok(Post::new(
-                    kind, mode, root, op, scounts, rcounts, items, making,
-                )),
+                Ok((scounts, rcounts, making)) => match spelled(alloc, items) {
+                    Ok(items) => Ok(Post::new(
+                        kind, mode, root, op, scounts, rcounts, items, making,
+                    )),
+                    Err(_) => Err(PostError::OutOfMemory),
+                },
                 Err(refusal) => Err(refusal),
             },
             Err(refusal) => Err(refusal),

@@ -13,7 +13,7 @@ use crate::making::Making;
 use join_core::{Exact, OutOfMemory};
 use mpx_birth::{Edge, Neighbour};
 use mpx_kind::{Kind, Mode};
-use mpx_num::{Items, Op, Ty};
+use mpx_num::{Op, Spelled, Ty};
 use std::alloc::Global;
 use std::marker::Model;
 
@@ -29,7 +29,7 @@ pub struct Post {
     making: Making,
     scounts: Counts,
     rcounts: Counts,
-    items: Items,
+    items: Spelled,
 }
 
 impl Model for Post {
@@ -99,7 +99,7 @@ impl Post {
         op: Option<Op>,
         scounts: Counts,
         rcounts: Counts,
-        items: Option<Items>,
+        items: Option<Spelled>,
         making: Making,
     ) -> Post
         requires { IsPost (record { kind = kind; mode = mode; root = root; op = op; scounts = scounts; rcounts = rcounts; items = items; making = making }) }
@@ -107,7 +107,7 @@ impl Post {
     {
         let has_items = items.is_some();
         let items = match items {
-            None => Items::empty(Ty::I8),
+            None => Spelled::empty(Ty::I8),
             Some(items) => items,
         };
         Post {
@@ -134,7 +134,7 @@ impl Post {
         let _sent = self.scounts.as_slice();
         let _received = self.rcounts.as_slice();
         if self.has_items {
-            let _nums = self.items.nums();
+            let _bytes = self.items.bytes();
         }
     }
 
@@ -190,7 +190,7 @@ impl Post {
     }
 
     /// The items that it gives, at most 4,096, where the kind has items.
-    pub fn items(&self) -> Option<&Items>
+    pub fn items(&self) -> Option<&Spelled>
         ensures value { option_copied result ≡ self.now.items }
         ensures there { is_some result ≡ (fields_of self.now.kind).items }
         ensures few { few_items (option_copied result) }
@@ -300,7 +300,7 @@ pub fn have_same_op(left: Option<Op>, right: Option<Op>) -> bool
 }
 
 // Whether both have none, or the same items.
-fn are_same(left: Option<&Items>, right: Option<&Items>) -> bool
+fn are_same(left: Option<&Spelled>, right: Option<&Spelled>) -> bool
     ensures { result ≡ same_option same_items (option_copied left.entry) (option_copied right.entry) }
 {
     match (left, right) {

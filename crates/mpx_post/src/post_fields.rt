@@ -12,7 +12,7 @@ ghost use Rattle.mpx_post.specs.declared.draft.PostError.TheVariants.{ItemsLengt
 use crate::counts::{Counts, are_counts, total};
 use crate::draft::PostError;
 use join_core::OutOfMemory;
-use mpx_num::{Items, ItemsError, Numbers, Op, Ty, is_in_range};
+use mpx_num::{Items, ItemsError, Numbers, Op, Spelled, Ty, is_in_range};
 use std::alloc::Global;
 
 // The numbers of a list that the kind has, and none of one that it hasn't.
@@ -96,6 +96,16 @@ pub(crate) fn given_items(had: bool, ty: Ty, numbers: Numbers) -> Result<Option<
         Err(ItemsError::ItemsLength) => Err(PostError::ItemsLength),
         Err(ItemsError::ItemOutOfRange) => Err(PostError::ItemOutOfRange),
         Err(ItemsError::TooManyItems) => Err(PostError::TooManyItems),
+    }
+}
+
+// The items as posts keep them.
+pub(crate) fn spelled(alloc: Global, items: Option<Items>) -> Result<Option<Spelled>, OutOfMemory>
+    ensures { IfOk result (λ spelled. spelled ≡ items) }
+{
+    match items {
+        None => Ok(None),
+        Some(items) => Ok(Some(Spelled::of(alloc, &items)?)),
     }
 }
 

@@ -6,7 +6,7 @@ ghost use Rattle.mpx_post.specs.Posts.{numbers_of, type_of};
 
 use crate::post::Post;
 use mpx_kind::Kind;
-use mpx_num::Items;
+use mpx_num::Spelled;
 use std::marker::Model;
 
 /// The posts of all members to one call, in rank order, each lent.
@@ -63,7 +63,7 @@ impl<'a> Row<'a> {
     }
 
     /// What the member with this rank gives, in a fine row of a kind whose posts have items.
-    pub fn given(&self, rank: usize) -> &'a Items
+    pub fn given(&self, rank: usize) -> &'a Spelled
         requires fine { IsFine self.now }
         requires items { (fields_of (first_of self.now).kind).items ≡ true }
         requires rank { rank < length self.now }

@@ -1,5 +1,5 @@
 //! Numbers, items, and numbers as text.
-use mpx_num::{Items, Numbers, Op, Ops, Ty, apply, op_fits, print_number, push_number};
+use mpx_num::{Items, Numbers, Op, Ops, Spelled, Ty, apply, op_fits, print_number, push_number};
 use std::alloc::Global;
 use trials::trial::Trial;
 use trials::trouble::{Trouble, filled, put, taken};
@@ -10,6 +10,11 @@ pub enum NumberCall {
     CopyItems,
     Extend,
     Apply,
+    SpelledItems,
+    Block,
+    Of,
+    FromSlice,
+    CopySpelled,
     Print,
     Push,
 }
@@ -19,7 +24,7 @@ pub enum NumberCall {
 pub struct NumbersGiven {
     items: Items,
     twin: Items,
-    more: Items,
+    more: Spelled,
     numbers: Numbers,
     lists: Vec<Vec<i128>>,
     text: String,
@@ -30,6 +35,7 @@ pub enum NumberMade {
     Nothing,
     Numbers(Numbers),
     Items(Items),
+    Spelled(Spelled),
     Text(String),
 }
 
@@ -48,6 +54,25 @@ fn items(alloc: Global, list: &[i128]) -> Result<Items, Trouble> {
     }
 }
 
+// The items as posts keep them.
+fn spelled(alloc: Global, items: &Items) -> Result<Spelled, Trouble> {
+    Ok(Spelled::of(alloc, items)?)
+}
+
+// Three numbers of 64 bits, by their bytes.
+fn from_slice(alloc: Global) -> Result<Spelled, Trouble> {
+    Ok(Spelled::from_slice(alloc, Ty::I64, &[7; 24])?)
+}
+
+// All but the first.
+fn block(alloc: Global, items: &Items) -> Result<Items, Trouble> {
+    let count = items.count();
+    if count < 1 {
+        return Err(Trouble::Refused);
+    }
+    Ok(items.block(alloc, 1, count - 1)?)
+}
+
 fn twin(items: &Items) -> Result<Items, Trouble> {
     Ok(items.copy()?)
 }
@@ -55,7 +80,8 @@ fn twin(items: &Items) -> Result<Items, Trouble> {
 fn fill(alloc: Global, given: &mut NumbersGiven) -> Result<(), Trouble> {
     put(&mut given.items, items(alloc, &[5, -6, 7]))?;
     put(&mut given.twin, twin(&given.items))?;
-    put(&mut given.more, items(alloc, &[-1, 9, 0]))?;
+    let more = items(alloc, &[-1, 9, 0])?;
+    put(&mut given.more, spelled(alloc, &more))?;
     put(&mut given.numbers, numbers(alloc, &[1, 2]))?;
     given.lists.push(list(alloc)?)?;
     given.lists.push(list(alloc)?)?;
@@ -63,7 +89,7 @@ fn fill(alloc: Global, given: &mut NumbersGiven) -> Result<(), Trouble> {
 }
 
 // Appends the other items.
-fn extend(alloc: Global, items: &mut Items, more: &Items) -> Result<NumberMade, Trouble> {
+fn extend(alloc: Global, items: &mut Items, more: &Spelled) -> Result<NumberMade, Trouble> {
     if items.ty() != more.ty() {
         return Err(Trouble::Refused);
     }
@@ -72,7 +98,7 @@ fn extend(alloc: Global, items: &mut Items, more: &Items) -> Result<NumberMade, 
 }
 
 // Combines both, item by item.
-fn combine(items: &mut Items, more: &Items, ops: &Ops) -> Result<NumberMade, Trouble> {
+fn combine(items: &mut Items, more: &Spelled, ops: &Ops) -> Result<NumberMade, Trouble> {
     let ty = items.ty();
     if more.ty() != ty {
         return Err(Trouble::Refused);
@@ -80,7 +106,7 @@ fn combine(items: &mut Items, more: &Items, ops: &Ops) -> Result<NumberMade, Tro
     if !op_fits(Op::Max, ty, ops) {
         return Err(Trouble::Refused);
     }
-    if items.nums().len() != more.nums().len() {
+    if items.count() != more.count() {
         return Err(Trouble::Refused);
     }
     apply(Op::Max, ty, items, more, ops)?;
@@ -103,7 +129,7 @@ impl Trial for NumberCall {
         let mut given = NumbersGiven {
             items: Items::empty(Ty::I64),
             twin: Items::empty(Ty::I64),
-            more: Items::empty(Ty::I64),
+            more: Spelled::empty(Ty::I64),
             numbers: Numbers::none(),
             lists: Vec::new(alloc),
             text: String::new(alloc),
@@ -127,6 +153,11 @@ impl Trial for NumberCall {
             NumberCall::CopyItems => Ok(NumberMade::Items(given.items.copy()?)),
             NumberCall::Extend => extend(alloc, &mut given.items, &given.more),
             NumberCall::Apply => combine(&mut given.items, &given.more, ops),
+            NumberCall::SpelledItems => Ok(NumberMade::Items(Items::spelled(alloc, &given.more)?)),
+            NumberCall::Block => Ok(NumberMade::Items(block(alloc, &given.items)?)),
+            NumberCall::Of => Ok(NumberMade::Spelled(spelled(alloc, &given.items)?)),
+            NumberCall::FromSlice => Ok(NumberMade::Spelled(from_slice(alloc)?)),
+            NumberCall::CopySpelled => Ok(NumberMade::Spelled(given.more.copy()?)),
             NumberCall::Print => Ok(NumberMade::Text(print_number(alloc, -123_456_789)?)),
             NumberCall::Push => push(&mut given.text),
         }
@@ -146,6 +177,7 @@ impl Trial for NumberCall {
             (NumberMade::Numbers(one), NumberMade::Numbers(other)) => one.as_slice()
                 == other.as_slice(),
             (NumberMade::Items(one), NumberMade::Items(other)) => one.same(other),
+            (NumberMade::Spelled(one), NumberMade::Spelled(other)) => one.same(other),
             (NumberMade::Text(one), NumberMade::Text(other)) => one.as_str() == other.as_str(),
             _ => false,
         }
@@ -165,6 +197,11 @@ pub const NUMBER_CALLS: &[(&str, NumberCall)] = &[
     ("Items::copy", NumberCall::CopyItems),
     ("Items::extend", NumberCall::Extend),
     ("apply", NumberCall::Apply),
+    ("Items::spelled", NumberCall::SpelledItems),
+    ("Items::block", NumberCall::Block),
+    ("Spelled::of", NumberCall::Of),
+    ("Spelled::from_slice", NumberCall::FromSlice),
+    ("Spelled::copy", NumberCall::CopySpelled),
     ("print_number", NumberCall::Print),
     ("push_number", NumberCall::Push),
 ];

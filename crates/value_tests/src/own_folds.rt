@@ -1,6 +1,6 @@
 //! Folds by an operation of a job's own, in rank order and wrapped.
 use mpx_affine::Affine;
-use mpx_num::{Items, Numbers, Op, Ops, OwnOp, Ty, apply, op_fits};
+use mpx_num::{Items, Numbers, Op, Ops, OwnOp, Spelled, Ty, apply, op_fits};
 use std::alloc::Global;
 use std::test::Fail;
 
@@ -23,6 +23,7 @@ pub fn folded(alloc: Global, ops: &Ops, maps: &[(i128, i128)]) -> Option<(i128, 
         if i == 0 {
             all = next;
         } else {
+            let next = Spelled::of(alloc, &next).ok()?;
             all = composed(op, all, &next, ops)?;
         }
     }
@@ -33,12 +34,12 @@ pub fn folded(alloc: Global, ops: &Ops, maps: &[(i128, i128)]) -> Option<(i128, 
 }
 
 // The one item and then the other, composed.
-fn composed(op: Op, all: Items, next: &Items, ops: &Ops) -> Option<Items> {
+fn composed(op: Op, all: Items, next: &Spelled, ops: &Ops) -> Option<Items> {
     let mut all = all;
     if !op_fits(op, Ty::TwoInt, ops)
         || all.ty() != Ty::TwoInt
         || next.ty() != Ty::TwoInt
-        || all.nums().len() != next.nums().len()
+        || all.count() != next.count()
     {
         return None;
     }

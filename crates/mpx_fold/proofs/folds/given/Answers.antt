@@ -21,5 +21,5 @@ returns c =
     let is = items_are row c.args.rank c.unwrap-items.result.now c.requires.fine c.requires.rank posted in
     record {
       value = is;
-      whole = subst (λ (items : ItemList). AreItems items.ty items.nums) is c.nums-whole.ensures.in_range;
+      whole = subst (λ (items : ItemList). AreItems items.ty items.nums) is c.bytes-whole.ensures.items;
     }
