@@ -1,10 +1,9 @@
-//! The program `first_sum`: four ranks, each in a thread of its own, add their numbers, split, and gather. `docs/CALLING.md` begins
-//! with it.
+//! The program `first_sum`: four ranks, each in a thread of its own, add their numbers, split, and gather.
 #![tactic(auto)]
 
 use mpx_comm::{Comm, Desk, Host};
 use mpx_num::{Numbers, Op, Ops, Ty};
-use mpx_ranks::{Program, numbers_of, ranks};
+use mpx_ranks::{Program, RanksError, numbers_of, ranks};
 use std::alloc::Global;
 use std::process::ExitCode;
 
@@ -45,17 +44,21 @@ impl Program for FirstSum {
         let (sum, all) = (numbers_of(&added).ok()?, numbers_of(&gathered).ok()?);
         format!(in alloc; "{sum:?}, {} of {}, {all:?}", half.rank(), half.size()).ok()
     }
+
+    fn gives_up(&self, answer: &Option<String>) -> bool {
+        answer.is_none()
+    }
 }
 
-fn main(rt: HostRuntime) -> ExitCode {
+fn main(rt: HostRuntime) -> Result<ExitCode, RanksError> {
     let ops = Ops::none(rt.alloc());
-    let Ok(ran) = ranks(&rt, rt.alloc(), 4, 0, &FirstSum, &ops) else {
-        return ExitCode::FAILURE;
-    };
+    let ran = ranks(&rt, rt.alloc(), 4, 0, &FirstSum, &ops)?;
     for (rank, answer) in ran.answers.iter().enumerate() {
-        if let Some(text) = answer {
-            let _printed = println!(rt; "rank {rank}: {text}");
-        }
+        let Some(text) = answer else {
+            let _told = eprintln!(rt; "rank {rank} gave up");
+            return Ok(ExitCode::FAILURE);
+        };
+        let _printed = println!(rt; "rank {rank}: {text}");
     }
-    ExitCode::SUCCESS
+    Ok(ExitCode::SUCCESS)
 }

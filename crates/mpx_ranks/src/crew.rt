@@ -26,23 +26,27 @@ impl Crew {
         }
     }
 
-    /// Waits until the threads of all processes run. Where one was refused they are to stop, and it answers false.
+    /// Waits until the threads of all processes run, where a rank may have given up already. Where a thread was refused they are to stop, and
+    /// it answers false.
     pub(crate) fn begins<R: Wait>(&self, rt: &R) -> bool {
         self.there.fetch_add(1, Ordering::SeqCst);
         for _ in rt.forever() {
-            if self.has_stopped() {
-                return false;
-            }
             if self.there.load(Ordering::SeqCst) >= self.processes {
                 return true;
+            }
+            if self.has_stopped() {
+                return false;
             }
             yield_now();
         }
         unreachable!()
     }
 
-    /// A rank has returned.
-    pub(crate) fn returns(&self) {
+    /// A rank has returned. Where it has given up all are to stop.
+    pub(crate) fn returns(&self, has_given_up: bool) {
+        if has_given_up {
+            self.stop();
+        }
         self.returned.fetch_add(1, Ordering::SeqCst);
     }
 

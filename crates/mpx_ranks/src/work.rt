@@ -112,7 +112,7 @@ fn work_as_rank<L: Seat, O: Folds, P: Program, R: Wait>(
     let mut desk = Desk::new(alloc, member);
     let world = Comm::world(alloc, ranks, me);
     let answer = program.run(alloc, &mut desk, &world, ops);
-    crew.returns();
+    crew.returns(program.gives_up(&answer));
     let mut host = desk.into_host();
     host.gossip_on(alloc);
     let port = host.into_port();
