@@ -1,5 +1,5 @@
 -- So many numbers of one type: too few bytes for all of them.
-use Rattle.std.proofs.Common.{◌≡◌, ℕ, zero, suc, ◌+◌, ◌-◌, ◌*◌, ◌/◌, ◌^◌, ◌<◌, ◌≤◌, true, ℤ, List, [], ◌∷◌, ◌++◌, length, drop, take, Ok, Err, refl, sym, ap, ◌∙◌, arith, inl, inr}
+use Rattle.std.proofs.Common.{◌≡◌, ℕ, zero, suc, ◌+◌, ◌-◌, ◌*◌, ◌/◌, ◌^◌, ◌<◌, ◌≤◌, true, ℤ, List, [], ◌∷◌, ◌++◌, length, drop, take, Result, Ok, Err, refl, sym, ap, ◌∙◌, arith, inl, inr}
 use Rattle.std.specs.Int.{Width, w16, w32, w64, byte_len, from_be_bytes}
 use Rattle.std.proofs.lemmas.Bool.{cases_lt, eq-eqb, lt-ltb, le-ltb}
 use Rattle.std.proofs.lemmas.List.{length-drop}
@@ -9,8 +9,10 @@ use Rattle.mpx_num.specs.Spelling.{are_whole, number_len}
 use Rattle.mpx_num.specs.declared.types.Ty.{Ty}
 use Rattle.mpx_num.specs.declared.types.Ty.TheVariants.{I8, I16, I32, I64, U8, U16, U32, U64, TwoInt}
 use Rattle.mpx_format.specs.declared.defects.Defect.TheVariants.{ShortFrame}
-use Rattle.mpx_format.specs.Format.{Format, byte, number, many_read}
-use Rattle.mpx_format.specs.Posts.{integer, bits_of, signed}
+use Rattle.mpx_format.specs.declared.defects.ReadError.{ReadError}
+use Rattle.mpx_format.specs.declared.defects.ReadError.TheVariants as errors
+use Rattle.mpx_format.specs.Format.{Format, Gives, byte, number, many_read}
+use Rattle.mpx_format.specs.Posts.{integer, item_count, items, bits_of, signed}
 
 -- a number of so many bytes stands at the front, or there are too few
 record Stands (len : ℕ) (f : Format ℕ) : Type 0 where
@@ -99,3 +101,11 @@ whole_bytes ty bytes count whole len =
     let items : length bytes ≡ count / item_len ty * size = len ∙ ap (λ n. n * number_len ty) (sym whole) ∙ mul_assoc (count / item_len ty) (item_len ty) (number_len ty) in
     let back : length bytes / size ≡ count / item_len ty = ap (λ n. n / size) items ∙ mul-div_cancel (count / item_len ty) (some_numbers ty) in
     eq-eqb _ _ (ap (λ n. n * size) back ∙ sym items)
+
+-- what is read of so many numbers is what items give behind their count
+pub items_given : {T : Type 0} (r : Result T ReadError) (nums : T → List ℤ) (left : T → List ℕ) (ty : Ty) (bytes after : List ℕ) (n : ℕ) → item_count.read bytes ≡ Ok (n, after)
+    → Gives (λ x. (nums x, left x)) r (many_read (λ before. integer ty) (n * item_len ty) [] after) → Gives (λ x. (nums x, left x)) r ((items ty).read bytes)
+unfolding items
+items_given (Ok x) nums left ty bytes after n count given = rw (count, given) refl
+items_given (Err errors.OutOfMemory) nums left ty bytes after n count given = tt
+items_given (Err (errors.Defect f)) nums left ty bytes after n count given = rw (count, given) refl

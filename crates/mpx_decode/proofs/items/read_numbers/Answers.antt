@@ -1,11 +1,12 @@
-use Rattle.std.proofs.Common.{◌≡◌, ◌*◌, ◌/◌, ◌++◌, ◌∙◌, ℤ, [], length, take, drop, sym, ap, subst, arith, rules}
+use Rattle.std.proofs.Common.{◌≡◌, ◌*◌, ◌/◌, ◌++◌, ◌∙◌, ◌≤◌, ℕ, ℤ, List, [], length, take, drop, sym, ap, subst, arith, rules, Ok, refl}
 use Rattle.std.specs.List.{flat_map}
 use Rattle.std.proofs.lemmas.List.{length-take-le, take-append-drop}
+use Rattle.mpx_num.specs.ItemList.{AreItems}
 use Rattle.mpx_num.specs.Types.{width}
 use Rattle.mpx_num.specs.Spelling.{bytes_of, number_len}
 use Rattle.mpx_format.specs.Format.{many_read}
 use Rattle.mpx_format.specs.Posts.{integer}
-use Rattle.mpx_format.proofs.Integers.{byte_count, numbers_stand}
+use Rattle.mpx_format.proofs.Integers.{byte_count, length-spelled, numbers_stand}
 use Rattle.mpx_decode.proofs.Integers.{as_many, too_short, whole_bytes}
 use Rattle.mpx_decode.proofs.items.read_numbers.Goals as goal
 
@@ -18,4 +19,23 @@ from_slice-requires c =
     whole_bytes c.args.ty c.split_at.result.0.now c.args.count c.requires.whole (search rules)
 
 pub returns-clause-read : goal.returns-clause-read
-returns-clause-read c = search rules
+returns-clause-read c =
+    let ty = c.args.ty in
+    let nums = c.in_ok-from_slice.field-0.nums in
+    let front = c.split_at.result.0.now in
+    let rest = c.split_at.result.1.now in
+    let spelled : flat_map (bytes_of ty) nums ≡ front = c.in_ok-from_slice.ensures.spelling in
+    let items : AreItems ty nums = c.in_ok-from_slice.ensures.items in
+    let size : length front ≡ c.args.count * number_len ty = search rules in
+    let count : length nums ≡ c.args.count = as_many ty (length nums) c.args.count (sym (length-spelled ty nums) ∙ ap length spelled ∙ size) in
+    let both : c.args.bytes.now ≡ front ++ rest = search rules in
+    let there : many_read (λ before. integer ty) (length nums) [] (flat_map (bytes_of ty) nums ++ rest) ≡ Ok (nums, rest) = numbers_stand ty [] nums rest items.in_range in
+    ap (many_read (λ before. integer ty) c.args.count []) (both ∙ ap (λ l. l ++ rest) (sym spelled)) ∙ ap (λ n. many_read (λ before. integer ty) n [] (flat_map (bytes_of ty) nums ++ rest)) (sym count) ∙ there
+
+pub returns-clause-len : goal.returns-clause-len
+returns-clause-len c =
+    let ty = c.args.ty in
+    let nums = c.in_ok-from_slice.field-0.nums in
+    let spelled : flat_map (bytes_of ty) nums ≡ c.split_at.result.0.now = c.in_ok-from_slice.ensures.spelling in
+    let size : length c.split_at.result.0.now ≡ c.args.count * number_len ty = search rules in
+    as_many ty (length nums) c.args.count (sym (length-spelled ty nums) ∙ ap length spelled ∙ size)
