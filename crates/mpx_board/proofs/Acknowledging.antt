@@ -17,7 +17,7 @@ use Rattle.mpx_board.specs.declared.acks.Raised.{Raised}
 use Rattle.mpx_board.proofs.Facts.{join_is_least}
 use Rattle.mpx_board.proofs.Order.{same_look}
 use Rattle.mpx_board.specs.Parts.{OfNames, OfProcesses, AcksView, LiftedView, PartsView, acks_joining}
-use Rattle.mpx_board.specs.Contexts.{or_zero, or_nothing, number_in, numbers_of, ack_in, look_of}
+use Rattle.mpx_board.specs.Contexts.{or_zero, or_nothing, number_acked, numbers_acked, ack_in, look_of}
 use Rattle.mpx_board.specs.Tidy.{is_bare, is_tidy_numbers, are_tidy_numbers, is_tidy_acks, are_tidy_acks, are_tidy_entries, is_tidy_lifted, is_tidy}
 use Rattle.mpx_board.proofs.Entries.{all_empty, bare_gets, entries_get, get_entries}
 use Rattle.mpx_board.proofs.Looking.{ack_join}
@@ -43,7 +43,7 @@ zero_where : (b : Bool) (n : ℕ) → or_zero (cond b (Some n) None) ≡ cond b 
 zero_where true n = refl
 zero_where false n = refl
 
-number_where : (b : Bool) (p : ℕ) (m : OfProcesses ℕ) (c : Bool) (n : ℕ) → or_zero (get m p) ≡ cond c n 0 → number_in p (cond b (Some m) None) ≡ cond (b && c) n 0
+number_where : (b : Bool) (p : ℕ) (m : OfProcesses ℕ) (c : Bool) (n : ℕ) → or_zero (get m p) ≡ cond c n 0 → number_acked p (cond b (Some m) None) ≡ cond (b && c) n 0
 number_where true p m c n e = e
 number_where false p m c n e = refl
 
@@ -62,11 +62,11 @@ module _ (process : ℕ) (name : Name) (member number : ℕ) where
   number_at : (p : ℕ) → or_zero (get numbers p) ≡ cond (p == member) number 0
   number_at p = ap or_zero (one_get nat_cmp_total member p number) ∙ zero_where (eq_by_cmp nat_cmp p member) number ∙ ap (λ b. cond b number 0) (unsigned_tied p member)
 
-  said_at : (n : Name) (p : ℕ) → numbers_of acks n p ≡ cond (same_name n name && (p == member)) number 0
-  said_at n p = ap (number_in p) (one_get name_total name n numbers) ∙ number_where (same_name n name) p numbers (p == member) number (number_at p)
+  said_at : (n : Name) (p : ℕ) → numbers_acked acks n p ≡ cond (same_name n name && (p == member)) number 0
+  said_at n p = ap (number_acked p) (one_get name_total name n numbers) ∙ number_where (same_name n name) p numbers (p == member) number (number_at p)
 
-  pub one_said : (said : AcksView) → said ≡ acks → own_acks process (numbers_of said) ≡ only (Acknowledged process name member number)
-  one_said said is i = record empty { acks = λ q n p. (ap (λ a. cond (q == process) (numbers_of a n p) 0) is ∙ ap (λ m. cond (q == process) m 0) (said_at n p) ∙ both_tests (q == process) (same_name n name && (p == member)) number 0) i }
+  pub one_said : (said : AcksView) → said ≡ acks → own_acks process (numbers_acked said) ≡ only (Acknowledged process name member number)
+  one_said said is i = record empty { acks = λ q n p. (ap (λ a. cond (q == process) (numbers_acked a n p) 0) is ∙ ap (λ m. cond (q == process) m 0) (said_at n p) ∙ both_tests (q == process) (same_name n name && (p == member)) number 0) i }
 
   pub one_tidy : (said : AcksView) → said ≡ acks → 0 < number → are_tidy_numbers said ≡ true
   one_tidy said is some = ap are_tidy_numbers is
@@ -92,7 +92,7 @@ module _ (process : ℕ) (said : AcksView) where
   abbrev part : (q : ℕ) → Option AcksView
   part q = cond (q == process) (Some said) None
 
-  part_at : (b : Bool) (n : Name) (p : ℕ) → ack_in n p (cond b (Some said) None) ≡ cond b (numbers_of said n p) 0
+  part_at : (b : Bool) (n : Name) (p : ℕ) → ack_in n p (cond b (Some said) None) ≡ cond b (numbers_acked said n p) 0
   part_at true n p = refl
   part_at false n p = refl
 
@@ -116,15 +116,15 @@ module _ (process : ℕ) (said : AcksView) where
 
   module _ (a : PartsView) where
     -- no number says nothing
-    pub look_unsaid : is_bare said ≡ true → look_of a ≡ join (look_of a) (own_acks process (numbers_of said))
+    pub look_unsaid : is_bare said ≡ true → look_of a ≡ join (look_of a) (own_acks process (numbers_acked said))
     unfolding look_of
     look_unsaid bare i = record {
       contexts = λ n. nothing_told (get a.0 n) i;
-      acks = λ q n p. nothing_more (q == process) (ack_in n p (get a.1 q)) (numbers_of said n p) (ap (number_in p) (bare_gets name_total name_exact said bare n)) i;
+      acks = λ q n p. nothing_more (q == process) (ack_in n p (get a.1 q)) (numbers_acked said n p) (ap (number_acked p) (bare_gets name_total name_exact said bare n)) i;
     }
 
     module _ (second : OfProcesses AcksView) (new : (q : ℕ) → get second q ≡ option_join acks_joining (get a.1 q) (part q)) where
-      pub look_said : look_of (a.0, second) ≡ join (look_of a) (own_acks process (numbers_of said))
+      pub look_said : look_of (a.0, second) ≡ join (look_of a) (own_acks process (numbers_acked said))
       unfolding look_of
       look_said i = record {
         contexts = λ n. nothing_told (get a.0 n) i;
@@ -164,19 +164,19 @@ replaced_tidy a b s t = both_true (are_tidy_entries a.0) (are_tidy_acks b.1) (fi
 -- MADE BEFORE IT IS STORED
 
 module _ (process : ℕ) (said : AcksView) (raised : Raised) (a : PartsView) (tidy : is_tidy a ≡ true) where
-  pub raises_nothing : view_of_raised raised ≡ Nothing → is_bare said ≡ true → Raises raised (look_of a) (join (look_of a) (own_acks process (numbers_of said)))
+  pub raises_nothing : view_of_raised raised ≡ Nothing → is_bare said ≡ true → Raises raised (look_of a) (join (look_of a) (own_acks process (numbers_acked said)))
   raises_nothing is bare =
       let same : stored (view_of_raised raised) a.1 ≡ a.1 = ap (λ r. stored r a.1) is in
-      record { parts = a; tidy = tidy; made_of = refl; gives = ap (λ m. look_of (a.0, m)) same ∙ look_unsaid process said a bare; neat = ap (λ m. is_tidy (a.0, m)) same ∙ tidy; above = (join_is_least (look_of a) (own_acks process (numbers_of said))).left }
+      record { parts = a; tidy = tidy; made_of = refl; gives = ap (λ m. look_of (a.0, m)) same ∙ look_unsaid process said a bare; neat = ap (λ m. is_tidy (a.0, m)) same ∙ tidy; above = (join_is_least (look_of a) (own_acks process (numbers_acked said))).left }
 
-  pub raises_more : ((q : ℕ) → get (stored (view_of_raised raised) a.1) q ≡ option_join acks_joining (get a.1 q) (part process said q)) → is_bare said ≡ false → are_tidy_numbers said ≡ true → Raises raised (look_of a) (join (look_of a) (own_acks process (numbers_of said)))
+  pub raises_more : ((q : ℕ) → get (stored (view_of_raised raised) a.1) q ≡ option_join acks_joining (get a.1 q) (part process said q)) → is_bare said ≡ false → are_tidy_numbers said ≡ true → Raises raised (look_of a) (join (look_of a) (own_acks process (numbers_acked said)))
   raises_more gets some neat = record {
     parts = a;
     tidy = tidy;
     made_of = refl;
     gives = look_said process said a (stored (view_of_raised raised) a.1) gets;
     neat = said_tidy process said a (stored (view_of_raised raised) a.1) gets tidy some neat;
-    above = (join_is_least (look_of a) (own_acks process (numbers_of said))).left;
+    above = (join_is_least (look_of a) (own_acks process (numbers_acked said))).left;
   }
 
 module _ (raised : Raised) (a : PartsView) (tidy : is_tidy a ≡ true) (new : Look) (r : Raises raised (look_of a) new) where

@@ -1,7 +1,7 @@
 //! What a process says that it has of the others' posts, told on a board.
 ghost use Rattle.std.specs.Prelude.{◌≡◌, IfOk, IsTrue, OnErr, OnOk};
 ghost use Rattle.mpx_board.specs.Boards.{Acknowledged, IsBoardBelow, Look, join, only, own_acks};
-ghost use Rattle.mpx_board.specs.Contexts.{numbers_of};
+ghost use Rattle.mpx_board.specs.Contexts.{numbers_acked};
 ghost use Rattle.mpx_board.specs.Parts.{PartsView};
 ghost use Rattle.mpx_board.specs.Raised.{StoringLeads, Raises};
 ghost use Rattle.mpx_board.specs.Tidy.{are_tidy_numbers};
@@ -47,7 +47,7 @@ impl Board {
         said: &Acks,
     ) -> Result<(), OutOfMemory>
         requires { IsTrue (are_tidy_numbers (view_of_acks said.now)) }
-        ensures ok { OnOk result (look self.new ≡ join (look self.old) (own_acks process (numbers_of (view_of_acks said.now)))) }
+        ensures ok { OnOk result (look self.new ≡ join (look self.old) (own_acks process (numbers_acked (view_of_acks said.now)))) }
         ensures err { OnErr result (look self.new ≡ look self.old) }
     {
         let raised = self.raised(alloc, process, said)?;
@@ -58,7 +58,7 @@ impl Board {
     /// Makes what stands once the process says all these calls too, of which no number is 0: what [`Board::store`] stores.
     pub fn raised(&self, alloc: Global, process: Proc, said: &Acks) -> Result<Raised, OutOfMemory>
         requires { IsTrue (are_tidy_numbers (view_of_acks said.now)) }
-        ensures { IfOk result (λ made. Raises made (look self.now) (join (look self.now) (own_acks process (numbers_of (view_of_acks said.now))))) }
+        ensures { IfOk result (λ made. Raises made (look self.now) (join (look self.now) (own_acks process (numbers_acked (view_of_acks said.now))))) }
     {
         if said.is_empty() {
             return Ok(Raised::Nothing);
@@ -87,7 +87,7 @@ impl Board {
     /// what stood before. An `Err` changes nothing.
     pub fn say(&mut self, alloc: Global, process: Proc, said: &Acks) -> Result<Raised, OutOfMemory>
         requires { IsTrue (are_tidy_numbers (view_of_acks said.now)) }
-        ensures ok { OnOk result (look self.new ≡ join (look self.old) (own_acks process (numbers_of (view_of_acks said.now)))) }
+        ensures ok { OnOk result (look self.new ≡ join (look self.old) (own_acks process (numbers_acked (view_of_acks said.now)))) }
         ensures back { IfOk result (λ before. StoringLeads before (parts_of self.new) (parts_of self.old)) }
         ensures err { OnErr result (look self.new ≡ look self.old) }
     {

@@ -1,6 +1,6 @@
 //! A desk over a node alone, whose user carries the boards.
-ghost use Rattle.std.specs.Prelude.{ℕ, ◌≡◌, ◌≤◌, All, IfOk, IsTrue, OnOk, OnErr, is_ok, map, refl};
-ghost use Rattle.mpx_board.specs.Boards.{IsBoardBelow, join_all};
+ghost use Rattle.std.specs.Prelude.{ℕ, ◌≡◌, ◌≢◌, ◌≤◌, All, IfOk, IsTrue, OnOk, OnErr, is_ok, map, refl};
+ghost use Rattle.mpx_board.specs.Boards.{IsBoardBelow, empty, join_all};
 ghost use Rattle.mpx_board.specs.Changes.{pruned_on};
 ghost use Rattle.mpx_board.specs.Looks.{look, parts_of};
 ghost use Rattle.mpx_format.specs.Decoding.{decoded, shown};
@@ -96,11 +96,12 @@ impl Desk<Node> {
     }
 
     /// Joins the board that the bytes of a frame spell, as [`Node::take_frame`] does; that they spell one is the caller's condition. An
-    /// `Err` leaves what it leaves there.
+    /// `Err` leaves what it leaves there; a frame that tells nothing wants no memory.
     pub fn take_frame(&mut self, alloc: Global, frame: &[u8]) -> Result<(), OutOfMemory>
         requires spelled { IsTrue (is_ok (decoded frame.now)) }
         ensures ok { OnOk result (node_of self.new.host ≡ learn (shown (decoded frame.now)) (node_of self.old.host)) }
         ensures err { OnErr result (StopsTaking (shown (decoded frame.now)) (node_of self.old.host) (node_of self.new.host)) }
+        ensures some { OnErr result (shown (decoded frame.now) ≢ empty) }
         ensures requests { self.new.requests.keys ≡ self.old.requests.keys }
     {
         self.host.take_frame(alloc, frame)

@@ -16,7 +16,7 @@ use Rattle.mpx_name.specs.Order.{name_total, name_exact}
 use Rattle.mpx_post.specs.Posts.{Given}
 use Rattle.mpx_board.specs.Boards.{Fact, Born, Held, Front, Dropped, Dead, Acknowledged, Has}
 use Rattle.mpx_board.specs.Parts.{OfProcesses, CallView, EntryView, LiftedView, AcksView, PartsView}
-use Rattle.mpx_board.specs.Contexts.{or_zero, or_unknown, post_in, or_nothing, number_in, ack_in, look_of}
+use Rattle.mpx_board.specs.Contexts.{or_zero, or_unknown, post_in, or_nothing, number_acked, ack_in, look_of}
 use Rattle.mpx_board.specs.Tidy.{is_unknown, is_bare, all_entries, has_no_zero, are_tidy_posts, is_tidy_call, says_nothing, is_neat_entry, is_tidy_lifted, are_tidy_entries, is_tidy_numbers, is_tidy_acks, are_tidy_acks, is_tidy}
 use Rattle.mpx_board.proofs.Entries.{entries_get}
 use Rattle.mpx_delta.specs.Facts.{SaysPost, SaysCall, SaysHead, SaysEntry, SaysLifted, SaysNumbers, SaysAcks, SaysParts}
@@ -95,7 +95,7 @@ module _ (P : Fact → Type 0) where
     held_said (Some (live e)) said k p v told is = let of : SaysEntry P (name, e) = said (live e) refl in call_said k p (get e.1.1.calls k) (all_get nat_cmp_total nat_cmp-IsAntisymmetric (SaysCall P name) e.1.1.calls of.calls k) v told is
     held_said (Some dead) said k p v told is = absurd (told (sym is))
 
-  numbers_said : (q : ℕ) (name : Name) (o : Option (OfProcesses ℕ)) → ((m : OfProcesses ℕ) → o ≡ Some m → SaysNumbers P q (name, m)) → (p n : ℕ) → 0 < n → number_in p o ≡ n → P (Acknowledged q name p n)
+  numbers_said : (q : ℕ) (name : Name) (o : Option (OfProcesses ℕ)) → ((m : OfProcesses ℕ) → o ≡ Some m → SaysNumbers P q (name, m)) → (p n : ℕ) → 0 < n → number_acked p o ≡ n → P (Acknowledged q name p n)
   numbers_said q name None said p n some is = absurd (omega (arith, is, some))
   numbers_said q name (Some m) said p n some is = number_said (Acknowledged q name p) (get m p) (all_get nat_cmp_total nat_cmp-IsAntisymmetric (λ y. P (Acknowledged q name y.0 y.1)) m (said m refl) p) n some is
 
@@ -164,7 +164,7 @@ module _ (P : Fact → Type 0) (v : PartsView) (tidy : is_tidy v ≡ true) (has 
   say_numbers q a at name m of neat = get_all nat_cmp_total nat_cmp-IsAntisymmetric (λ y. P (Acknowledged q name y.0 y.1)) m (λ p n is.
       has (Acknowledged q name p n) (
         positive n (entries_get nat_cmp_total nat_cmp-IsAntisymmetric (λ p n. nat_lt 0 n) m (second_true (not (is_bare m)) (has_no_zero m) neat) p n is),
-        ap (ack_in name p) at ∙ ap (number_in p) of ∙ ap or_zero is,
+        ap (ack_in name p) at ∙ ap (number_acked p) of ∙ ap or_zero is,
       ))
 
   say_acks : (q : ℕ) (a : AcksView) → get v.1 q ≡ Some a → SaysAcks P (q, a)

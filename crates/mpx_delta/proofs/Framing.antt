@@ -10,7 +10,7 @@ use Rattle.std.proofs.lemmas.List.Elements.{All-weaker}
 use Rattle.mpx_board.specs.declared.acks.Raised.{Raised}
 use Rattle.mpx_board.specs.declared.board.Board.{Board}
 use Rattle.mpx_board.specs.Boards.{IsBoardBelow, Look, join, own_acks}
-use Rattle.mpx_board.specs.Contexts.{look_of, number_in}
+use Rattle.mpx_board.specs.Contexts.{look_of, number_acked}
 use Rattle.mpx_board.specs.Looks.{look, parts_of}
 use Rattle.mpx_board.specs.Parts.{OfNames, AcksView, LiftedView, PartsView}
 use Rattle.mpx_board.specs.Raised.{StoringLeads}
@@ -24,7 +24,7 @@ use Rattle.mpx_format.specs.Contexts.{frame}
 use Rattle.mpx_format.specs.Decoding.{Spells, most_bytes}
 use Rattle.mpx_format.specs.Encoding.{is_too_long, length_told}
 use Rattle.mpx_delta.specs.Facts.{OnlyFactsOf}
-use Rattle.mpx_delta.specs.Digests.{IsDigest, Numbers, common_on, numbers_of, without}
+use Rattle.mpx_delta.specs.Digests.{IsDigest, Numbers, common_on, numbers_acked, without}
 use Rattle.mpx_delta.specs.Keep.{keep}
 use Rattle.mpx_delta.specs.Lacking.{AreFramesOf, AreLacking, AreSpelled}
 use Rattle.mpx_delta.specs.Lean.{lean_context}
@@ -56,11 +56,11 @@ told_length bytes v s not_long = short (is_too_long v) (length (frame.spelling (
   short false n f = refl
 
 -- the lean contexts with the board's own acknowledgements
-pub lean_own : (d : AcksView) (v : PartsView) (first : OfNames LiftedView) → first ≡ keep (lean_context d) v.0 → look_of (first, v.1) ≡ without (numbers_of d) (look_of v)
+pub lean_own : (d : AcksView) (v : PartsView) (first : OfNames LiftedView) → first ≡ keep (lean_context d) v.0 → look_of (first, v.1) ≡ without (numbers_acked d) (look_of v)
 lean_own d v first is = look_replaced (first, v.1) v ∙ lean_said d v first v.1 (look_of v) is
 
 -- without the posts below no number it is the board
-pub nothing_left_out : (d : AcksView) (b : Look) → is_bare d ≡ true → without (numbers_of d) b ≡ b
+pub nothing_left_out : (d : AcksView) (b : Look) → is_bare d ≡ true → without (numbers_acked d) b ≡ b
 nothing_left_out d b bare i = record {
   contexts = λ name. record {
     birth = (b.contexts name).birth;
@@ -74,9 +74,9 @@ nothing_left_out d b bare i = record {
   below_none : (k : ℕ) → nat_lt k 0 ≡ false
   below_none k = grind (arith, nat_tests)
 
-  stays : (name : Name) (k p : ℕ) → cond (nat_lt k (numbers_of d name p)) unknown ((b.contexts name).posts k p) ≡ (b.contexts name).posts k p
+  stays : (name : Name) (k p : ℕ) → cond (nat_lt k (numbers_acked d name p)) unknown ((b.contexts name).posts k p) ≡ (b.contexts name).posts k p
   stays name k p =
-      let none : numbers_of d name p ≡ 0 = ap (number_in p) (bare_gets name_total name_exact d bare name) in
+      let none : numbers_acked d name p ≡ 0 = ap (number_acked p) (bare_gets name_total name_exact d bare name) in
       rw (none, below_none k) refl
 
 -- what leads back from a board leads back from one that is the same

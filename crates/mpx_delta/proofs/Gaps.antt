@@ -21,7 +21,7 @@ use Rattle.mpx_name.specs.Order.{name_cmp, name_total, name_exact}
 use Rattle.mpx_birth.specs.Births.{BirthView}
 use Rattle.mpx_board.specs.Boards.{told}
 use Rattle.mpx_board.specs.Changes.{is_posted}
-use Rattle.mpx_board.specs.Contexts.{or_zero, post_in, context_of, or_nothing, number_in, numbers_of, look_of}
+use Rattle.mpx_board.specs.Contexts.{or_zero, post_in, context_of, or_nothing, number_acked, numbers_acked, look_of}
 use Rattle.mpx_board.specs.Parts.{OfProcesses, CallView, EntryView, LiftedView, PartsView}
 use Rattle.mpx_board.specs.Tidy.{is_unknown, has_no_zero, is_tidy_numbers, are_tidy_numbers}
 use Rattle.mpx_board.proofs.Entries.{all_empty, get_entries}
@@ -177,7 +177,7 @@ module _ (e : EntryView) where
   number_where p true = or_zero_back (digest_number e p)
   number_where p false = refl
 
-  digest_at : (p : ℕ) → number_in p (unless_bare (digest_numbers e)) ≡ cond (nat_lt p 64) (digest_number e p) 0
+  digest_at : (p : ℕ) → number_acked p (unless_bare (digest_numbers e)) ≡ cond (nat_lt p 64) (digest_number e p) 0
   digest_at p = bare_number (digest_numbers e) p ∙ ap or_zero (get_number p) ∙ number_where p (nat_lt p 64)
 
 -- WHO IS LISTED
@@ -264,7 +264,7 @@ lt_true p n lt = grind (arith, nat_tests)
 true_lt : (p n : ℕ) → nat_lt p n ≡ true → p < n
 true_lt p n t = grind (arith, nat_tests)
 
-listed_in : (o : Option LiftedView) (p : ℕ) → p < 64 → IsListed (or_nothing o) p → IsFirstGap (λ k. is_posted (or_nothing o) k p) (number_in p (option_and_then (λ l. unless_bare (digest_lifted l)) o))
+listed_in : (o : Option LiftedView) (p : ℕ) → p < 64 → IsListed (or_nothing o) p → IsFirstGap (λ k. is_posted (or_nothing o) k p) (number_acked p (option_and_then (λ l. unless_bare (digest_lifted l)) o))
 listed_in None p lt (member birth rank is at) = cc is
 listed_in None p lt (posted k some) = absurd (some refl)
 listed_in (Some dead) p lt (member birth rank is at) = cc is
@@ -273,7 +273,7 @@ listed_in (Some (live e)) p lt listed = subst (λ n. IsFirstGap (λ k. is_posted
     (sym (digest_at e p ∙ ap (λ b. cond b (digest_number e p) 0) (lt_true p 64 lt) ∙ ap (λ b. cond b (reach p e.1.1.dropped (entries e.1.1.calls)) 0) (to_listed e p listed)))
     (first_gap p e)
 
-others_in : (o : Option LiftedView) (p : ℕ) → 0 < number_in p (option_and_then (λ l. unless_bare (digest_lifted l)) o) → (p < 64) × IsListed (or_nothing o) p
+others_in : (o : Option LiftedView) (p : ℕ) → 0 < number_acked p (option_and_then (λ l. unless_bare (digest_lifted l)) o) → (p < 64) × IsListed (or_nothing o) p
 others_in None p more = absurd (omega (arith, more))
 others_in (Some dead) p more =
     let none : 0 < 0 = subst (λ n. 0 < n) (bare_number no_entry p ∙ ap or_zero (get-empty nat_cmp p)) more in
@@ -293,11 +293,11 @@ others_in (Some (live e)) p more =
 get_digest : (v : PartsView) (name : Name) → get (digest_parts v) name ≡ option_and_then (λ l. unless_bare (digest_lifted l)) (get v.0 name)
 get_digest v name = get_keep name_cmp (λ name l. unless_bare (digest_lifted l)) name_total name_exact v.0 name
 
-pub digest_is : (v : PartsView) → IsDigest (numbers_of (digest_parts v)) (look_of v)
+pub digest_is : (v : PartsView) → IsDigest (numbers_acked (digest_parts v)) (look_of v)
 unfolding look_of
 digest_is v = record {
-  listed = λ name p lt listed. subst (λ n. IsFirstGap (λ k. is_posted (or_nothing (get v.0 name)) k p) n) (sym (ap (number_in p) (get_digest v name))) (listed_in (get v.0 name) p lt listed);
-  others = λ name p more. others_in (get v.0 name) p (subst (λ n. 0 < n) (ap (number_in p) (get_digest v name)) more);
+  listed = λ name p lt listed. subst (λ n. IsFirstGap (λ k. is_posted (or_nothing (get v.0 name)) k p) n) (sym (ap (number_acked p) (get_digest v name))) (listed_in (get v.0 name) p lt listed);
+  others = λ name p more. others_in (get v.0 name) p (subst (λ n. 0 < n) (ap (number_acked p) (get_digest v name)) more);
 }
 
 -- no number is 0

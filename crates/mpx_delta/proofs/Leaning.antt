@@ -18,13 +18,13 @@ use Rattle.mpx_name.specs.Name.{Name}
 use Rattle.mpx_name.specs.Order.{name_cmp, name_total, name_exact}
 use Rattle.mpx_post.specs.Posts.{Given}
 use Rattle.mpx_board.specs.Boards.{Look, nothing, gone, Fact, Born, Held, Front, Dropped, Dead, Acknowledged, Has}
-use Rattle.mpx_board.specs.Contexts.{or_zero, or_unknown, post_in, context_of, or_nothing, number_in, look_of}
+use Rattle.mpx_board.specs.Contexts.{or_zero, or_unknown, post_in, context_of, or_nothing, number_acked, look_of}
 use Rattle.mpx_post.specs.Drafts.{most_calls}
 use Rattle.mpx_board.specs.Parts.{OfNames, OfProcesses, CallView, EntryView, LiftedView, AcksView, PartsView}
 use Rattle.mpx_board.specs.Tidy.{is_bare, is_unknown, all_entries, has_no_zero, are_tidy_posts, is_tidy_call, says_nothing, is_silent, is_neat_entry, is_tidy_lifted, are_tidy_entries, is_tidy_acks, are_tidy_acks, is_tidy}
 use Rattle.mpx_board.proofs.Entries.{all_empty, bare_gets, entries_get, get_entries}
 use Rattle.mpx_delta.specs.Keep.{kept, keep, unless_bare}
-use Rattle.mpx_delta.specs.Digests.{Numbers, number_at, numbers_of, without, without_posts}
+use Rattle.mpx_delta.specs.Digests.{Numbers, number_at, numbers_acked, without, without_posts}
 use Rattle.mpx_delta.specs.Lean.{lean_post, lean_call, lean_calls, lean_entry, unless_silent, lean_context}
 use Rattle.mpx_delta.proofs.Kept.{get_keep}
 
@@ -108,13 +108,13 @@ silent e = elim (answer (says_nothing e)) [
 ]
 
 module _ (d : AcksView) where
-  one_context : (name : Name) (o : Option LiftedView) → or_nothing (option_and_then (lean_context d name) o) ≡ without_posts (numbers_of d name) (or_nothing o)
-  one_context name None = nothing_is (numbers_of d name)
-  one_context name (Some (live e)) = silent (lean_entry (numbers_of d name) e) ∙ lean_is (numbers_of d name) e
-  one_context name (Some dead) = gone_is (numbers_of d name)
+  one_context : (name : Name) (o : Option LiftedView) → or_nothing (option_and_then (lean_context d name) o) ≡ without_posts (numbers_acked d name) (or_nothing o)
+  one_context name None = nothing_is (numbers_acked d name)
+  one_context name (Some (live e)) = silent (lean_entry (numbers_acked d name) e) ∙ lean_is (numbers_acked d name) e
+  one_context name (Some dead) = gone_is (numbers_acked d name)
 
   -- with the acknowledgements of another
-  pub lean_said : (v : PartsView) (first : OfNames LiftedView) (none : OfProcesses AcksView) (said : Look) → first ≡ keep (lean_context d) v.0 → record (look_of (first, none)) { acks = said.acks } ≡ without (numbers_of d) (record (look_of v) { acks = said.acks })
+  pub lean_said : (v : PartsView) (first : OfNames LiftedView) (none : OfProcesses AcksView) (said : Look) → first ≡ keep (lean_context d) v.0 → record (look_of (first, none)) { acks = said.acks } ≡ without (numbers_acked d) (record (look_of v) { acks = said.acks })
   unfolding look_of
   lean_said v first none said is i = record {
     contexts = λ name. (ap (λ m. or_nothing (get m name)) is ∙ ap or_nothing (get_keep name_cmp (lean_context d) name_total name_exact v.0 name) ∙ one_context name (get v.0 name)) i;
@@ -158,14 +158,14 @@ module _ (d : AcksView) where
   lifted_tidy name (Some dead) l h tidy = subst (λ y. is_tidy_lifted y ≡ true) (same_Some dead l h) refl
   lifted_tidy name (Some (live x)) l h tidy =
       let neat : is_neat_entry x ≡ true = second_true (not (says_nothing x)) (is_neat_entry x) (tidy (live x) refl) in
-      let lean : EntryView = lean_entry (numbers_of d name) x in
+      let lean : EntryView = lean_entry (numbers_acked d name) x in
       elim (answer (says_nothing lean)) [
         | yes t ↦ let none : None ≡ Some l = sym (ap (λ b. cond b None (Some (live lean))) t) ∙ h in cc
         | no f ↦
             let same : Some (live lean) ≡ Some l = sym (ap (λ b. cond b None (Some (live lean))) f) ∙ h in
             subst (λ y. is_tidy_lifted y ≡ true) (same_Some (live lean) l same)
             (both_true (not (says_nothing lean)) (is_neat_entry lean) (ap not f)
-            (both_true (has_no_zero x.1.0) (all_entries is_tidy_call lean.1.1.calls) (first_true (has_no_zero x.1.0) (all_entries is_tidy_call x.1.1.calls) neat) (calls_tidy (numbers_of d name) x.1.1 (second_true (has_no_zero x.1.0) (all_entries is_tidy_call x.1.1.calls) neat))))
+            (both_true (has_no_zero x.1.0) (all_entries is_tidy_call lean.1.1.calls) (first_true (has_no_zero x.1.0) (all_entries is_tidy_call x.1.1.calls) neat) (calls_tidy (numbers_acked d name) x.1.1 (second_true (has_no_zero x.1.0) (all_entries is_tidy_call x.1.1.calls) neat))))
       ]
 
   pub lean_tidy : (v : PartsView) (first : OfNames LiftedView) (none : OfProcesses AcksView) → is_tidy v ≡ true → first ≡ keep (lean_context d) v.0 → none ≡ no_entry → is_tidy (first, none) ≡ true
@@ -247,8 +247,8 @@ bare_none made lean is b told h = ap unless_bare (sym is) ∙ ap (λ x. cond x N
 
 -- THE NUMBERS OF ONE CONTEXT
 
-pub none_numbers : (d : AcksView) (name : Name) (m : OfProcesses ℕ) → get d name ≡ None → m ≡ no_entry → number_at m ≡ numbers_of d name
-none_numbers d name m none is i p = (ap (λ x. or_zero (get x p)) is ∙ ap or_zero (get-empty nat_cmp p) ∙ sym (ap (number_in p) none)) i
+pub none_numbers : (d : AcksView) (name : Name) (m : OfProcesses ℕ) → get d name ≡ None → m ≡ no_entry → number_at m ≡ numbers_acked d name
+none_numbers d name m none is i p = (ap (λ x. or_zero (get x p)) is ∙ ap or_zero (get-empty nat_cmp p) ∙ sym (ap (number_acked p) none)) i
 
-pub some_numbers : (d : AcksView) (name : Name) (m : OfProcesses ℕ) → get d name ≡ Some m → number_at m ≡ numbers_of d name
-some_numbers d name m some i p = sym (ap (number_in p) some) i
+pub some_numbers : (d : AcksView) (name : Name) (m : OfProcesses ℕ) → get d name ≡ Some m → number_at m ≡ numbers_acked d name
+some_numbers d name m some i p = sym (ap (number_acked p) some) i

@@ -13,7 +13,7 @@ use Rattle.mpx_name.specs.Name.{Name}
 use Rattle.mpx_name.specs.Order.{name_cmp, name_total, name_exact}
 use Rattle.mpx_birth.specs.Orders.{upto}
 use Rattle.mpx_board.specs.Boards.{Look, minimum}
-use Rattle.mpx_board.specs.Contexts.{or_zero, number_in, ack_in, look_of}
+use Rattle.mpx_board.specs.Contexts.{or_zero, number_acked, ack_in, look_of}
 use Rattle.join_core.specs.Max.{max_joining}
 use Rattle.join_nest.specs.Optional.{option_leq}
 use Rattle.join_nest.specs.KeyedLaws.{leq_gets}
@@ -21,14 +21,14 @@ use Rattle.mpx_board.specs.Parts.{OfProcesses, AcksView, PartsView, acks_joining
 use Rattle.mpx_board.specs.Tidy.{is_bare, has_no_zero, is_tidy_numbers, are_tidy_numbers, is_tidy_acks, are_tidy_acks, are_tidy_entries, is_tidy}
 use Rattle.mpx_board.proofs.Entries.{all_empty, bare_gets, entries_get, get_entries}
 use Rattle.mpx_delta.specs.Keep.{keep, unless_bare}
-use Rattle.mpx_delta.specs.Digests.{common_on, number_at, numbers_of}
+use Rattle.mpx_delta.specs.Digests.{common_on, number_at, numbers_acked}
 use Rattle.mpx_delta.specs.Least.{least, least_context, least_number, least_numbers}
 use Rattle.mpx_delta.proofs.Kept.{get_keep}
 
-pub bare_number : (m : OfProcesses ℕ) (p : ℕ) → number_in p (unless_bare m) ≡ number_at m p
+pub bare_number : (m : OfProcesses ℕ) (p : ℕ) → number_acked p (unless_bare m) ≡ number_at m p
 bare_number m p = elim (answer (is_bare m)) [
-  | yes t ↦ ap (λ b. number_in p (cond b None (Some m))) t ∙ ap or_zero (sym (bare_gets nat_cmp_total nat_cmp-IsAntisymmetric m t p))
-  | no f ↦ ap (λ b. number_in p (cond b None (Some m))) f
+  | yes t ↦ ap (λ b. number_acked p (cond b None (Some m))) t ∙ ap or_zero (sym (bare_gets nat_cmp_total nat_cmp-IsAntisymmetric m t p))
+  | no f ↦ ap (λ b. number_acked p (cond b None (Some m))) f
 ]
 
 lesser : (x y : Option ℕ) → or_zero (option_and_then (λ n. option_map (min n) y) x) ≡ min (or_zero x) (or_zero y)
@@ -42,16 +42,16 @@ zero_right n = omega arith
 zero_left : (n : ℕ) → 0 ≡ min 0 n
 zero_left n = omega arith
 
-lesser_numbers : (m : OfProcesses ℕ) (o : Option (OfProcesses ℕ)) (p : ℕ) → number_at (least_numbers m o) p ≡ min (number_at m p) (number_in p o)
+lesser_numbers : (m : OfProcesses ℕ) (o : Option (OfProcesses ℕ)) (p : ℕ) → number_at (least_numbers m o) p ≡ min (number_at m p) (number_acked p o)
 lesser_numbers m None p = ap or_zero (get-empty nat_cmp p) ∙ zero_right (number_at m p)
 lesser_numbers m (Some n) p = ap or_zero (get_keep nat_cmp (least_number n) nat_cmp_total nat_cmp-IsAntisymmetric m p) ∙ lesser (get m p) (get n p)
 
-lesser_context : (others : AcksView) (name : Name) (p : ℕ) (o : Option (OfProcesses ℕ)) → number_in p (option_and_then (least_context others name) o) ≡ min (number_in p o) (numbers_of others name p)
-lesser_context others name p None = zero_left (numbers_of others name p)
+lesser_context : (others : AcksView) (name : Name) (p : ℕ) (o : Option (OfProcesses ℕ)) → number_acked p (option_and_then (least_context others name) o) ≡ min (number_acked p o) (numbers_acked others name p)
+lesser_context others name p None = zero_left (numbers_acked others name p)
 lesser_context others name p (Some m) = bare_number (least_numbers m (get others name)) p ∙ lesser_numbers m (get others name) p
 
-pub least_at : (d others : AcksView) (name : Name) (p : ℕ) → numbers_of (least d others) name p ≡ min (numbers_of d name p) (numbers_of others name p)
-least_at d others name p = ap (number_in p) (get_keep name_cmp (least_context others) name_total name_exact d name) ∙ lesser_context others name p (get d name)
+pub least_at : (d others : AcksView) (name : Name) (p : ℕ) → numbers_acked (least d others) name p ≡ min (numbers_acked d name p) (numbers_acked others name p)
+least_at d others name p = ap (number_acked p) (get_keep name_cmp (least_context others) name_total name_exact d name) ∙ lesser_context others name p (get d name)
 
 -- NUMBERS BELOW OTHERS
 
@@ -62,13 +62,13 @@ number_below (Some n) (Some m) h = le n m h where
   le : (n m : ℕ) → nat_le n m ≡ true → n ≤ m
   le n m h = grind (arith, nat_tests)
 
-numbers_below : (p : ℕ) (x y : Option (OfProcesses ℕ)) → option_leq numbers_joining x y ≡ true → number_in p x ≤ number_in p y
+numbers_below : (p : ℕ) (x y : Option (OfProcesses ℕ)) → option_leq numbers_joining x y ≡ true → number_acked p x ≤ number_acked p y
 numbers_below p None y h = omega arith
 numbers_below p (Some m) None h = cc
 numbers_below p (Some m) (Some n) h = number_below (get m p) (get n p) (leq_gets nat_cmp_total max_joining m n h p)
 
 -- these are the least where they are below the others
-pub least_below : (d others : AcksView) → acks_joining.leq d others ≡ true → (name : Name) (p : ℕ) → numbers_of d name p ≡ min (numbers_of d name p) (numbers_of others name p)
+pub least_below : (d others : AcksView) → acks_joining.leq d others ≡ true → (name : Name) (p : ℕ) → numbers_acked d name p ≡ min (numbers_acked d name p) (numbers_acked others name p)
 least_below d others h name p = omega (arith, numbers_below p (get d name) (get others name) (leq_gets name_total numbers_joining d others h name))
 
 -- ACKNOWLEDGEMENTS
@@ -80,11 +80,11 @@ acks_at v q name p = refl
 pub acks_none : (v : PartsView) (q : ℕ) → get v.1 q ≡ None → (name : Name) (p : ℕ) → 0 ≡ (look_of v).acks q name p
 acks_none v q none name p = sym (ap (ack_in name p) none) ∙ acks_at v q name p
 
-pub acks_some : (v : PartsView) (q : ℕ) (a : AcksView) → get v.1 q ≡ Some a → (name : Name) (p : ℕ) → numbers_of a name p ≡ (look_of v).acks q name p
+pub acks_some : (v : PartsView) (q : ℕ) (a : AcksView) → get v.1 q ≡ Some a → (name : Name) (p : ℕ) → numbers_acked a name p ≡ (look_of v).acks q name p
 acks_some v q a some name p = sym (ap (ack_in name p) some) ∙ acks_at v q name p
 
-pub no_numbers : (d : AcksView) → d ≡ no_entry → (name : Name) (p : ℕ) → numbers_of d name p ≡ 0
-no_numbers d is name p = ap (λ x. number_in p (get x name)) is ∙ ap (number_in p) (get-empty name_cmp name)
+pub no_numbers : (d : AcksView) → d ≡ no_entry → (name : Name) (p : ℕ) → numbers_acked d name p ≡ 0
+no_numbers d is name p = ap (λ x. number_acked p (get x name)) is ∙ ap (number_acked p) (get-empty name_cmp name)
 
 -- THE LEAST OF ALL
 
@@ -139,8 +139,8 @@ common_none n (suc m) b name p some le none = elim (answer (nat_lt m n)) [
   one : (m : ℕ) → suc m ≡ m + 1
   one m = omega arith
 
-pub bare_numbers : (d : AcksView) → is_bare d ≡ true → (name : Name) (p : ℕ) → numbers_of d name p ≡ 0
-bare_numbers d bare name p = ap (number_in p) (bare_gets name_total name_exact d bare name)
+pub bare_numbers : (d : AcksView) → is_bare d ≡ true → (name : Name) (p : ℕ) → numbers_acked d name p ≡ 0
+bare_numbers d bare name p = ap (number_acked p) (bare_gets name_total name_exact d bare name)
 
 -- NO NUMBER IS 0
 

@@ -14,11 +14,11 @@ use Rattle.join_nest.specs.Lift.{live, dead}
 use Rattle.mpx_name.specs.Name.{Name}
 use Rattle.mpx_name.specs.Order.{name_cmp, name_total, name_exact}
 use Rattle.mpx_post.specs.Posts.{Given}
-use Rattle.mpx_board.specs.Contexts.{ack_in, context_of, look_of, number_in, or_nothing, or_zero, post_in}
+use Rattle.mpx_board.specs.Contexts.{ack_in, context_of, look_of, number_acked, or_nothing, or_zero, post_in}
 use Rattle.mpx_board.specs.Parts.{AcksView, CallView, EntryView, LiftedView, OfProcesses, PartsView}
 use Rattle.mpx_board.specs.Tidy.{is_bare}
 use Rattle.mpx_board.proofs.Entries.{bare_gets}
-use Rattle.mpx_delta.specs.Digests.{common_on, number_at, numbers_of, without, without_posts}
+use Rattle.mpx_delta.specs.Digests.{common_on, number_at, numbers_acked, without, without_posts}
 use Rattle.mpx_delta.specs.Keep.{keep}
 use Rattle.mpx_delta.specs.Posted.{above, if_above, least_above, least_context, least_from, least_posted, lesser, said_on}
 use Rattle.mpx_delta.proofs.Kept.{get_keep}
@@ -81,14 +81,14 @@ not_above call n le = ap (λ b. cond b (Some n) None) (not_lower call n le)
 
 -- THE LEAST OF ALL
 
-above_at : (call : ℕ) (o : Option (OfProcesses ℕ)) (p : ℕ) → number_at (above call o) p ≡ over call (number_in p o)
+above_at : (call : ℕ) (o : Option (OfProcesses ℕ)) (p : ℕ) → number_at (above call o) p ≡ over call (number_acked p o)
 above_at call None p = ap or_zero (get-empty nat_cmp p) ∙ sym (over_zero call)
 above_at call (Some m) p = ap or_zero (get_keep nat_cmp (λ p n. if_above call n) nat_cmp_total nat_cmp-IsAntisymmetric m p) ∙ each (get m p) where
   each : (o : Option ℕ) → or_zero (option_and_then (λ n. if_above call n) o) ≡ over call (or_zero o)
   each None = sym (over_zero call)
   each (Some n) = or_above call n
 
-lesser_at : (call : ℕ) (m : OfProcesses ℕ) (o : Option (OfProcesses ℕ)) (p : ℕ) → number_at (lesser call m o) p ≡ over call (min (number_at m p) (number_in p o))
+lesser_at : (call : ℕ) (m : OfProcesses ℕ) (o : Option (OfProcesses ℕ)) (p : ℕ) → number_at (lesser call m o) p ≡ over call (min (number_at m p) (number_acked p o))
 lesser_at call m None p = ap or_zero (get-empty nat_cmp p) ∙ sym (over_zero call) ∙ ap (over call) (least_zero (number_at m p))
 lesser_at call m (Some others) p = ap or_zero (get_keep nat_cmp (λ p n. if_above call (min n (number_at others p))) nat_cmp_total nat_cmp-IsAntisymmetric m p) ∙ each (get m p) where
   each : (o : Option ℕ) → or_zero (option_and_then (λ n. if_above call (min n (number_at others p))) o) ≡ over call (min (or_zero o) (number_at others p))
@@ -96,10 +96,10 @@ lesser_at call m (Some others) p = ap or_zero (get_keep nat_cmp (λ p n. if_abov
   each (Some n) = or_above call (min n (number_at others p))
 
 module _ (w : PartsView) (name : Name) where
-  said_at : (q p : ℕ) → number_in p (said_on w.1 name q) ≡ (look_of w).acks q name p
+  said_at : (q p : ℕ) → number_acked p (said_on w.1 name q) ≡ (look_of w).acks q name p
   unfolding look_of
   said_at q p = each (get w.1 q) where
-    each : (o : Option AcksView) → number_in p (option_and_then (λ acks. get acks name) o) ≡ ack_in name p o
+    each : (o : Option AcksView) → number_acked p (option_and_then (λ acks. get acks name) o) ≡ ack_in name p o
     each None = refl
     each (Some acks) = refl
 
@@ -110,7 +110,7 @@ module _ (w : PartsView) (name : Name) where
   least_above_at call zero p = above_at call (said_on w.1 name 0) p ∙ ap (over call) (said_at 0 p ∙ sym (first_common p))
   least_above_at call (suc n) p =
       lesser_at call (least_above w.1 name call n) (said_on w.1 name (suc n)) p
-      ∙ ap (λ x. over call (min x (number_in p (said_on w.1 name (suc n))))) (least_above_at call n p)
+      ∙ ap (λ x. over call (min x (number_acked p (said_on w.1 name (suc n))))) (least_above_at call n p)
       ∙ ap (λ y. over call (min (over call (common_on (suc n) (look_of w) name p)) y)) (said_at (suc n) p)
       ∙ over_min call (common_on (suc n) (look_of w) name p) ((look_of w).acks (suc n) name p)
       ∙ ap (over call) (sym (common_more (suc n) (look_of w) name p (omega arith)) ∙ ap (λ k. common_on k (look_of w) name p) (one (suc n))) where
@@ -149,7 +149,7 @@ module _ (w : PartsView) (name : Name) where
       ]
 
   live_post : (more : ℕ) (e : EntryView) (k p : ℕ)
-      → cond (nat_lt k (number_in p (least_context w.1 more name (live e)))) unknown (post_in p (get e.1.1.calls k)) ≡ cond (nat_lt k (common_on (suc more) (look_of w) name p)) unknown (post_in p (get e.1.1.calls k))
+      → cond (nat_lt k (number_acked p (least_context w.1 more name (live e)))) unknown (post_in p (get e.1.1.calls k)) ≡ cond (nat_lt k (common_on (suc more) (look_of w) name p)) unknown (post_in p (get e.1.1.calls k))
   live_post more e k p =
       let at = get-entries e.1.1.calls k in
       let mine = number_at (least_posted w.1 more name (live e)) p in
@@ -159,16 +159,16 @@ module _ (w : PartsView) (name : Name) where
       ∙ same_post more p k (entries e.1.1.calls) (entries_sorted e.1.1.calls)
       ∙ sym (ap (λ o. cond (nat_lt k least) unknown (post_in p o)) at)
 
-  one_context : (more : ℕ) (o : Option LiftedView) → without_posts (λ p. number_in p (option_and_then (least_context w.1 more name) o)) (or_nothing o) ≡ without_posts (common_on (suc more) (look_of w) name) (or_nothing o)
-  one_context more None i = record { birth = unknown; fronts = λ p. 0; dropped = 0; posts = λ k p. both_unknown (nat_lt k (number_in p None)) (nat_lt k (common_on (suc more) (look_of w) name p)) i; dead = false }
-  one_context more (Some dead) i = record { birth = unknown; fronts = λ p. 0; dropped = 0; posts = λ k p. both_unknown (nat_lt k (number_in p (least_context w.1 more name dead))) (nat_lt k (common_on (suc more) (look_of w) name p)) i; dead = true }
+  one_context : (more : ℕ) (o : Option LiftedView) → without_posts (λ p. number_acked p (option_and_then (least_context w.1 more name) o)) (or_nothing o) ≡ without_posts (common_on (suc more) (look_of w) name) (or_nothing o)
+  one_context more None i = record { birth = unknown; fronts = λ p. 0; dropped = 0; posts = λ k p. both_unknown (nat_lt k (number_acked p None)) (nat_lt k (common_on (suc more) (look_of w) name p)) i; dead = false }
+  one_context more (Some dead) i = record { birth = unknown; fronts = λ p. 0; dropped = 0; posts = λ k p. both_unknown (nat_lt k (number_acked p (least_context w.1 more name dead))) (nat_lt k (common_on (suc more) (look_of w) name p)) i; dead = true }
   one_context more (Some (live e)) i = record { birth = e.0; fronts = (context_of e).fronts; dropped = e.1.1.dropped; posts = λ k p. live_post more e k p i; dead = false }
 
 -- of two boards, whose posts and whose acknowledgements count
-pub posted_without : (v w : PartsView) (more : ℕ) → without (numbers_of (keep (least_context w.1 more) v.0)) (look_of v) ≡ without (common_on (suc more) (look_of w)) (look_of v)
+pub posted_without : (v w : PartsView) (more : ℕ) → without (numbers_acked (keep (least_context w.1 more) v.0)) (look_of v) ≡ without (common_on (suc more) (look_of w)) (look_of v)
 unfolding look_of
 posted_without v w more i = record {
-  contexts = λ name. (ap (λ o. without_posts (λ p. number_in p o) (or_nothing (get v.0 name))) (get_keep name_cmp (least_context w.1 more) name_total name_exact v.0 name) ∙ one_context w name more (get v.0 name)) i;
+  contexts = λ name. (ap (λ o. without_posts (λ p. number_acked p o) (or_nothing (get v.0 name))) (get_keep name_cmp (least_context w.1 more) name_total name_exact v.0 name) ∙ one_context w name more (get v.0 name)) i;
   acks = (look_of v).acks;
 }
 

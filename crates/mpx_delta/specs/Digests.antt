@@ -8,7 +8,7 @@ use Rattle.mpx_birth.specs.Births.{BirthView, upto}
 pub use Rattle.mpx_board.specs.Boards.{Numbers}
 use Rattle.mpx_board.specs.Boards.{Context, Look, Held, Has, Stands, join, minimum, own_acks}
 use Rattle.mpx_board.specs.Changes.{is_posted}
-pub use Rattle.mpx_board.specs.Contexts.{numbers_of}
+pub use Rattle.mpx_board.specs.Contexts.{numbers_acked}
 use Rattle.mpx_board.specs.Contexts.{or_zero}
 use Rattle.mpx_board.specs.Parts.{OfProcesses}
 

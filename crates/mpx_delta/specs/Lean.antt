@@ -8,7 +8,7 @@ use Rattle.mpx_post.specs.Posts.{Given}
 use Rattle.mpx_board.specs.Parts.{AcksView, CallView, EntryView, LiftedView}
 use Rattle.mpx_board.specs.Tidy.{is_silent}
 use Rattle.mpx_delta.specs.Keep.{keep, unless_bare}
-use Rattle.mpx_delta.specs.Digests.{numbers_of}
+use Rattle.mpx_delta.specs.Digests.{numbers_acked}
 
 -- a post of call k at or above its process's number
 abbrev pub lean_post : (ℕ → ℕ) → (k p : ℕ) → FlatView Given → Option (FlatView Given)
@@ -33,4 +33,4 @@ abbrev pub unless_silent : LiftedView → Option LiftedView
 unless_silent l = cond (is_silent l) None (Some l)
 
 abbrev pub lean_context : AcksView → Name → LiftedView → Option LiftedView
-lean_context d name l = unless_silent (lean_lifted (numbers_of d name) l)
+lean_context d name l = unless_silent (lean_lifted (numbers_acked d name) l)

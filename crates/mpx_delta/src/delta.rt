@@ -6,7 +6,7 @@ ghost use Rattle.mpx_board.specs.Views.{view_of_acks, view_of_call, view_of_call
 ghost use Rattle.mpx_format.specs.Encoding.{length_told};
 ghost use Rattle.mpx_delta.specs.Facts.{OnlyFactsOf};
 ghost use Rattle.mpx_delta.specs.Pieces.{NoNeighboursFit};
-ghost use Rattle.mpx_delta.specs.Digests.{Covers, number_at, numbers_of, without};
+ghost use Rattle.mpx_delta.specs.Digests.{Covers, number_at, numbers_acked, without};
 ghost use Rattle.mpx_delta.specs.Keep.{keep};
 ghost use Rattle.mpx_delta.specs.Lean.{lean_call, lean_calls, lean_context, lean_entry, lean_lifted, lean_post};
 
@@ -31,8 +31,8 @@ pub fn delta_for(
     requires most { limit ≤ 1048576 }
     ensures facts { IfOk result (λ made. All (λ part. OnlyFactsOf (look part) (look board.now)) made.items) }
     ensures fit { IfOk result (λ made. All (λ part. length_told (parts_of part) ≤ limit) made.items) }
-    ensures join { IfOk result (λ made. join_all (map look made.items) ≡ without (numbers_of (view_of_acks digest.now)) (look board.now)) }
-    ensures serves { IfOk result (λ made. (b : Look) → Covers (numbers_of (view_of_acks digest.now)) b (look board.now)
+    ensures join { IfOk result (λ made. join_all (map look made.items) ≡ without (numbers_acked (view_of_acks digest.now)) (look board.now)) }
+    ensures serves { IfOk result (λ made. (b : Look) → Covers (numbers_acked (view_of_acks digest.now)) b (look board.now)
         → join b (join_all (map look made.items)) ≡ join (look board.now) b) }
     ensures few { IfOk result (λ made. NoNeighboursFit limit made.items) }
 {
@@ -48,7 +48,7 @@ pub fn lean_board(
     said: Board,
     digest: &Acks,
 ) -> Result<Board, OutOfMemory>
-    ensures { IfOk result (λ made. look made ≡ without (numbers_of (view_of_acks digest.now)) (record (look board.now) { acks = (look said).acks })) }
+    ensures { IfOk result (λ made. look made ≡ without (numbers_acked (view_of_acks digest.now)) (record (look board.now) { acks = (look said).acks })) }
 {
     match lean_contexts(alloc, &board.pair().first, digest) {
         Ok(first) => {
@@ -88,7 +88,7 @@ fn lean_lifted(
     known: &Lifted,
     digest: &Acks,
 ) -> Result<Lifted, OutOfMemory>
-    ensures { IfOk result (λ made. view_of_lifted made ≡ lean_lifted (numbers_of (view_of_acks digest.now) name.now) (view_of_lifted known.now)) }
+    ensures { IfOk result (λ made. view_of_lifted made ≡ lean_lifted (numbers_acked (view_of_acks digest.now) name.now) (view_of_lifted known.now)) }
 {
     match known {
         Lift::Live(entry) => Ok(Lift::Live(lean_context(alloc, name, entry, digest)?)),
@@ -103,7 +103,7 @@ fn lean_context(
     entry: &Entry,
     digest: &Acks,
 ) -> Result<Entry, OutOfMemory>
-    ensures { IfOk result (λ made. view_of_entry made ≡ lean_entry (numbers_of (view_of_acks digest.now) name.now) (view_of_entry entry.now)) }
+    ensures { IfOk result (λ made. view_of_entry made ≡ lean_entry (numbers_acked (view_of_acks digest.now) name.now) (view_of_entry entry.now)) }
 {
     match digest.get(name) {
         None => lean_entry(alloc, entry, &Keyed::new(alloc)),

@@ -8,7 +8,7 @@ ghost use Rattle.mpx_board.specs.Tidy.{all_entries, are_tidy_numbers, is_tidy_ca
 ghost use Rattle.mpx_board.specs.Views.{view_of_acks, view_of_call, view_of_calls, view_of_entry, view_of_lifted, view_of_numbers};
 ghost use Rattle.mpx_group.specs.Group.{has};
 ghost use Rattle.mpx_post.specs.Drafts.{most_calls};
-ghost use Rattle.mpx_delta.specs.Digests.{IsDigest, numbers_of};
+ghost use Rattle.mpx_delta.specs.Digests.{IsDigest, numbers_acked};
 ghost use Rattle.mpx_delta.specs.Reach.{AreMarks, digest_lifted, digest_numbers, has_posted, is_member_of, is_told_of, next_number, reach};
 
 use join_core::{Exact, Flat, Max, OutOfMemory};
@@ -22,7 +22,7 @@ use std::alloc::Global;
 /// For each live context, and each process that is a member or has a post there, how many of its calls are told or dropped,
 /// in order up to the first gap. Dead contexts are left out. An `Err` is want of memory.
 pub fn digest_of(alloc: Global, board: &Board) -> Result<Acks, OutOfMemory>
-    ensures digest { IfOk result (λ made. IsDigest (numbers_of (view_of_acks made)) (look board.now)) }
+    ensures digest { IfOk result (λ made. IsDigest (numbers_acked (view_of_acks made)) (look board.now)) }
     ensures tidy { IfOk result (λ made. IsTrue (are_tidy_numbers (view_of_acks made))) }
 {
     let mut made = Vec::new(alloc);

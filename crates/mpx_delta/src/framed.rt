@@ -6,7 +6,7 @@ ghost use Rattle.mpx_board.specs.Views.{view_of_acks};
 ghost use Rattle.mpx_format.specs.declared.versions.Version.TheVariants.{Two};
 ghost use Rattle.mpx_format.specs.Decoding.{Spells};
 ghost use Rattle.mpx_format.specs.Encoding.{length_told};
-ghost use Rattle.mpx_delta.specs.Digests.{common_on, numbers_of, without};
+ghost use Rattle.mpx_delta.specs.Digests.{common_on, numbers_acked, without};
 ghost use Rattle.mpx_delta.specs.Lacking.{AreFramesOf, AreLacking, AreSpelled};
 
 use crate::delta::lean_contexts;
@@ -88,7 +88,7 @@ fn lean_frames(
 
 // The contexts of the board without the posts below these numbers, and nothing that anyone says.
 fn lean_of(alloc: Global, board: &Board, shared: &Acks) -> Result<Board, OutOfMemory>
-    ensures { IfOk result (λ made. look_of ((parts_of made).0, (parts_of board.now).1) ≡ without (numbers_of (view_of_acks shared.now)) (look board.now)) }
+    ensures { IfOk result (λ made. look_of ((parts_of made).0, (parts_of board.now).1) ≡ without (numbers_acked (view_of_acks shared.now)) (look board.now)) }
 {
     let first = lean_contexts(alloc, &board.pair().first, shared)?;
     let second = Keyed::new(alloc);

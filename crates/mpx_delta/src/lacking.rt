@@ -7,7 +7,7 @@ ghost use Rattle.mpx_board.specs.Views.{view_of_acks};
 ghost use Rattle.mpx_format.specs.Encoding.{length_told};
 ghost use Rattle.mpx_delta.specs.Facts.{OnlyFactsOf};
 ghost use Rattle.mpx_delta.specs.Pieces.{NoNeighboursFit};
-ghost use Rattle.mpx_delta.specs.Digests.{Acknowledges, common_on, numbers_of, without};
+ghost use Rattle.mpx_delta.specs.Digests.{Acknowledges, common_on, numbers_acked, without};
 ghost use Rattle.mpx_delta.specs.Lacking.{IsLacking};
 
 use crate::delta::lean_board;
@@ -86,7 +86,7 @@ pub fn deltas(
 // What all processes say, where the process says what the digest says.
 fn raised_acks(alloc: Global, board: &Board, me: Proc, digest: &Acks) -> Result<Board, OutOfMemory>
     requires { IsTrue (are_tidy_numbers (view_of_acks digest.now)) }
-    ensures { IfOk result (λ made. record (look board.now) { acks = (look made).acks } ≡ join (look board.now) (own_acks me (numbers_of (view_of_acks digest.now)))) }
+    ensures { IfOk result (λ made. record (look board.now) { acks = (look made).acks } ≡ join (look board.now) (own_acks me (numbers_acked (view_of_acks digest.now)))) }
 {
     let mut said = board.only_acks(alloc)?;
     said.raise_acks(alloc, me, digest)?;

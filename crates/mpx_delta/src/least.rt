@@ -6,7 +6,7 @@ ghost use Rattle.mpx_name.specs.Name.{Name as NameView};
 ghost use Rattle.mpx_board.specs.Looks.{look};
 ghost use Rattle.mpx_board.specs.Tidy.{are_tidy_numbers};
 ghost use Rattle.mpx_board.specs.Views.{view_of_acks, view_of_numbers};
-ghost use Rattle.mpx_delta.specs.Digests.{common_on, numbers_of};
+ghost use Rattle.mpx_delta.specs.Digests.{common_on, numbers_acked};
 ghost use Rattle.mpx_delta.specs.Keep.{keep};
 ghost use Rattle.mpx_delta.specs.Least.{least, least_number, least_numbers};
 
@@ -23,7 +23,7 @@ use std::cmp::Ordering;
 pub fn common(alloc: Global, board: &Board, processes: u8) -> Result<Acks, OutOfMemory>
     requires some { 0 < processes }
     requires few { processes ≤ 64 }
-    ensures least { IfOk result (λ made. (name : NameView) (p : ℕ) → numbers_of (view_of_acks made) name p ≡ common_on processes (look board.now) name p) }
+    ensures least { IfOk result (λ made. (name : NameView) (p : ℕ) → numbers_acked (view_of_acks made) name p ≡ common_on processes (look board.now) name p) }
     ensures tidy { IfOk result (λ made. IsTrue (are_tidy_numbers (view_of_acks made))) }
 {
     let mut made = acks_of(alloc, board, Proc::new(0))?;
@@ -38,7 +38,7 @@ pub fn common(alloc: Global, board: &Board, processes: u8) -> Result<Acks, OutOf
 
 // What the process acknowledges.
 fn acks_of(alloc: Global, board: &Board, process: Proc) -> Result<Acks, OutOfMemory>
-    ensures numbers { IfOk result (λ made. (name : NameView) (p : ℕ) → numbers_of (view_of_acks made) name p ≡ (look board.now).acks process name p) }
+    ensures numbers { IfOk result (λ made. (name : NameView) (p : ℕ) → numbers_acked (view_of_acks made) name p ≡ (look board.now).acks process name p) }
     ensures tidy { IfOk result (λ made. IsTrue (are_tidy_numbers (view_of_acks made))) }
 {
     match board.pair().second.get(&process) {
@@ -50,8 +50,8 @@ fn acks_of(alloc: Global, board: &Board, process: Proc) -> Result<Acks, OutOfMem
 // The lesser of these numbers and those that the process acknowledges: mostly these, since the least is soon found.
 fn least_of(alloc: Global, board: &Board, process: Proc, numbers: Acks) -> Result<Acks, OutOfMemory>
     requires { IsTrue (are_tidy_numbers (view_of_acks numbers)) }
-    ensures least { IfOk result (λ made. (name : NameView) (p : ℕ) → numbers_of (view_of_acks made) name p
-        ≡ min (numbers_of (view_of_acks numbers) name p) ((look board.now).acks process name p)) }
+    ensures least { IfOk result (λ made. (name : NameView) (p : ℕ) → numbers_acked (view_of_acks made) name p
+        ≡ min (numbers_acked (view_of_acks numbers) name p) ((look board.now).acks process name p)) }
     ensures tidy { IfOk result (λ made. IsTrue (are_tidy_numbers (view_of_acks made))) }
 {
     match board.pair().second.get(&process) {

@@ -3,7 +3,7 @@ ghost use Rattle.std.specs.Prelude.{◌≡◌, ◌-◌, ◌<◌, ◌≤◌, IfOk
 ghost use Rattle.std.specs.Option.{option_copied, option_map};
 ghost use Rattle.mpx_board.specs.Looks.{look, parts_of};
 ghost use Rattle.mpx_board.specs.Views.{view_of_acks, view_of_all_acks, view_of_lifted, view_of_numbers};
-ghost use Rattle.mpx_delta.specs.Digests.{common_on, number_at, numbers_of, without};
+ghost use Rattle.mpx_delta.specs.Digests.{common_on, number_at, numbers_acked, without};
 ghost use Rattle.mpx_delta.specs.Posted.{above, least_above, least_posted, lesser, said_on};
 
 use crate::least::{place_from, value_near};
@@ -24,7 +24,7 @@ pub fn common_of_posts(
 ) -> Result<Acks, OutOfMemory>
     requires some { 0 < processes }
     requires few { processes ≤ 64 }
-    ensures { IfOk result (λ made. without (numbers_of (view_of_acks made)) (look board.now) ≡ without (common_on processes (look said.now)) (look board.now)) }
+    ensures { IfOk result (λ made. without (numbers_acked (view_of_acks made)) (look board.now) ≡ without (common_on processes (look said.now)) (look board.now)) }
 {
     let mut made = Vec::new(alloc);
     let mut near = 0;

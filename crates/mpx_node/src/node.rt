@@ -1,8 +1,8 @@
 //! One process, and its steps.
-ghost use Rattle.std.specs.Prelude.{◌≡◌, ◌<◌, ◌≤◌, [], None, OnOk, OnErr, IfOk, IsTrue, slice_get, is_ok, is_some};
+ghost use Rattle.std.specs.Prelude.{◌≡◌, ◌≢◌, ◌<◌, ◌≤◌, [], None, OnOk, OnErr, IfOk, IsTrue, slice_get, is_ok, is_some};
 ghost use Rattle.std.specs.Option.{option_copied};
 ghost use Rattle.mpx_post.specs.Drafts.{most_calls, refusal_of};
-ghost use Rattle.mpx_board.specs.Boards.{IsBoardBelow};
+ghost use Rattle.mpx_board.specs.Boards.{IsBoardBelow, empty};
 ghost use Rattle.mpx_board.specs.Looks.{look};
 ghost use Rattle.mpx_format.specs.Decoding.{decoded, shown};
 
@@ -195,11 +195,12 @@ impl Node {
     }
 
     /// Joins the board that the bytes of a frame spell, as [`Node::take`] joins a part, with no board of its own for what they say. That
-    /// they spell one is the caller's condition. An `Err` leaves what it leaves there.
+    /// they spell one is the caller's condition. An `Err` leaves what it leaves there; a frame that tells nothing wants no memory.
     pub fn take_frame(&mut self, alloc: Global, frame: &[u8]) -> Result<(), OutOfMemory>
         requires spelled { IsTrue (is_ok (decoded frame.now)) }
         ensures ok { OnOk result (node_of self.new ≡ learn (shown (decoded frame.now)) (node_of self.old)) }
         ensures err { OnErr result (StopsTaking (shown (decoded frame.now)) (node_of self.old) (node_of self.new)) }
+        ensures some { OnErr result (shown (decoded frame.now) ≢ empty) }
     {
         take_spelled(alloc, &mut self.board, frame)
     }

@@ -7,7 +7,7 @@ use Rattle.join_core.specs.Cases.{first_true}
 use Rattle.mpx_board.specs.Looks.{look, parts_of}
 use Rattle.mpx_board.specs.Tidy.{are_tidy_acks, are_tidy_entries, are_tidy_numbers, is_tidy_lifted}
 use Rattle.mpx_delta.proofs.Adding.{passes_at}
-use Rattle.mpx_delta.specs.Digests.{IsDigest, numbers_of}
+use Rattle.mpx_delta.specs.Digests.{IsDigest, numbers_acked}
 use Rattle.mpx_delta.specs.Keep.{keep, kept, unless_bare}
 use Rattle.mpx_delta.specs.Reach.{digest_lifted}
 use Rattle.mpx_delta.proofs.Steps.{KeptSoFar, kept_none, kept_one, kept_whole, kept_rises}
@@ -40,7 +40,7 @@ returns-clause-digest c =
     let is = c.from_rising.ensures
     ∙ ap from_sorted (kept_whole (λ name l. unless_bare (digest_lifted l)) view_of_lifted view_of_numbers c.entries-name-items.result.now c.loop-name.made.items c.loop-name.name-index c.loop-name-test.false c.loop-name.invariant ∙ ap (kept (λ name l. unless_bare (digest_lifted l))) c.entries-name-items.ensures.entries)
     ∙ ap (λ v. keep (λ name l. unless_bare (digest_lifted l)) v.0) c.pair.ensures.value in
-    subst (λ d. IsDigest (numbers_of d) (look c.args.board.now)) (sym is) (digest_is (parts_of c.args.board.now))
+    subst (λ d. IsDigest (numbers_acked d) (look c.args.board.now)) (sym is) (digest_is (parts_of c.args.board.now))
 
 pub returns-clause-tidy : goal.returns-clause-tidy
 returns-clause-tidy c =

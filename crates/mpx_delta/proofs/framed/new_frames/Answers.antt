@@ -4,7 +4,7 @@ use Rattle.mpx_board.specs.Contexts.{look_of}
 use Rattle.mpx_board.specs.Looks.{parts_of}
 use Rattle.mpx_board.specs.Raised.{StoringLeads}
 use Rattle.mpx_board.specs.Views.{view_of_acks}
-use Rattle.mpx_delta.specs.Digests.{numbers_of}
+use Rattle.mpx_delta.specs.Digests.{numbers_acked}
 use Rattle.mpx_delta.proofs.Framing.{frames_lack, leads_between, led_back}
 use Rattle.mpx_delta.proofs.framed.new_frames.Goals as goal
 
@@ -22,5 +22,5 @@ returns-in-Ok-clause-made c =
     let old = parts_of c.args.board.now in
     let mid = parts_of c.say.new.self in
     let back = led_back c.in_ok-before.before old mid _ _ c.in_ok-before.ensures.back c.lean_frames-made.ensures.board c.exchange-said.ensures.new in
-    frames_lack c.args.me c.args.processes c.args.limit (numbers_of (view_of_acks c.in_ok-digest.digest)) old mid c.in_ok-before.before c.exchange-said.result _ c.in_ok-digest.ensures.digest c.in_ok-before.ensures.ok c.in_ok-before.ensures.back
+    frames_lack c.args.me c.args.processes c.args.limit (numbers_acked (view_of_acks c.in_ok-digest.digest)) old mid c.in_ok-before.before c.exchange-said.result _ c.in_ok-digest.ensures.digest c.in_ok-before.ensures.ok c.in_ok-before.ensures.back
     (leads_between c.exchange-said.result old mid _ _ back c.lean_frames-made.ensures.board c.exchange-said.ensures.back) c.in-Ok.ensures.frames

@@ -6,14 +6,14 @@ use Rattle.mpx_board.specs.Boards.{Has, Look, join, own_acks}
 use Rattle.mpx_board.specs.Looks.{look}
 use Rattle.mpx_board.specs.Views.{view_of_acks}
 use Rattle.mpx_delta.specs.Facts.{OnlyFactsOf}
-use Rattle.mpx_delta.specs.Digests.{common_on, numbers_of, without}
+use Rattle.mpx_delta.specs.Digests.{common_on, numbers_acked, without}
 use Rattle.mpx_delta.proofs.Leaning.{without_only}
 use Rattle.mpx_delta.proofs.Saying.{acknowledged}
 use Rattle.mpx_delta.proofs.lacking.new_list.Goals as goal
 
 pub returns-in-Ok : goal.returns-in-Ok
 returns-in-Ok c =
-    let numbers = numbers_of (view_of_acks c.in_ok-digest.digest) in
+    let numbers = numbers_acked (view_of_acks c.in_ok-digest.digest) in
     let board : Look = look c.args.board.now in
     let after : Look = join board (own_acks c.args.me numbers) in
     let lean : Look = record board { acks = (look c.in_ok-acks.acks).acks } in

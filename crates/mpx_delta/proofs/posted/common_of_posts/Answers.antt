@@ -4,7 +4,7 @@ use Rattle.std.specs.FinMap.{from_sorted}
 use Rattle.mpx_name.specs.Order.{name_cmp}
 use Rattle.mpx_board.specs.Looks.{look, parts_of}
 use Rattle.mpx_board.specs.Views.{view_of_lifted, view_of_numbers}
-use Rattle.mpx_delta.specs.Digests.{common_on, numbers_of, without}
+use Rattle.mpx_delta.specs.Digests.{common_on, numbers_acked, without}
 use Rattle.mpx_delta.specs.Keep.{keep, kept}
 use Rattle.mpx_delta.specs.Posted.{least_context, least_posted}
 use Rattle.mpx_delta.proofs.Steps.{KeptSoFar, kept_none, kept_one, kept_whole, kept_rises}
@@ -39,6 +39,6 @@ returns c =
     let is = c.from_rising.ensures
     ∙ ap from_sorted (kept_whole (least_context (parts_of c.args.said.now).1 (c.args.processes - 1)) view_of_lifted view_of_numbers c.entries-name-items.result.now c.loop-name.made.items c.loop-name.name-index c.loop-name-test.false c.loop-name.invariant ∙ ap (kept (least_context said.1 more)) c.entries-name-items.ensures.entries)
     ∙ ap (λ v. keep (least_context said.1 more) v.0) c.pair.ensures.value in
-    ap (λ d. without (numbers_of d) (look c.args.board.now)) is
+    ap (λ d. without (numbers_acked d) (look c.args.board.now)) is
     ∙ posted_without board said more
     ∙ ap (λ n. without (common_on n (look c.args.said.now)) (look c.args.board.now)) (some_more c.args.processes c.requires.some)

@@ -20,3 +20,8 @@ pub returns-clause-err : goal.returns-clause-err
 returns-clause-err c =
     let s = shows_its c.args.frame.now (λ i. omega (arith, c.type_inv.frame i)) c.requires.spelled in
     mapped_err c.take_spelled.result (λ stopped. (refl, subst (λ part. IsBetween (node_of c.args.self.now).board part (look c.take_spelled.new.board)) s.shows (stopped s.parts s.spelled))) c.take_spelled.ensures.err
+
+pub returns-clause-some : goal.returns-clause-some
+returns-clause-some c =
+    let s = shows_its c.args.frame.now (λ i. omega (arith, c.type_inv.frame i)) c.requires.spelled in
+    mapped_err c.take_spelled.result (λ some none. some s.parts s.spelled (s.shows ∙ none)) c.take_spelled.ensures.some
