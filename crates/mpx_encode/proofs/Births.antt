@@ -1,5 +1,5 @@
 -- How births are spelled, and in how many bytes.
-use Rattle.std.proofs.Common.{◌≡◌, ℕ, zero, suc, ◌+◌, ◌*◌, ◌<◌, Bool, true, false, cond, List, [], ◌∷◌, ◌++◌, length, Option, Some, None, refl, ap, ◌∙◌, arith, length-append, take, get_or, not, ◌&&◌, reverse}
+use Rattle.std.proofs.Common.{◌≡◌, ℕ, zero, suc, ◌+◌, ◌*◌, ◌<◌, Bool, true, false, cond, List, [], ◌∷◌, ◌++◌, length, Option, Some, None, refl, sym, ap, ◌∙◌, arith, length-append, take, get_or, not, ◌&&◌, reverse}
 use Rattle.std.specs.Prelude.{nat_lt, nat_le}
 use Rattle.std.specs.Int.{w16, w32, to_be_bytes}
 use Rattle.std.specs.List.{flat_map, list_all}
@@ -23,6 +23,12 @@ use Rattle.mpx_encode.proofs.Rising.{many_alike, many_pass}
 pub length_each : {X : Type 0} (s : X → List ℕ) (n : ℕ) → ((x : X) → length (s x) ≡ n) → (xs : List X) → length (flat_map s xs) ≡ length xs * n
 length_each s n each [] = omega arith
 length_each s n each (x ∷ xs) = length-append (s x) (flat_map s xs) ∙ omega (arith, each x, length_each s n each xs)
+
+-- one alone
+pub one_spelled : {X : Type 0} (s : X → List ℕ) (xs : List X) (x : X) → length xs ≡ 1 → x ≡ get_or xs 0 x → flat_map s xs ≡ s x
+one_spelled s [] x len is = absurd (omega (arith, len))
+one_spelled s (y ∷ z ∷ xs) x len is = absurd (omega (arith, len))
+one_spelled s (y ∷ []) x len is = append-nil (s y) ∙ ap s (sym is)
 
 -- MEMBERS
 

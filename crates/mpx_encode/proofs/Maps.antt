@@ -1,5 +1,5 @@
 -- Maps by their entries: how they are spelled, and when they fit.
-use Rattle.std.proofs.Common.{◌≡◌, ℕ, zero, suc, ◌+◌, ◌≤◌, ◌<◌, Bool, true, not, ◌&&◌, eqb, List, [], ◌∷◌, ◌++◌, length, Option, Some, None, Result, Ok, Err, refl, sym, ap, ◌∙◌, arith, length-append, append_assoc}
+use Rattle.std.proofs.Common.{◌≡◌, ℕ, zero, suc, ◌+◌, ◌*◌, ◌^◌, ◌≤◌, ◌<◌, Bool, true, not, ◌&&◌, eqb, List, [], ◌∷◌, ◌++◌, length, Option, Some, None, Result, Ok, Err, refl, sym, ap, ◌∙◌, arith, length-append, append_assoc}
 use Rattle.std.specs.Prelude.{nat_lt, IfSome, OnOk}
 use Rattle.std.specs.Ordering.{nat_cmp}
 use Rattle.std.proofs.lemmas.Bool.{lt-ltb, ltb-true}
@@ -9,9 +9,9 @@ use Rattle.std.specs.List.{list_all}
 use Rattle.join_core.specs.Cases.{both_true, first_true, second_true}
 use Rattle.mpx_format.specs.Format.{Format, byte, many_fit}
 use Rattle.mpx_format.specs.Rising.{entry, keyed}
-use Rattle.mpx_format.specs.Fields.{process, some_byte}
+use Rattle.mpx_format.specs.Fields.{process, some_byte, some_calls}
 use Rattle.mpx_board.specs.Tidy.{is_bare}
-use Rattle.mpx_encode.specs.Entries.{entries_spelled, both_pass}
+use Rattle.mpx_encode.specs.Entries.{entries_spelled, entry_spelled, both_pass}
 use Rattle.mpx_encode.proofs.Rising.{entries_alike, entries_pass, entries_fit, sorted_rising, sorted_few}
 
 -- behind so many bytes the others
@@ -90,3 +90,24 @@ some_entries m h = let is = len-entries m in let some = not_zero (len m) h in om
 pub where_left : {P Q : Type 0} (left : Option ℕ) → (P → Q) → IfSome left (λ n. P) → IfSome left (λ n. Q)
 where_left None so h = h
 where_left (Some n) so h = so h
+
+-- the same of what holds anyway
+pub if_left : {P : Type 0} (left : Option ℕ) → P → IfSome left (λ n. P)
+if_left None h = tt
+if_left (Some n) h = h
+
+-- ROWS
+
+-- a process and a number that isn't 0
+pub row_fits : (p n : ℕ) → p < 64 → n < 2 ^ 32 → nat_lt 0 n ≡ true → (process.fits p && some_calls.fits n) ≡ true
+unfolding process some_calls
+row_fits p n small word some = both_true _ _ (both_true _ _ (lt-ltb p 256 (omega (arith, small))) (lt-ltb p 64 small)) (both_true _ _ (lt-ltb n (2 ^ 32) word) some)
+
+row_length : (e : ℕ × ℕ) → length (entry_spelled process some_calls e) ≡ 5
+unfolding process some_calls
+row_length e = refl
+
+-- each row has five bytes
+pub length_rows : (es : List (ℕ × ℕ)) → length (entries_spelled process some_calls es) ≡ 5 * length es
+length_rows [] = refl
+length_rows (e ∷ es) = length-append (entry_spelled process some_calls e) (entries_spelled process some_calls es) ∙ omega (arith, row_length e, length_rows es)

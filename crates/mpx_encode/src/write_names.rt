@@ -1,12 +1,13 @@
 //! Writing names of contexts, and lists of members.
 ghost use Rattle.std.specs.Prelude.{◌≡◌, ◌≤◌, ◌+◌, ◌++◌, true, OnOk, IfSome, length};
+ghost use Rattle.std.specs.List.{flat_map, list_all};
 ghost use Rattle.mpx_format.specs.Fields.{members as members_format, name, step};
 ghost use Rattle.mpx_name.specs.declared.steps.Step.TheVariants.{Child, Gathering};
 ghost use Rattle.mpx_encode.specs.Room.{room_left};
 
 use crate::room::room_left;
 use crate::write_entries::{WriteKey, room_after_list, write_list};
-use crate::write_numbers::{write_u8, write_u16, write_u32};
+use crate::write_numbers::{write_u8, write_u16};
 use join_core::OutOfMemory;
 use mpx_group::Proc;
 use mpx_name::{Name, Step};
@@ -23,9 +24,18 @@ pub fn write_members(members: &[Proc], out: &mut Vec<u8>) -> Result<(), OutOfMem
 fn write_child(call: u32, colour: u32, out: &mut Vec<u8>) -> Result<(), OutOfMemory>
     ensures { OnOk result (out.new.items ≡ out.old.items ++ step.spelling (Child call colour)) }
 {
-    write_u8(0, out)?;
-    write_u32(call, out)?;
-    write_u32(colour, out)
+    out.extend_from_slice(&child_bytes(call, colour))?;
+    Ok(())
+}
+
+// The nine bytes of a step to a child.
+#[tactic(auto, unfolding(mpx_format::specs::Fields::step, mpx_format::specs::Fields::child, mpx_format::specs::Fields::call, mpx_format::specs::Fields::colour))]
+fn child_bytes(call: u32, colour: u32) -> [u8; 9]
+    ensures { result ≡ step.spelling (Child call colour) }
+{
+    let a = call.to_be_bytes();
+    let b = colour.to_be_bytes();
+    [0, a[0], a[1], a[2], a[3], b[0], b[1], b[2], b[3]]
 }
 
 fn write_gathering(tag: u16, members: &[Proc], out: &mut Vec<u8>) -> Result<(), OutOfMemory>
@@ -57,6 +67,33 @@ impl WriteKey for Step {
     }
 }
 
+// What is left of so much room behind the steps: mostly there is one, to a child.
+fn room_after_steps(steps: &[Step], room: usize) -> Option<usize>
+    requires { list_all step.fits steps.now ≡ true }
+    ensures value { result ≡ room_left (length (flat_map step.spelling steps.now)) room }
+    ensures fits { IfSome result (λ left. list_all step.fits steps.now ≡ true) }
+{
+    if steps.len() == 1 {
+        if let Step::Child { .. } = &steps[0] {
+            return room_left(9, room);
+        }
+    }
+    room_after_list(steps, room)
+}
+
+// Writes the steps at the end: mostly there is one, to a child.
+fn write_steps(steps: &[Step], out: &mut Vec<u8>) -> Result<(), OutOfMemory>
+    requires { list_all step.fits steps.now ≡ true }
+    ensures { OnOk result (out.new.items ≡ out.old.items ++ flat_map step.spelling steps.now) }
+{
+    if steps.len() == 1 {
+        if let Step::Child { call, colour } = &steps[0] {
+            return write_child(*call, *colour, out);
+        }
+    }
+    write_list(steps, out)
+}
+
 impl WriteKey for Name {
     ghost format = { name };
 
@@ -67,12 +104,12 @@ impl WriteKey for Name {
         let _depth = self.depth();
         let steps = self.steps();
         let left = room_left(1, room)?;
-        room_after_list(steps, left)
+        room_after_steps(steps, left)
     }
 
     fn write(&self, out: &mut Vec<u8>) -> Result<(), OutOfMemory> {
         let steps = self.steps();
         write_u8(steps.len() as u8, out)?;
-        write_list(steps, out)
+        write_steps(steps, out)
     }
 }

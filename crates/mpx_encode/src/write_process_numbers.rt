@@ -1,16 +1,18 @@
 //! Writing the maps of frames: numbers of calls by process, and acknowledgements.
-ghost use Rattle.std.specs.Prelude.{◌≡◌, ◌++◌, ◌-◌, ◌^◌, ◌&&◌, ℕ, true, IfOk, IfSome, OnOk, length, nat_lt, nat_le};
-ghost use Rattle.std.specs.FinMap.{len};
+ghost use Rattle.std.specs.Prelude.{◌≡◌, ◌+◌, ◌++◌, ◌-◌, ◌^◌, ◌&&◌, ℕ, true, IfOk, IfSome, OnOk, length, nat_lt, nat_le};
+ghost use Rattle.std.specs.FinMap.{is_sorted, len};
+ghost use Rattle.std.specs.List.{list_all};
+ghost use Rattle.std.specs.Ordering.{nat_cmp};
 ghost use Rattle.mpx_board.specs.Parts.{OfProcesses, AcksView};
 ghost use Rattle.mpx_board.specs.Tidy.{has_no_zero, is_tidy_numbers, is_tidy_acks};
 ghost use Rattle.mpx_board.specs.Views.{view_of_numbers, view_of_acks};
 ghost use Rattle.mpx_format.specs.Fields.{process, call, some_calls, numbers, fronts};
 ghost use Rattle.join_nest.specs.Seen.{seen};
-ghost use Rattle.mpx_encode.specs.Entries.{entries_spelled, entry_spelled};
+ghost use Rattle.mpx_encode.specs.Entries.{both_pass, entries_spelled, entry_spelled};
 ghost use Rattle.mpx_encode.specs.Room.{room_left};
 
 use crate::room::room_left;
-use crate::write_entries::{WriteKey, WriteValue, room_after_counted};
+use crate::write_entries::{WriteKey, WriteValue};
 use crate::write_numbers::{write_u8, write_u32};
 use join_core::{Max, OutOfMemory};
 use mpx_board::VersionVector;
@@ -82,7 +84,7 @@ impl WriteValue for VersionVector {
     ghost ready = { is_tidy_numbers };
 
     fn room_after(&self, room: usize) -> Option<usize> {
-        room_after_counted(1, self.entries(), room)
+        room_after_rows(self.entries(), room)
     }
 
     fn write(&self, out: &mut Vec<u8>) -> Result<(), OutOfMemory> {
@@ -92,13 +94,42 @@ impl WriteValue for VersionVector {
     }
 }
 
+// What is left of so much room behind a byte and then the rows, each of five bytes.
+fn room_after_rows(rows: &[(Proc, Max)], room: usize) -> Option<usize>
+    requires rising { is_sorted nat_cmp rows.now ≡ true }
+    requires some { list_all (λ e. nat_lt 0 e.1) (seen (λ n. n.0) rows.now) ≡ true }
+    ensures value { result ≡ room_left (1 + length (entries_spelled process some_calls (seen (λ n. n.0) rows.now))) room }
+    ensures fits { IfSome result (λ left. both_pass process.fits some_calls.fits (seen (λ n. n.0) rows.now) ≡ true) }
+{
+    pass_limits(rows);
+    room_left(1 + 5 * rows.len(), room)
+}
+
+// Rows whose numbers aren't 0 are within all limits, by their types.
+fn pass_limits(rows: &[(Proc, Max)])
+    requires { list_all (λ e. nat_lt 0 e.1) (seen (λ n. n.0) rows.now) ≡ true }
+    ensures { both_pass process.fits some_calls.fits (seen (λ n. n.0) rows.now) ≡ true }
+{
+    for row in rows {
+        let _process = row.0.number();
+        let _number = word(row.1.0);
+    }
+}
+
+// The number, so that the proof knows its limit.
+fn word(number: u32) -> u32
+    ensures { result ≡ number }
+{
+    number
+}
+
 // What is left of so much room behind the fronts.
 pub fn room_after_fronts(numbers: &VersionVector, room: usize) -> Option<usize>
     requires { has_no_zero (view_of_numbers numbers.now) ≡ true }
     ensures value { result ≡ room_left (length (fronts.spelling (view_of_numbers numbers.now))) room }
     ensures fits { IfSome result (λ left. fronts.fits (view_of_numbers numbers.now) ≡ true) }
 {
-    room_after_counted(1, numbers.entries(), room)
+    room_after_rows(numbers.entries(), room)
 }
 
 // Writes the fronts at the end.

@@ -10,7 +10,7 @@ use Rattle.mpx_post.specs.Graphs.{GraphView}
 use Rattle.mpx_script.specs.Fields.{colour_named, list_named}
 use Rattle.mpx_script.specs.Places.{said}
 use Rattle.mpx_script.specs.Refusals.{fails}
-use Rattle.mpx_script.specs.Parts.{NewSyntax, CallSyntax, graph_in, is_number, has_strange_count, has_strange_number, has_strange_list, has_strange_new_list}
+use Rattle.mpx_script.specs.laws.Parts.{NewSyntax, CallSyntax, graph_in, is_number, has_strange_count, has_strange_number, has_strange_list, has_strange_new_list}
 use Rattle.mpx_script.specs.Sentences.{IsLineRefusal, counts_refusal, draft_refusal, fields_refusal, new_refusal, read_at}
 use Rattle.mpx_script.specs.declared.faults.LineError.{LineError}
 use Rattle.mpx_script.specs.declared.faults.LineError.TheVariants.{Fault, OutOfMemory}

@@ -1,7 +1,7 @@
 -- Counts that are refused, by what was read of them.
 use Rattle.std.proofs.Common.{◌≡◌, ℕ, not, is_some, List, [], ℤ, Option, Some, None, refl, sym, ap, ◌∙◌}
 use Rattle.std.specs.Prelude.{is_none}
-use Rattle.mpx_script.specs.Parts.{CallSyntax, are_strange}
+use Rattle.mpx_script.specs.laws.Parts.{CallSyntax, are_strange}
 use Rattle.mpx_kind.specs.declared.kinds.Fields.{Fields}
 use Rattle.mpx_kind.specs.declared.kinds.Number.{Number}
 use Rattle.mpx_script.specs.Fields.{counts_named}

@@ -25,7 +25,7 @@ use Rattle.mpx_script.specs.Graphs.{edges_graph, neighbours_graph}
 use Rattle.mpx_script.specs.Places.{last_word, words_before}
 use Rattle.mpx_script.specs.Refusals.{fails, is_fault, is_unknown_as, has_wrong_words_as, has_bad_number_as, has_bad_list_as}
 use Rattle.mpx_script.specs.Meanings.{statement_as}
-use Rattle.mpx_script.specs.Parts.{CallSyntax, ask_in, call_in, call_of, communicator_in, graph_in, new_in, has_unknown_word, has_wrong_count, has_wrong_end, has_strange_number, has_strange_list, are_strange, is_number, lacks, parted_statement}
+use Rattle.mpx_script.specs.laws.Parts.{CallSyntax, ask_in, call_in, call_of, communicator_in, graph_in, new_in, has_unknown_word, has_wrong_count, has_wrong_end, has_strange_number, has_strange_list, are_strange, is_number, lacks, parted_statement}
 use Rattle.mpx_script.specs.Reading.{first_holding}
 use Rattle.mpx_script.specs.Sentences.{form_refusal}
 

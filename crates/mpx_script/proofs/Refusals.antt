@@ -10,7 +10,7 @@ use Rattle.mpx_kind.specs.Kinds.{fields_of}
 use Rattle.mpx_script.specs.Words.{words, counts, is_ascii}
 use Rattle.mpx_script.specs.Grammar.{ends_with_name, form_named}
 use Rattle.mpx_script.specs.Syntax.{DirectiveSyntax, directive_in, form_in, label_in, ranks_meant, statements_in}
-use Rattle.mpx_script.specs.Parts.{NewSyntax, CallSyntax, has_unknown_word, has_wrong_count, has_wrong_end, parted_statement}
+use Rattle.mpx_script.specs.laws.Parts.{NewSyntax, CallSyntax, has_unknown_word, has_wrong_count, has_wrong_end, parted_statement}
 use Rattle.mpx_script.specs.Refusals.{is_past, is_unknown_line, has_wrong_words, has_bad_number, has_bad_list}
 use Rattle.mpx_script.specs.Meanings.{statement_in, statement_as}
 use Rattle.mpx_script.specs.Naming.{BoundNames, has_bad_name, has_unknown_name, has_taken_name, ranks_labelled}

@@ -10,7 +10,7 @@ pub mod Meanings
 pub mod Naming
 pub mod ScriptView
 pub mod Reading
-pub mod Parts
+pub mod laws
 pub mod Sentences
 pub mod PartialScripts
 pub mod Answer

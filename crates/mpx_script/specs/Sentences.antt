@@ -9,7 +9,7 @@ use Rattle.mpx_script.specs.Words.{counts}
 use Rattle.mpx_script.specs.Grammar.{ends_with_name}
 use Rattle.mpx_script.specs.Fields.{is_one}
 use Rattle.mpx_script.specs.Syntax.{DirectiveSyntax, directive_in, opening_ranks, statements_in}
-use Rattle.mpx_script.specs.Parts.{NewSyntax, CallSyntax, AskSyntax, ask_in, call_of, communicator_in, new_of, has_unknown_word, has_wrong_count, has_wrong_end, has_wrong_question, has_strange_choice, has_strange_new_number, has_strange_count, has_strange_number, has_strange_list, has_strange_new_list, has_strange_ranks}
+use Rattle.mpx_script.specs.laws.Parts.{NewSyntax, CallSyntax, AskSyntax, ask_in, call_of, communicator_in, new_of, has_unknown_word, has_wrong_count, has_wrong_end, has_wrong_question, has_strange_choice, has_strange_new_number, has_strange_count, has_strange_number, has_strange_list, has_strange_new_list, has_strange_ranks}
 use Rattle.mpx_script.specs.Refusals.{is_unknown_line, has_wrong_words, has_bad_number, has_bad_list, has_wrong_requests}
 use Rattle.mpx_script.specs.Meanings.{names_rank, statement_in}
 use Rattle.mpx_script.specs.Naming.{BoundNames, at_some_rank, lacks_name, misnames, takes_name}

@@ -8,7 +8,7 @@ ghost use Rattle.mpx_script.specs.Words.{words};
 ghost use Rattle.mpx_script.specs.Grammar.{call_with};
 ghost use Rattle.mpx_script.specs.Fields.{is_one, list_named, counts_named, operation_named, type_named, colour_named};
 ghost use Rattle.mpx_script.specs.Places.{said};
-ghost use Rattle.mpx_script.specs.Parts.{call_draft_in, draft_in, graph_in, is_number};
+ghost use Rattle.mpx_script.specs.laws.Parts.{call_draft_in, draft_in, graph_in, is_number};
 ghost use Rattle.mpx_script.specs.Sentences.{faulty_counts, IsLineRefusal, counts_refusal, draft_refusal, fields_refusal, new_refusal, read_at};
 
 use crate::faults::{LineError, ScriptFault};

@@ -1,7 +1,7 @@
 //! What the first words of a line stand for: the number of ranks, a label, or a statement's word.
 ghost use Rattle.std.specs.Prelude.{◌≡◌, map};
 ghost use Rattle.mpx_script.specs.Grammar.{call_with, rank_count, ranks_number, label_of, kind_named, started_named, local_named, form_named, ends_with_name};
-ghost use Rattle.mpx_script.specs.Parts.{has_ranks, has_second, shape_of, shape_of_new};
+ghost use Rattle.mpx_script.specs.laws.Parts.{has_ranks, has_second, shape_of, shape_of_new};
 ghost use Rattle.mpx_statement.specs.Lookups.{below, named};
 ghost use Rattle.mpx_script.specs.Words.{words};
 

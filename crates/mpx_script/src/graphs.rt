@@ -4,7 +4,7 @@ ghost use Rattle.std.specs.List.{list_any};
 ghost use Rattle.std.specs.Option.{option_map};
 ghost use Rattle.mpx_post.specs.Rows.{all_of};
 ghost use Rattle.mpx_script.specs.Graphs.{edge_named, edges_graph, entries_in, has_no_entries, is_weighted, neighbour_named, neighbours_graph, parted, weighed};
-ghost use Rattle.mpx_script.specs.Parts.{graph_in};
+ghost use Rattle.mpx_script.specs.laws.Parts.{graph_in};
 
 use crate::syntax::NewSyntax;
 use crate::words::front_len;

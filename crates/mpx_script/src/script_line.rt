@@ -6,7 +6,7 @@ ghost use Rattle.mpx_script.specs.Words.{words, counts, is_ascii};
 ghost use Rattle.mpx_script.specs.Fields.{ranks_named};
 ghost use Rattle.mpx_script.specs.Syntax.{directive_in, label_in, opening_ranks};
 ghost use Rattle.mpx_script.specs.Places.{said};
-ghost use Rattle.mpx_script.specs.Parts.{ask_in, call_posted, new_posted, parted_statement, posting_said, question_said};
+ghost use Rattle.mpx_script.specs.laws.Parts.{ask_in, call_posted, new_posted, parted_statement, posting_said, question_said};
 ghost use Rattle.mpx_script.specs.Meanings.{statement_in};
 ghost use Rattle.mpx_script.specs.Naming.{names_bound};
 ghost use Rattle.mpx_script.specs.Reading.{refusal, plain_context};

@@ -3,7 +3,7 @@ ghost use Rattle.std.specs.Prelude.{◌≡◌, ◌==◌, ◌+◌, ◌-◌, ◌<�
 ghost use Rattle.std.specs.Option.{option_copied};
 ghost use Rattle.mpx_script.specs.Words.{words};
 ghost use Rattle.mpx_script.specs.Syntax.{directive_in, form_in, label_in, ranks_meant, statements_in};
-ghost use Rattle.mpx_script.specs.Parts.{ask_in, call_in, has_unknown_word, has_wrong_count, has_wrong_end, has_wrong_question, lacks, new_in};
+ghost use Rattle.mpx_script.specs.laws.Parts.{ask_in, call_in, has_unknown_word, has_wrong_count, has_wrong_end, has_wrong_question, lacks, new_in};
 ghost use Rattle.mpx_script.specs.Fields.{is_arrow, operation_named, type_named};
 ghost use Rattle.mpx_script.specs.Refusals.{fails, is_past};
 ghost use Rattle.mpx_script.specs.Meanings.{is_meant};
@@ -107,7 +107,7 @@ pub struct NewSyntax<'a> {
 impl<'a> Model for NewSyntax<'a> {
     ghost use Rattle.std.specs.Option.{option_copied};
     ghost use Rattle.mpx_script.specs.Words.{words};
-    ghost use Rattle.mpx_script.specs.Parts.{NewSyntax as NewSyntaxView};
+    ghost use Rattle.mpx_script.specs.laws.Parts.{NewSyntax as NewSyntaxView};
 
     ghost Value = { NewSyntaxView };
 
@@ -165,7 +165,7 @@ pub struct CallSyntax<'a> {
 impl<'a> Model for CallSyntax<'a> {
     ghost use Rattle.std.specs.Option.{option_copied};
     ghost use Rattle.mpx_script.specs.Words.{words};
-    ghost use Rattle.mpx_script.specs.Parts.{CallSyntax as CallSyntaxView};
+    ghost use Rattle.mpx_script.specs.laws.Parts.{CallSyntax as CallSyntaxView};
 
     ghost Value = { CallSyntaxView };
 
@@ -246,7 +246,7 @@ pub struct AskSyntax<'a> {
 impl<'a> Model for AskSyntax<'a> {
     ghost use Rattle.std.specs.Option.{option_copied};
     ghost use Rattle.mpx_script.specs.Words.{words};
-    ghost use Rattle.mpx_script.specs.Parts.{AskSyntax as AskSyntaxView};
+    ghost use Rattle.mpx_script.specs.laws.Parts.{AskSyntax as AskSyntaxView};
 
     ghost Value = { AskSyntaxView };
 

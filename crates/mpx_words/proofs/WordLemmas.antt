@@ -2,7 +2,7 @@
 use Rattle.std.proofs.Common.{◌≡◌, Bool, true, false, true≢false, codes, ◌<◌, ℕ, ◌≤◌, ◌-◌, ◌||◌, List, [], ◌∷◌, length, map, drop, take, get_or, Some, None, refl, sym, ap, ◌∙◌, arith}
 use Rattle.std.specs.Prelude.{option_and_then, if◌then◌else◌}
 use Rattle.mpx_statement.specs.declared.job.Options.{Options}
-use Rattle.mpx_words.specs.Words.{begins_with, complaint, is_flag, is_in_one_word, job_in, limits_of, no_pair, options_in, or_more, usual, with_option, with_flag, with_whole}
+use Rattle.mpx_words.specs.Words.{complaint, is_in_one_word, job_in, limits_of, no_pair, options_in, or_more, usual, with_option, with_whole}
 
 pub take_whole : {A : Type 0} (xs : List A) → take (length xs) xs ≡ xs
 take_whole [] = refl
@@ -12,28 +12,12 @@ take_whole (x ∷ xs) = ap (λ ys. x ∷ ys) (take_whole xs)
 told_of_first : {A B : Type 0} (f : A → B) (u x : A) (b : B) → x ≡ u → f x ≡ b → f u ≡ b
 told_of_first f u x b e h = sym (ap f e) ∙ h
 
--- where none of six tests holds
-none_of : {A : Type 0} (t a b c d e : Bool) (u v w x y z n : A) → (t || (a || (b || (c || (d || e))))) ≡ false
-    → (if t then u else if a then v else if b then w else if c then x else if d then y else if e then z else n) ≡ n
-none_of true a b c d e u v w x y z n h = absurd (true≢false h)
-none_of false true b c d e u v w x y z n h = absurd (true≢false h)
-none_of false false true c d e u v w x y z n h = absurd (true≢false h)
-none_of false false false true d e u v w x y z n h = absurd (true≢false h)
-none_of false false false false true e u v w x y z n h = absurd (true≢false h)
-none_of false false false false false true u v w x y z n h = absurd (true≢false h)
-none_of false false false false false false u v w x y z n h = refl
-
--- a word that is no whole option gives none
-not_whole : (o : Options) (word : List ℕ) → is_in_one_word word ≡ false → with_whole o word ≡ None
-not_whole o word h =
-    none_of (is_flag word) (begins_with word (codes "--seed=")) (begins_with word (codes "--loss=")) (begins_with word (codes "--relays=")) (begins_with word (codes "--turns=")) (begins_with word (codes "--workers="))
-    (Some (with_flag o word)) (with_option o (codes "--seed") (drop 7 word)) (with_option o (codes "--loss") (drop 7 word)) (with_option o (codes "--relays") (drop 9 word)) (with_option o (codes "--turns") (drop 8 word)) (with_option o (codes "--workers") (drop 10 word)) None h
-
 -- the first word is whole
 pub one_whole : {A : Type 0} (f : A → List ℕ) (o more : Options) (words : List A) (x : A) → 1 ≤ length words → x ≡ get_or words 0 x → is_in_one_word (f x) ≡ true → with_whole o (f x) ≡ Some more
     → options_in more (map f (take (length words - 1) (drop 1 words))) ≡ options_in o (map f words)
 one_whole f o more [] x l e h m = absurd (omega (arith, l))
-one_whole f o more (u ∷ []) x l e h m = sym (told_of_first (λ w. with_whole o (f w)) u x (Some more) e m)
+one_whole f o more (u ∷ []) x l e h m =
+    sym (ap (λ (b : Bool). if b then with_whole o (f u) else None) (told_of_first (λ w. is_in_one_word (f w)) u x true e h) ∙ told_of_first (λ w. with_whole o (f w)) u x (Some more) e m)
 one_whole f o more (u ∷ v ∷ rest) x l e h m =
     let count : length (u ∷ v ∷ rest) - 1 ≡ length (v ∷ rest) = omega arith in
     ap (λ n. options_in more (map f (take n (v ∷ rest)))) count ∙ ap (λ ws. options_in more (map f ws)) (take_whole (v ∷ rest))
@@ -44,7 +28,8 @@ one_whole f o more (u ∷ v ∷ rest) x l e h m =
 pub none_whole : {A : Type 0} (f : A → List ℕ) (o : Options) (words : List A) (x : A) → 1 ≤ length words → x ≡ get_or words 0 x → is_in_one_word (f x) ≡ true → with_whole o (f x) ≡ None
     → options_in o (map f words) ≡ None
 none_whole f o [] x l e h m = absurd (omega (arith, l))
-none_whole f o (u ∷ []) x l e h m = told_of_first (λ w. with_whole o (f w)) u x None e m
+none_whole f o (u ∷ []) x l e h m =
+    ap (λ (b : Bool). if b then with_whole o (f u) else None) (told_of_first (λ w. is_in_one_word (f w)) u x true e h) ∙ told_of_first (λ w. with_whole o (f w)) u x None e m
 none_whole f o (u ∷ v ∷ rest) x l e h m =
     ap (λ (b : Bool). if b then option_and_then (λ p. options_in p (map f (v ∷ rest))) (with_whole o (f u)) else option_and_then (λ p. options_in p (map f rest)) (with_option o (f u) (f v))) (told_of_first (λ w. is_in_one_word (f w)) u x true e h)
     ∙ ap (option_and_then (λ p. options_in p (map f (v ∷ rest)))) (told_of_first (λ w. with_whole o (f w)) u x None e m)
@@ -53,7 +38,7 @@ none_whole f o (u ∷ v ∷ rest) x l e h m =
 pub one_word : {A : Type 0} (f : A → List ℕ) (o : Options) (words : List A) (x : A) → length words ≡ 1 → x ≡ get_or words 0 x → is_in_one_word (f x) ≡ false
     → options_in o (map f words) ≡ None
 one_word f o [] x l e h = absurd (omega (arith, l))
-one_word f o (u ∷ []) x l e h = not_whole o (f u) (told_of_first (λ w. is_in_one_word (f w)) u x false e h)
+one_word f o (u ∷ []) x l e h = ap (λ (b : Bool). if b then with_whole o (f u) else None) (told_of_first (λ w. is_in_one_word (f w)) u x false e h)
 one_word f o (u ∷ v ∷ rest) x l e h = absurd (omega (arith, l))
 
 -- the first two words are an option

@@ -7,7 +7,7 @@ use Rattle.clap.specs.Walk.{Text}
 use Rattle.clap.specs.declared.error.kind.ErrorKind.{ErrorKind}
 use Rattle.clap.specs.declared.error.kind.ErrorKind.TheVariants as kind
 use Rattle.mpx_num.specs.Text.{number_of}
-use Rattle.mpx_words.specs.Words.{begins_with, is_common, is_in_one_word}
+use Rattle.mpx_words.specs.Words.{begins_with, is_common, is_flag}
 
 -- a word that is `-`, or doesn't begin with it
 abbrev pub is_plain : Text → Bool
@@ -21,12 +21,16 @@ asks_ranks word = bytes_eq word (codes "-n") || bytes_eq word (codes "-np")
 abbrev pub is_option : Text → Bool
 is_option word = bytes_eq word (codes "--seed") || (bytes_eq word (codes "--loss") || (bytes_eq word (codes "--relays") || (bytes_eq word (codes "--turns") || bytes_eq word (codes "--workers"))))
 
+-- such an option with its number behind `=`
+abbrev pub is_joined : Text → Bool
+is_joined word = begins_with word (codes "--seed=") || (begins_with word (codes "--loss=") || (begins_with word (codes "--relays=") || (begins_with word (codes "--turns=") || begins_with word (codes "--workers="))))
+
 -- whether a number is awaited behind a word of `run`; none where the word is no part of an option
 abbrev pub awaits_behind : (awaits : Bool) → Text → Option Bool
 awaits_behind awaits word =
     if awaits && is_plain word then Some false else
     if is_option word then Some true else
-    if is_in_one_word word then Some false else
+    if is_flag word || is_joined word then Some false else
     None
 
 -- the first word, if it is plain or says how many ranks there are

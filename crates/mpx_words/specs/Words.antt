@@ -1,6 +1,6 @@
 -- The words of a call, and the job that they ask for.
-use Rattle.std.specs.Prelude.{Bool, true, false, not, ℕ, ℤ, pos, negsuc, ◌&&◌, ◌||◌, List, [], ◌∷◌, Option, Some, None, codes, bytes_eq, drop, is_some, length, nat_le, option_and_then, take, if◌then◌else◌}
-use Rattle.std.specs.List.{list_all, list_any}
+use Rattle.std.specs.Prelude.{Bool, true, false, not, ℕ, ℤ, pos, negsuc, ◌+◌, ◌==◌, ◌&&◌, ◌||◌, List, [], ◌∷◌, Option, Some, None, codes, bytes_eq, drop, is_some, length, nat_le, nat_lt, option_and_then, take, if◌then◌else◌}
+use Rattle.std.specs.List.{list_all, list_any, position_or_len}
 use Rattle.std.specs.Option.{option_map}
 use Rattle.mpx_num.specs.Text.{number_of}
 use Rattle.mpx_statement.specs.declared.job.Command.{Command}
@@ -47,37 +47,26 @@ with_option o option value =
 
 -- OPTIONS IN ONE WORD
 
-abbrev pub begins_with : Text → (start : Text) → Bool
-begins_with word start = bytes_eq start (take (length start) word)
-
--- an option with its number behind `=`
-abbrev pub is_joined : Text → Bool
-is_joined word = begins_with word (codes "--seed=") || (begins_with word (codes "--loss=") || (begins_with word (codes "--relays=") || (begins_with word (codes "--turns=") || begins_with word (codes "--workers="))))
-
--- these options with that one
-abbrev pub with_joined : Options → Text → Option Options
-with_joined o word =
-    if begins_with word (codes "--seed=") then with_option o (codes "--seed") (drop 7 word) else
-    if begins_with word (codes "--loss=") then with_option o (codes "--loss") (drop 7 word) else
-    if begins_with word (codes "--relays=") then with_option o (codes "--relays") (drop 9 word) else
-    if begins_with word (codes "--turns=") then with_option o (codes "--turns") (drop 8 word) else
-    if begins_with word (codes "--workers=") then with_option o (codes "--workers") (drop 10 word) else
-    None
+-- how many bytes stand before the first `=` (61)
+abbrev pub name_length : Text → ℕ
+name_length word = position_or_len (λ c. c == 61) word
 
 -- an option that is whole in one word: one that stands alone, or one with its number behind `=`
 abbrev pub is_in_one_word : Text → Bool
-is_in_one_word word = is_flag word || is_joined word
+is_in_one_word word = is_flag word || nat_lt (name_length word) (length word)
 
 -- these options with that one
 abbrev pub with_whole : Options → Text → Option Options
-with_whole o word = if is_flag word then Some (if bytes_eq word (codes "--threads") then record o { threads = true } else o) else with_joined o word
+with_whole o word =
+    if is_flag word then Some (if bytes_eq word (codes "--threads") then record o { threads = true } else o) else
+    with_option o (take (name_length word) word) (drop (name_length word + 1) word)
 
 -- OPTIONS
 
 -- these options with those that the words give: some words alone, each other option with its number behind `=` or as the next word
 abbrev pub options_in : Options → List Text → Option Options
 options_in o [] = Some o
-options_in o (option ∷ []) = with_whole o option
+options_in o (option ∷ []) = if is_in_one_word option then with_whole o option else None
 options_in o (option ∷ value ∷ rest) =
     if is_in_one_word option then option_and_then (λ p. options_in p (value ∷ rest)) (with_whole o option) else
     option_and_then (λ p. options_in p rest) (with_option o option value)
@@ -128,6 +117,9 @@ stands_alone = codes "this command stands alone, but for --strict and --explain"
 
 abbrev pub one_view : Text
 one_view = codes "--trace and --table show a simulated run: give one of them, without --threads"
+
+abbrev pub begins_with : Text → (start : Text) → Bool
+begins_with word start = bytes_eq start (take (length start) word)
 
 -- an option of this name, with or without its number in the same word
 abbrev pub is_of : Text → (name joined : Text) → Bool

@@ -2,9 +2,9 @@
 //! script tells it.
 ghost use Rattle.std.specs.Prelude.{◌≡◌, IfOk, false, map, option_map, string_bytes};
 ghost use Rattle.std.specs.Option.{option_copied};
-ghost use Rattle.mpx_words.specs.Advice.{advice, advice_first, advice_of, asks_ranks, awaits_behind, file_advice, first_surplus, is_file, is_option, is_plain, is_run, ranks_advice, shown, stands_alone, surplus, surplus_alone, surplus_behind, told_instead};
+ghost use Rattle.mpx_words.specs.Advice.{advice, advice_first, advice_of, asks_ranks, awaits_behind, file_advice, first_surplus, is_file, is_joined, is_option, is_plain, is_run, ranks_advice, shown, stands_alone, surplus, surplus_alone, surplus_behind, told_instead};
 
-use crate::command::{is_common, is_in_one_word};
+use crate::command::{is_common, is_flag};
 use clap::error::ErrorKind;
 use mpx_num::parse_number;
 use std::alloc::{AllocError, Global};
@@ -141,6 +141,17 @@ fn surplus_alone(words: &[String]) -> Option<&str>
     None
 }
 
+// Whether the word is such an option with its number behind `=`.
+fn is_joined(word: &[u8]) -> bool
+    ensures { result ≡ is_joined word.now }
+{
+    word.starts_with(b"--seed=")
+        || word.starts_with(b"--loss=")
+        || word.starts_with(b"--relays=")
+        || word.starts_with(b"--turns=")
+        || word.starts_with(b"--workers=")
+}
+
 // Whether a number is awaited behind a word of `run`.
 fn awaits_behind(awaits: bool, word: &[u8]) -> Option<bool>
     ensures { result ≡ awaits_behind awaits word.now }
@@ -151,7 +162,7 @@ fn awaits_behind(awaits: bool, word: &[u8]) -> Option<bool>
     if is_option(word) {
         return Some(true);
     }
-    if is_in_one_word(word) {
+    if is_flag(word) || is_joined(word) {
         Some(false)
     } else {
         None

@@ -3,7 +3,7 @@ ghost use Rattle.std.specs.Prelude.{◌≡◌, ◌≤◌, IfErr, IfOk, IfSome, N
 ghost use Rattle.std.specs.List.{list_all, list_any};
 ghost use Rattle.clap.specs.Words.{HasKind};
 ghost use Rattle.mpx_words.specs.Usage.{refusal_kinds};
-ghost use Rattle.mpx_words.specs.Words.{alone, fitting, flags_behind, flags_of, invocation_in, is_common, is_flag, is_in_one_word, is_joined, job_in, number_within, options_in, usual, with_flag, with_joined, with_option, with_whole};
+ghost use Rattle.mpx_words.specs.Words.{alone, fitting, flags_behind, flags_of, invocation_in, is_common, is_flag, is_in_one_word, job_in, name_length, number_within, options_in, usual, with_flag, with_option, with_whole};
 
 use crate::invocation::{Flags, Invocation};
 use crate::refusal::no_job;
@@ -175,7 +175,7 @@ fn options_in(options: Options, words: &[String]) -> Option<Options>
 pub(crate) fn is_in_one_word(word: &[u8]) -> bool
     ensures { result ≡ is_in_one_word word.now }
 {
-    is_flag(word) || is_joined(word)
+    is_flag(word) || name_length(word) < word.len()
 }
 
 // These options with that one.
@@ -183,14 +183,15 @@ pub(crate) fn with_whole(options: Options, word: &[u8]) -> Option<Options>
     ensures { result ≡ with_whole options word.now }
 {
     if is_flag(word) {
-        Some(with_flag(options, word))
-    } else {
-        with_joined(options, word)
+        return Some(with_flag(options, word));
     }
+    let end = name_length(word);
+    let (name, _) = word.split_at(end);
+    with_option(options, name, behind(word, end + 1))
 }
 
 // Whether the word is an option of `run` that stands alone.
-fn is_flag(word: &[u8]) -> bool
+pub(crate) fn is_flag(word: &[u8]) -> bool
     ensures { result ≡ is_flag word.now }
 {
     word == b"--threads".as_slice()
@@ -220,37 +221,12 @@ fn with_flag(options: Options, word: &[u8]) -> Options
     }
 }
 
-// Whether the word is an option with its number behind `=`.
-fn is_joined(word: &[u8]) -> bool
-    ensures { result ≡ is_joined word.now }
+// How many bytes stand before the first `=`.
+fn name_length(word: &[u8]) -> usize
+    ensures length { result ≡ name_length word.now }
+    ensures within { result ≤ length word.now }
 {
-    word.starts_with(b"--seed=")
-        || word.starts_with(b"--loss=")
-        || word.starts_with(b"--relays=")
-        || word.starts_with(b"--turns=")
-        || word.starts_with(b"--workers=")
-}
-
-// These options with that one.
-fn with_joined(options: Options, word: &[u8]) -> Option<Options>
-    ensures { result ≡ with_joined options word.now }
-{
-    if word.starts_with(b"--seed=") {
-        return with_option(options, b"--seed", behind(word, 7));
-    }
-    if word.starts_with(b"--loss=") {
-        return with_option(options, b"--loss", behind(word, 7));
-    }
-    if word.starts_with(b"--relays=") {
-        return with_option(options, b"--relays", behind(word, 9));
-    }
-    if word.starts_with(b"--turns=") {
-        return with_option(options, b"--turns", behind(word, 8));
-    }
-    if word.starts_with(b"--workers=") {
-        return with_option(options, b"--workers", behind(word, 10));
-    }
-    None
+    word.iter().take_while(|byte| **byte != b'=').count()
 }
 
 // What stands behind so many bytes.

@@ -2,7 +2,7 @@ use Rattle.std.proofs.Common.{◌≡◌, ◌++◌, length, not}
 use Rattle.std.specs.List.{filter_map, list_any}
 use Rattle.mpx_num.specs.Text.{number_of}
 use Rattle.mpx_script.specs.Words.{words}
-use Rattle.mpx_script.specs.Parts.{is_number}
+use Rattle.mpx_script.specs.laws.Parts.{is_number}
 use Rattle.mpx_script.proofs.calls.numbers_in.Given as goal
 
 abbrev pub invariant-loop-word : goal.invariant-loop-word

@@ -6,7 +6,7 @@ use Rattle.mpx_num.specs.Text.{number_of}
 use Rattle.mpx_kind.specs.declared.kinds.Kind.TheVariants as K
 use Rattle.mpx_kind.specs.Kinds.{fields_of}
 use Rattle.mpx_script.specs.Grammar.{ends_with_name}
-use Rattle.mpx_script.specs.Parts.{has_unknown_word, has_wrong_count, has_wrong_end}
+use Rattle.mpx_script.specs.laws.Parts.{has_unknown_word, has_wrong_count, has_wrong_end}
 use Rattle.mpx_script.specs.Sentences.{draft_refusal}
 use Rattle.mpx_script.specs.Places.{said}
 use Rattle.mpx_script.proofs.Accepted.{said_is}

@@ -4,7 +4,7 @@ use Rattle.mpx_num.specs.Own.{operation_of}
 use Rattle.std.specs.Prelude.{IfOk}
 use Rattle.std.proofs.lemmas.Result.{IfOk-weaker}
 use Rattle.mpx_script.specs.Meanings.{statement_in}
-use Rattle.mpx_script.specs.Parts.{parted_statement}
+use Rattle.mpx_script.specs.laws.Parts.{parted_statement}
 use Rattle.mpx_script.specs.Sentences.{IsLineRefusal, form_refusal, statement_refusal}
 use Rattle.mpx_script.proofs.Refusals.{refusal_of_form, said_of_form}
 use Rattle.mpx_script.proofs.script_line.statement_in.Goals as goal

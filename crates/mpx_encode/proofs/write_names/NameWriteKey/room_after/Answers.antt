@@ -8,8 +8,8 @@ use Rattle.mpx_encode.proofs.Births.{name_spelled, name_steps}
 use Rattle.mpx_encode.proofs.Maps.{where_left}
 use Rattle.mpx_encode.proofs.write_names.NameWriteKey.room_after.Goals as goal
 
-pub room_after_list-requires : goal.room_after_list-requires
-room_after_list-requires c = ap (list_all step.fits) c.steps-steps.ensures.value ∙ name_steps c.args.self.now (name_fits c.args.self.now c.depth-depth.ensures.name)
+pub room_after_steps-requires : goal.room_after_steps-requires
+room_after_steps-requires c = ap (list_all step.fits) c.steps-steps.ensures.value ∙ name_steps c.args.self.now (name_fits c.args.self.now c.depth-depth.ensures.name)
 
 pub returns-in_err-left-clause-value : goal.returns-in_err-left-clause-value
 returns-in_err-left-clause-value c =
@@ -22,8 +22,8 @@ pub returns-clause-value : goal.returns-clause-value
 returns-clause-value c =
     let n = c.args.self.now in
     let left : room_left 1 c.args.room ≡ Some c.in_ok-left.left = search rules in
-    c.room_after_list.ensures.value ∙ ap (λ l. room_left (length (flat_map step.spelling l)) c.in_ok-left.left) c.steps-steps.ensures.value
+    c.room_after_steps.ensures.value ∙ ap (λ l. room_left (length (flat_map step.spelling l)) c.in_ok-left.left) c.steps-steps.ensures.value
     ∙ sym (ap (λ l. room_left (length l) c.args.room) (name_spelled n) ∙ room_behind (length (reverse n) ∷ []) (flat_map step.spelling (reverse n)) c.args.room c.in_ok-left.left left)
 
 pub returns-clause-fits : goal.returns-clause-fits
-returns-clause-fits c = where_left c.room_after_list.result (λ h. name_fits c.args.self.now c.depth-depth.ensures.name) c.room_after_list.ensures.fits
+returns-clause-fits c = where_left c.room_after_steps.result (λ h. name_fits c.args.self.now c.depth-depth.ensures.name) c.room_after_steps.ensures.fits

@@ -17,8 +17,8 @@ use Rattle.mpx_encode.proofs.write_process_numbers.VersionVectorWriteValue.room_
 abbrev says : Max → ℕ
 says n = n.0
 
-pub room_after_counted-requires : goal.room_after_counted-requires
-room_after_counted-requires c =
+pub room_after_rows-requires-clause-some : goal.room_after_rows-requires-clause-some
+room_after_rows-requires-clause-some c =
     let m = keyed_view nat_cmp says c.args.self.now.entries.items in
     ap (list_all (λ e. nat_lt 0 e.1)) c.entries.ensures.entries ∙ second_true (not (is_bare m)) (has_no_zero m) c.requires
 
@@ -27,7 +27,7 @@ unfolding numbers some_byte
 returns-clause-value c =
     let m = keyed_view nat_cmp says c.args.self.now.entries.items in
     let es = seen says c.entries.result.now in
-    c.room_after_counted.ensures.value ∙ ap (λ n. room_left n c.args.room) (sym (keyed_length nat_cmp some_byte process some_calls always m es 1 c.entries.ensures.entries refl))
+    c.room_after_rows.ensures.value ∙ ap (λ n. room_left n c.args.room) (sym (keyed_length nat_cmp some_byte process some_calls always m es 1 c.entries.ensures.entries refl))
 
 pub returns-clause-fits : goal.returns-clause-fits
 unfolding numbers
@@ -36,6 +36,6 @@ returns-clause-fits c =
     let es = seen says c.entries.result.now in
     let sorted : is_sorted nat_cmp es ≡ true = sorted_seen nat_cmp says c.entries.result.now ∙ c.entries.ensures.rising in
     let some : 0 < length es = omega (arith, ap length c.entries.ensures.entries, some_entries m (first_true (not (is_bare m)) (has_no_zero m) c.requires)) in
-    where_left c.room_after_counted.result
+    where_left c.room_after_rows.result
     (λ pass. keyed_fits nat_cmp some_byte process some_calls always m es c.entries.ensures.entries sorted (some_byte_count (length es) some (few_processes some_calls.fits es sorted pass)) pass (always_says es))
-    c.room_after_counted.ensures.fits
+    c.room_after_rows.ensures.fits
