@@ -64,13 +64,9 @@ fn from_slice(alloc: Global) -> Result<Spelled, Trouble> {
     Ok(Spelled::from_slice(alloc, Ty::I64, &[7; 24])?)
 }
 
-// All but the first.
+// All of them.
 fn block(alloc: Global, items: &Items) -> Result<Items, Trouble> {
-    let count = items.count();
-    if count < 1 {
-        return Err(Trouble::Refused);
-    }
-    Ok(items.block(alloc, 1, count - 1)?)
+    Ok(items.block(alloc, 0, items.count())?)
 }
 
 fn twin(items: &Items) -> Result<Items, Trouble> {
@@ -99,17 +95,14 @@ fn extend(alloc: Global, items: &mut Items, more: &Spelled) -> Result<NumberMade
 
 // Combines both, item by item.
 fn combine(items: &mut Items, more: &Spelled, ops: &Ops) -> Result<NumberMade, Trouble> {
-    let ty = items.ty();
-    if more.ty() != ty {
+    if !op_fits(Op::Max, Ty::I64, ops)
+        || items.ty() != Ty::I64
+        || more.ty() != Ty::I64
+        || items.count() != more.count()
+    {
         return Err(Trouble::Refused);
     }
-    if !op_fits(Op::Max, ty, ops) {
-        return Err(Trouble::Refused);
-    }
-    if items.count() != more.count() {
-        return Err(Trouble::Refused);
-    }
-    apply(Op::Max, ty, items, more, ops)?;
+    apply(Op::Max, Ty::I64, items, more, ops)?;
     Ok(NumberMade::Nothing)
 }
 
