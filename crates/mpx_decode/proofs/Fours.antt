@@ -1,6 +1,6 @@
 -- Numbers joined in four at once.
 use Rattle.std.proofs.Common.{◌≡◌, ℕ, zero, suc, ◌+◌, ◌≤◌, ◌<◌, true, List, [], Ok, length, get_or, set, max, refl, sym, ap, ◌∙◌, subst, arith}
-use Rattle.std.proofs.lemmas.List.{get_or_default, get_or-set_other, length-set, set-get_or}
+use Rattle.std.proofs.lemmas.List.{get_or_default, get_or-set_other, length-set}
 use Rattle.std.specs.Int.{w32}
 use Rattle.std.specs.declared.cmp.Ordering.{Ordering}
 use Rattle.std.specs.Ordering.{nat_cmp}
@@ -90,14 +90,6 @@ module _ (es : List (ℕ × Max)) (h : is_sorted nat_cmp es ≡ true) (at : ℕ)
 -- the process of the entry at the place
 pub is_of : (es : List (ℕ × Max)) (at : ℕ) (e : ℕ × Max) (p : ℕ) → at < length es → e ≡ get_or es at e → p ≡ e.0 → IsOf es at p
 is_of es at e p lt is key d = ap (λ (x : ℕ × Max). x.0) (get_or_default es at d e lt ∙ sym is) ∙ sym key
-
--- a number that isn't greater is joined in, and all is as before
-module _ (es : List (ℕ × Max)) (h : is_sorted nat_cmp es ≡ true) (at : ℕ) (lt : at < length es) (e : ℕ × Max) (is : e ≡ get_or es at e) (p n : ℕ) (same : p ≡ e.0) (small : p < 64) (some : 0 < n) (least : n ≤ e.1.0) (bytes after : List ℕ) (reads : ReadsRow bytes after p n) where
-  unchanged : set es at (e.0, max_with e.1 n) ≡ es
-  unchanged = let most : max e.1.0 n ≡ e.1.0 = omega (arith, least) in ap (λ (k : ℕ). set es at (e.0, record { 0 = k })) most ∙ ap (set es at) is ∙ set-get_or es at e
-
-  pub row_below : RaisesRow nat_cmp number_of (row process some_calls) max_joining bytes after es es
-  row_below = subst (λ (fs : List (ℕ × Max)). RaisesRow nat_cmp number_of (row process some_calls) max_joining bytes after es fs) unchanged (set_step es h at lt p n small some bytes after reads e is (sym same)).row
 
 -- FOUR
 

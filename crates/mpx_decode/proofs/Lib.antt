@@ -2,7 +2,6 @@ pub mod Loop
 pub mod Members
 pub mod Signed
 pub mod Integers
-mod Passed
 pub mod PostLimits
 pub mod RightRows
 mod Fours

@@ -1,6 +1,6 @@
 -- Rows joined in one after the other.
 use Rattle.std.proofs.Common.{◌≡◌, ℕ, ◌<◌, Bool, true, false, cond, List, length, get_or, set, Option, Some, None, Ok, refl, sym, ap, ◌∙◌}
-use Rattle.std.proofs.lemmas.List.{get_or_default, set-get_or}
+use Rattle.std.proofs.lemmas.List.{get_or_default}
 use Rattle.std.specs.List.{insert}
 use Rattle.std.specs.Option.{option_map}
 use Rattle.std.specs.declared.cmp.Ordering.{Ordering}
@@ -106,10 +106,6 @@ module _ {K J V : Type 0} {R : K → K → Ordering} (o : IsTotalOrder R) (exact
 
     pub raises_at : (j : Joining V) (rest : List ℕ) → JoinsFront value j after rest (view e.1) (view w) → RaisesRow R view (row key value) j bytes rest es (set es i (e.0, w))
     raises_at j rest r = record { key = e.0; value = r.value; read = read_there r.value rest r.read; joined = joined_at o exact view es h i e w lt there j r.value r.joined }
-
-    -- what says nothing new changes nothing
-    pub passes_at : (j : Joining V) (rest : List ℕ) → JoinsFront value j after rest (view e.1) (view e.1) → RaisesRow R view (row key value) j bytes rest es es
-    passes_at j rest r = record { key = e.0; value = r.value; read = read_there r.value rest r.read; joined = λ q. ap (λ (l : List (K × J)). find R q (seen view l)) (sym (ap (set es i) there ∙ set-get_or es i e)) ∙ joined_at o exact view es h i e e.1 lt there j r.value r.joined q }
 
     pub stops_at : {j : Joining V} (p : JoinLaws j) {between : V → V → V → Type 0} (s : BetweenLaws j between) → StopsBetween value between after (view e.1) (view w) → StopsRow R view (row key value) between bytes es (set es i (e.0, w))
     stops_at p s r = record { key = e.0; value = r.value; rest = r.rest; read = read_there r.value r.rest r.read; left = left_at o exact view es h i e w lt there p s r.value r.left }

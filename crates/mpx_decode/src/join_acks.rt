@@ -20,7 +20,7 @@ ghost use Rattle.mpx_decode.specs.Raising.{JoinsFront, StandsInFront, StopsBetwe
 use crate::big_endian::{read_u8, read_u32};
 use crate::entries::WireValue;
 use crate::fields::{read_some_byte, read_some_calls, read_some_names};
-use crate::join_numbers::{behind_numbers, raise_numbers};
+use crate::join_numbers::raise_numbers;
 use crate::join_rows::{FrontKey, WireJoin, raise_entries};
 use crate::process_numbers::front_row;
 use join_core::{Max, OutOfMemory};
@@ -55,7 +55,7 @@ impl FrontKey for Name {
             Err(_) => None,
             Ok((count, rest)) => {
                 if count as usize == steps.len() {
-                    behind_all(steps, rest)
+                    behind_steps(steps, rest)
                 } else {
                     None
                 }
@@ -64,18 +64,7 @@ impl FrontKey for Name {
     }
 }
 
-// The bytes behind these steps, where they stand at the front and none is a gathering: mostly there is one.
-fn behind_all<'a>(steps: &[Step], bytes: &'a [u8]) -> Option<&'a [u8]>
-    requires { IsName steps.now }
-    ensures { IfSome result (λ rest. many_read (λ before. step_format) (length steps.now) [] bytes.now ≡ Ok (steps.now, rest.now)) }
-{
-    if steps.len() == 1 {
-        return behind_step(&steps[0], bytes);
-    }
-    behind_steps(steps, bytes)
-}
-
-// The same, one after the other.
+// The bytes behind these steps, where they stand at the front and none is a gathering.
 fn behind_steps<'a>(steps: &[Step], bytes: &'a [u8]) -> Option<&'a [u8]>
     requires { IsName steps.now }
     ensures { IfSome result (λ rest. many_read (λ before. step_format) (length steps.now) [] bytes.now ≡ Ok (steps.now, rest.now)) }
@@ -144,10 +133,6 @@ impl WireJoin for Max {
         <Max as WireValue>::read(version, alloc, bytes)
     }
 
-    fn behind<'a>(&self, _version: Version, _bytes: &'a [u8]) -> Option<&'a [u8]> {
-        None
-    }
-
     fn raise<'a>(
         &mut self,
         _version: Version,
@@ -189,20 +174,6 @@ impl WireJoin for VersionVector {
         <VersionVector as WireValue>::read(version, alloc, bytes)
     }
 
-    fn behind<'a>(&self, _version: Version, bytes: &'a [u8]) -> Option<&'a [u8]> {
-        let entries = self.entries();
-        match read_some_byte(bytes) {
-            Err(_) => None,
-            Ok((count, rest)) => {
-                if count as usize == entries.len() {
-                    behind_numbers(entries, rest)
-                } else {
-                    None
-                }
-            }
-        }
-    }
-
     fn raise<'a>(
         &mut self,
         version: Version,
@@ -238,10 +209,6 @@ impl WireJoin for Acks {
 
     fn read_new(version: Version, alloc: Global, bytes: &[u8]) -> Result<(Acks, &[u8]), ReadError> {
         <Acks as WireValue>::read(version, alloc, bytes)
-    }
-
-    fn behind<'a>(&self, _version: Version, _bytes: &'a [u8]) -> Option<&'a [u8]> {
-        None
     }
 
     fn raise<'a>(

@@ -55,10 +55,6 @@ impl WireJoin for Flat<Post> {
         <Flat<Post> as WireValue>::read(version, alloc, bytes)
     }
 
-    fn behind<'a>(&self, _version: Version, _bytes: &'a [u8]) -> Option<&'a [u8]> {
-        None
-    }
-
     fn raise<'a>(
         &mut self,
         version: Version,
@@ -99,10 +95,6 @@ impl WireJoin for CallPosts {
         bytes: &[u8],
     ) -> Result<(CallPosts, &[u8]), ReadError> {
         <CallPosts as WireValue>::read(version, alloc, bytes)
-    }
-
-    fn behind<'a>(&self, _version: Version, _bytes: &'a [u8]) -> Option<&'a [u8]> {
-        None
     }
 
     fn raise<'a>(
@@ -333,19 +325,6 @@ impl WireJoin for Lifted {
         bytes: &[u8],
     ) -> Result<(Lifted, &[u8]), ReadError> {
         <Lifted as WireValue>::read(version, alloc, bytes)
-    }
-
-    fn behind<'a>(&self, version: Version, bytes: &'a [u8]) -> Option<&'a [u8]> {
-        match version {
-            Version::One => None,
-            Version::Two => match self {
-                Lift::Live(_) => None,
-                Lift::Dead => match read_u8(bytes) {
-                    Err(_) => None,
-                    Ok((form, rest)) => { if form == 0 { None } else { Some(rest) } }
-                },
-            },
-        }
     }
 
     fn raise<'a>(

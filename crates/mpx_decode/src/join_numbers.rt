@@ -44,22 +44,6 @@ pub fn raise_numbers<'a>(
     Ok(rest)
 }
 
-// The bytes behind as many numbers, where they are of these processes and none is greater.
-pub fn behind_numbers<'a>(entries: &[(Proc, Max)], bytes: &'a [u8]) -> Option<&'a [u8]>
-    requires { IsTrue (is_sorted nat_cmp entries.now) }
-    ensures { IfSome result (λ rest. RaisesRows nat_cmp (λ n. n.0) (row process some_calls) max_joining (length entries.now) bytes.now rest.now entries.now entries.now) }
-{
-    let mut rest = bytes;
-    for entry in entries {
-        let (process, number, after) = front_row(rest)?;
-        if process != entry.0.number() || number == 0 || entry.1.0 < number {
-            return None;
-        }
-        rest = after;
-    }
-    Some(rest)
-}
-
 // Joins fours of them, as long as they stand at the taker's first processes. Tells how many were joined, and the bytes after them.
 fn raise_fours<'a>(
     entries: &mut Vec<(Proc, Max)>,

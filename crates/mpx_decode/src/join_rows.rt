@@ -39,11 +39,6 @@ pub trait WireJoin: Drop {
     fn read_new(version: Version, alloc: Global, bytes: &[u8]) -> Result<(Self, &[u8]), ReadError>
         ensures { Gives (λ x. (view x.0, x.1.now)) result ((wire version).read bytes.now) };
 
-    /// The bytes behind the value at the front, where it is seen to be below this one.
-    fn behind<'a>(&self, version: Version, bytes: &'a [u8]) -> Option<&'a [u8]>
-        requires { StandsInFront (wire version) bytes.now }
-        ensures { IfSome result (λ rest. JoinsFront (wire version) joining bytes.now rest.now (view self.now) (view self.now)) };
-
     /// Joins the value at the front to this one, and gives the bytes after it. An `Err` leaves a value between.
     fn raise<'a>(
         &mut self,
@@ -60,8 +55,7 @@ pub trait WireJoin: Drop {
     ghost between_laws: { BetweenLaws joining between };
 }
 
-// Joins so many entries at the front, one after the other. Where the taker has the same keys, each is found at once; what says nothing
-// new is passed over.
+// Joins so many entries at the front, one after the other. Where the taker has the same keys, each is found at once.
 pub fn raise_entries<'a, K: Key + FrontKey, J: WireJoin>(
     version: Version,
     alloc: Global,
@@ -103,11 +97,7 @@ pub fn raise_entry<'a, K: Key + FrontKey, J: WireJoin>(
     ensures rising { IsTrue (is_sorted K.cmp entries.new.items) }
 {
     if next < entries.len() {
-        let here = &entries[next];
-        if let Some(after) = here.0.behind(bytes) {
-            if let Some(rest) = here.1.behind(version, after) {
-                return Ok((next + 1, rest));
-            }
+        if let Some(after) = entries[next].0.behind(bytes) {
             let rest = entries[next].1.raise(version, alloc, after)?;
             return Ok((next + 1, rest));
         }
