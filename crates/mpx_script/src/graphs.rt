@@ -166,7 +166,7 @@ fn neighbours_graph(
 }
 
 /// The graph of the words of a call, if it has them, or None where they are no lists of one.
-#[tactic(auto, unfolding(crate::specs::Parts::graph_in))]
+#[tactic(auto, unfolding(crate::specs::laws::Parts::graph_in))]
 pub fn graph_in(
     alloc: Global,
     new: &NewSyntax<'_>,

@@ -124,7 +124,7 @@ impl<'a> Model for NewSyntax<'a> {
 }
 
 /// What stands behind the communicator as the words of a call of this shape.
-#[tactic(auto, unfolding(crate::specs::Parts::new_in))]
+#[tactic(auto, unfolding(crate::specs::laws::Parts::new_in))]
 pub fn new_in(shape: Shape, line: &[u8]) -> NewSyntax<'_>
     ensures { result ≡ new_in shape (words line.now) }
 {
@@ -182,7 +182,7 @@ impl<'a> Model for CallSyntax<'a> {
 }
 
 /// What stands behind those words as the words of a call's fields.
-#[tactic(auto, unfolding(crate::specs::Parts::call_in))]
+#[tactic(auto, unfolding(crate::specs::laws::Parts::call_in))]
 pub fn call_in(fields: Fields, named: bool, line: &[u8]) -> CallSyntax<'_>
     ensures { result ≡ call_in fields named (words line.now) }
 {
@@ -259,7 +259,7 @@ impl<'a> Model for AskSyntax<'a> {
 }
 
 /// What stands behind a statement's word as the words of one that asks.
-#[tactic(auto, unfolding(crate::specs::Parts::ask_in))]
+#[tactic(auto, unfolding(crate::specs::laws::Parts::ask_in))]
 pub fn ask_in(asked: QuestionForm, line: &[u8]) -> AskSyntax<'_>
     ensures { result ≡ ask_in asked (words line.now) }
 {
