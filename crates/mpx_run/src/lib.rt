@@ -8,7 +8,6 @@
 
 mod check;
 mod end;
-mod follows;
 mod report;
 mod streams;
 mod texts;
