@@ -1,5 +1,5 @@
-//! Jobs of ranks in threads: how many there may be, a rank that returns before others post, and ranks that ask again where memory was
-//! wanting.
+//! Jobs of ranks in threads: how many there may be, a rank that returns before others post, one that gives up, and ranks that ask again
+//! where memory was wanting.
 use mpx_comm::{Comm, Desk, Host, Request, WaitError};
 use mpx_num::{Numbers, Op, Ops, Ty};
 use mpx_post::PostError;
@@ -36,7 +36,32 @@ impl<'a, R: Wait> Program for Leaves<'a, R> {
         if world.rank() == 3 {
             Parker::new().park_timeout(self.rt, Duration::from_millis(50));
         }
-        sum_of(alloc, desk, world, ops)
+        sum_of(alloc, desk, world, TURNS, ops)
+    }
+}
+
+// The sum of all ranks, for which they wait as long as it takes. Rank 1 gives up at once.
+#[derive(Drop)]
+struct GivesUp;
+
+impl Program for GivesUp {
+    type Answer = Option<i128>;
+
+    fn run<H: Host>(
+        &self,
+        alloc: Global,
+        desk: &mut Desk<H>,
+        world: &Comm,
+        ops: &Ops,
+    ) -> Option<i128> {
+        if world.rank() == 1 {
+            return None;
+        }
+        sum_of(alloc, desk, world, u64::MAX, ops)
+    }
+
+    fn gives_up(&self, answer: &Option<i128>) -> bool {
+        answer.is_none()
     }
 }
 
@@ -54,8 +79,8 @@ impl Program for Sums {
         world: &Comm,
         ops: &Ops,
     ) -> Option<(i128, i128)> {
-        let first = sum_of(alloc, desk, world, ops)?;
-        Some((first, sum_of(alloc, desk, world, ops)?))
+        let first = sum_of(alloc, desk, world, TURNS, ops)?;
+        Some((first, sum_of(alloc, desk, world, TURNS, ops)?))
     }
 }
 
@@ -72,11 +97,17 @@ fn posted<H: Host>(alloc: Global, desk: &mut Desk<H>, world: &Comm, ops: &Ops) -
     None
 }
 
-// The sum of the ranks' numbers: a wait is made again where memory was wanting.
-fn sum_of<H: Host>(alloc: Global, desk: &mut Desk<H>, world: &Comm, ops: &Ops) -> Option<i128> {
+// The sum of the ranks' numbers: a wait, of at most so many turns, is made again where memory was wanting.
+fn sum_of<H: Host>(
+    alloc: Global,
+    desk: &mut Desk<H>,
+    world: &Comm,
+    turns: u64,
+    ops: &Ops,
+) -> Option<i128> {
     let mut request = posted(alloc, desk, world, ops)?;
     for _ in 0..3 {
-        match desk.wait(alloc, request, TURNS, ops) {
+        match desk.wait(alloc, request, turns, ops) {
             Ok(finished) => return numbers_of(&finished).ok()?.first().copied(),
             Err(WaitError::OutOfMemory(again)) => request = again,
             Err(WaitError::StillWaiting(_)) => return None,
@@ -127,6 +158,14 @@ fn four_ranks_have_two_sums(rt: HostRuntime) -> Result<(), Fail> {
 fn a_rank_that_returned_is_heard(rt: HostRuntime) -> Result<(), Fail> {
     let answers = answers_of(&rt, rt.alloc(), (4, 0), &Leaves { rt: &rt });
     let wanted = vec![in rt.alloc(); Some(0), Some(6), Some(6), Some(6)]?;
+    assert_eq!(rt; answers, Ok(wanted));
+    Ok(())
+}
+
+#[test]
+fn nobody_waits_for_one_that_gives_up(rt: HostRuntime) -> Result<(), Fail> {
+    let answers = answers_of(&rt, rt.alloc(), (4, 1), &GivesUp);
+    let wanted = vec![in rt.alloc(); None, None, None, None]?;
     assert_eq!(rt; answers, Ok(wanted));
     Ok(())
 }
