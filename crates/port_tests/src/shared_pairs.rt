@@ -10,7 +10,7 @@ use join_core::Exact;
 use mpx_bus::{Bus, Port};
 use mpx_name::Name;
 use mpx_node::Finished;
-use mpx_num::{Listing, Ops};
+use mpx_num::{Items, Listing, Ops};
 use mpx_shared::{PortLock, SharedPort, Ticket, TicketTested};
 use std::alloc::Global;
 use std::marker::Brand;
@@ -20,8 +20,9 @@ use std::test::Fail;
 use test_drafts::a_sum;
 
 // The number that the port posted itself.
-fn mine_in(finished: &Finished) -> Option<i128> {
-    finished.mine.items()?.nums().first().copied()
+fn mine_in(alloc: Global, finished: &Finished) -> Option<i128> {
+    let items = Items::spelled(alloc, finished.mine.items()?).ok()?;
+    items.nums().first().copied()
 }
 
 // What the ticket's call gave, where that is told: the own number, and the sum.
@@ -37,7 +38,7 @@ fn told<L: PortLock, R: Wait>(
     if !finished.mine.same(&ticket.post) {
         return Err(Fail::from("another post"));
     }
-    Ok(mine_in(&finished).zip(sum_in(&finished)))
+    Ok(mine_in(alloc, &finished).zip(sum_in(&finished)))
 }
 
 // Whether the port has no such post as the ticket's.
