@@ -12,6 +12,7 @@ than 2,000 bytes.
 rows.py     prints what disagrees, and how many rows were held; exit status 1 if any disagrees. No gate runs it.
 """
 import os
+import re
 import sys
 
 sys.dont_write_bytecode = True
@@ -19,6 +20,8 @@ import reference
 
 # Options that tell more than the second opinion knows of.
 BESIDE = {"--strict", "--explain", "--trace", "--table"}
+# Behind this a line begins: a line feed, or what wipes a terminal's line.
+BEGINS = re.compile(rb"\n|\r\x1b\[K")
 TOP = os.path.join(os.path.dirname(os.path.abspath(__file__)), "..")
 
 
@@ -51,8 +54,8 @@ def rows_asked(stdin):
 
 
 def rows_told(asked, stdout):
-    """What each row prints, on both streams, and its status; None where the rows don't follow one another. What a gate has counted
-    stands behind the status."""
+    """What each row prints, on both streams, and its status; None where the rows don't follow one another. The status begins a line, which
+    a terminal's line may have been wiped from; what a gate has counted stands behind it."""
     told, at, last = [], 0, None
     stdout = stdout[: stdout.rindex(b"\n", 0, -1) + 1]
     for line, *_ in asked:
@@ -65,9 +68,10 @@ def rows_told(asked, stdout):
         else:
             end = at
             while not stdout.startswith(b"= ", end):
-                end = stdout.find(b"\n", end) + 1
-                if end == 0:
+                begins = BEGINS.search(stdout, end)
+                if begins is None:
                     return None
+                end = begins.end()
             after = stdout.find(b"\n", end) + 1
             last = stdout[at:end].decode("latin-1"), int(stdout[end + 2:after])
             at = after
