@@ -1,14 +1,16 @@
 //! What a row asks for: a call of the program, with streams as they mostly are or with such as fail, or what no call shows.
 use crate::begins::begins;
 use crate::dead::dead;
-use crate::gates::{Both, Counting};
+use crate::gates::{Both, Counting, UntilTold};
 use crate::lines::{number_of, word_at, words_of};
 use crate::statements::{last_statement, sizes, statements};
 use crate::streams::{Failing, Holding, Limited};
-use crate::terminals::{Leaping, Shown};
+use crate::terminals::{AllBegun, Leaping, Shown};
 use mpx_num::Ops;
 use mpx_program::{refuse, run_job, run_job_observed, status_of, write_message};
-use mpx_run::{Command, Gate, Job, Options, Unobserved, run_text, run_text_observed};
+use mpx_run::{
+    Command, End, Gate, Job, Observer, Options, RunError, Unobserved, run_text, run_text_observed,
+};
 use mpx_script::ReadScriptError;
 use mpx_shell::Seen;
 use mpx_words::not_text;
@@ -40,6 +42,8 @@ pub fn told<T: Threads + Wait + Sync>(
         counted(rt, alloc, script, false, ops)
     } else if word == b"both".as_slice() {
         both_asked(rt, alloc, script, ops)
+    } else if word == b"meanwhile".as_slice() {
+        told_meanwhile(rt, alloc, script, ops)
     } else if word == b"begins".as_slice() {
         begins(rt, alloc, line, script, ops)
     } else if word == b"dead".as_slice() {
@@ -315,9 +319,14 @@ fn strange_job<T: Threads + Wait + Sync>(
     let mut reader = script;
     let mut out = Vec::new(alloc);
     let answer = run_text(rt, alloc, &job, &mut reader, &mut out, ops);
-    write_message(&answer, &mut out)?;
-    writeln!(out, "= {}", status_of(&answer, false))?;
-    Ok(out)
+    with_answer(out, &answer)
+}
+
+// What a job printed, with the message and the status of its answer.
+fn with_answer(mut text: Vec<u8>, answer: &Result<End, RunError>) -> io::Result<Vec<u8>> {
+    write_message(answer, &mut text)?;
+    writeln!(text, "= {}", status_of(answer, false))?;
+    Ok(text)
 }
 
 // `both`: a run in threads in which ranks 0 and 1 are held until both have asked for their first frame.
@@ -350,6 +359,22 @@ fn counted<T: Threads + Wait + Sync>(
     Ok(out)
 }
 
+// `meanwhile`: what is told on a terminal of a run in threads that is held until all its calls have begun.
+fn told_meanwhile<T: Threads + Wait + Sync>(
+    rt: &T,
+    alloc: Global,
+    script: &[u8],
+    ops: &Ops,
+) -> io::Result<Vec<u8>> {
+    let clock = Leaping::new();
+    let gate = UntilTold::new();
+    let mut begun = AllBegun::new(alloc, &clock, &gate);
+    let mut out = Vec::new(alloc);
+    let answer = in_threads(rt, alloc, script, 0, &mut out, &mut begun, &gate, ops);
+    out.extend_from_slice(&begun.into_text())?;
+    with_answer(out, &answer)
+}
+
 // How many turns a process makes at most in a run that has a gate.
 const TURNS: u32 = 20_000;
 
@@ -362,6 +387,31 @@ fn gated<T: Threads + Wait + Sync, G: Gate + Sync>(
     gate: &G,
     ops: &Ops,
 ) -> io::Result<Vec<u8>> {
+    let mut out = Vec::new(alloc);
+    let answer = in_threads(
+        rt,
+        alloc,
+        script,
+        relays,
+        &mut out,
+        &mut Unobserved,
+        gate,
+        ops,
+    );
+    with_answer(out, &answer)
+}
+
+// The same, while somebody looks on: what is printed goes to `out`.
+fn in_threads<T: Threads + Wait + Sync, G: Gate + Sync>(
+    rt: &T,
+    alloc: Global,
+    script: &[u8],
+    relays: u8,
+    out: &mut Vec<u8>,
+    observer: &mut dyn Observer,
+    gate: &G,
+    ops: &Ops,
+) -> Result<End, RunError> {
     let job = Job {
         command: Command::Run,
         options: Options {
@@ -372,12 +422,7 @@ fn gated<T: Threads + Wait + Sync, G: Gate + Sync>(
         },
     };
     let mut reader = script;
-    let mut out = Vec::new(alloc);
-    let seen = &mut Unobserved;
-    let answer = run_text_observed(rt, alloc, &job, &mut reader, &mut out, seen, gate, ops);
-    write_message(&answer, &mut out)?;
-    writeln!(out, "= {}", status_of(&answer, false))?;
-    Ok(out)
+    run_text_observed(rt, alloc, &job, &mut reader, out, observer, gate, ops)
 }
 
 // `no-text`: what is said where a word of the call isn't UTF-8.

@@ -1,4 +1,5 @@
-//! Gates of runs in threads: one that counts steps, and one that holds two ranks until both have come.
+//! Gates of runs in threads: one that counts steps, one that holds two ranks until both have come, and one that holds all processes
+//! until somebody was told that all calls have begun.
 use mpx_group::Proc;
 use mpx_run::{BusStep, Gate, Pass};
 use std::alloc::Global;
@@ -159,4 +160,45 @@ fn meets(own: &AtomicBool, other: &AtomicBool) -> Pass {
         yield_now();
     }
     Pass::GiveUp
+}
+
+/// A gate that holds the first pop of each process until it is told that all calls have begun, so that no rank hears of another before.
+#[derive(Drop)]
+pub struct UntilTold {
+    told: AtomicBool,
+}
+
+impl UntilTold {
+    /// It wasn't told.
+    pub fn new() -> UntilTold {
+        UntilTold {
+            told: AtomicBool::new(false),
+        }
+    }
+
+    /// All calls have begun. Answers whether it was told that before.
+    pub fn tell(&self) -> bool {
+        self.told.swap(true, Ordering::SeqCst)
+    }
+}
+
+impl Gate for UntilTold {
+    ghost use Rattle.std.specs.Prelude.{◌≡◌};
+    ghost use Rattle.mpx_threads.specs.declared.gate.BusStep.TheVariants.{Pop};
+
+    ghost gives_up = { λ _gate _process step nth. (step ≡ Pop) × (nth ≡ 0) };
+
+    // It gives up after a hundred million looks.
+    fn pass(&self, _process: Proc, step: BusStep, nth: u64) -> Pass {
+        if step == BusStep::Push || nth != 0 {
+            return Pass::Go;
+        }
+        for _ in 0..100_000_000 {
+            if self.told.load(Ordering::SeqCst) {
+                return Pass::Go;
+            }
+            yield_now();
+        }
+        Pass::GiveUp
+    }
 }

@@ -1,4 +1,8 @@
 //! What a run is shown on as it goes, and a clock for it.
+use crate::gates::UntilTold;
+use mpx_run::{Observer, Progress};
+use mpx_shell::Seen;
+use std::alloc::Global;
 use std::cell::Cell;
 use std::io::{self, IsTerminal, Write};
 use std::time::{Clock, Duration};
@@ -51,5 +55,51 @@ impl Clock for Leaping {
 
     fn since_1970(&self) -> io::Result<Duration> {
         self.monotonic()
+    }
+}
+
+/// Shows on a terminal, once, how far a run in threads is when all its calls have begun, and then tells its gate.
+#[derive(Drop)]
+pub struct AllBegun<'a> {
+    seen: Seen<'a, Leaping, Shown>,
+    gate: &'a UntilTold,
+}
+
+impl<'a> AllBegun<'a> {
+    /// Nothing was shown.
+    pub fn new(alloc: Global, clock: &'a Leaping, gate: &'a UntilTold) -> AllBegun<'a> {
+        let shown = Shown {
+            text: Vec::new(alloc),
+            is_terminal: true,
+        };
+        AllBegun {
+            seen: Seen::of(&[], alloc, clock, shown),
+            gate,
+        }
+    }
+
+    /// What was shown.
+    pub fn into_text(self) -> Vec<u8> {
+        self.seen.into_writer().text
+    }
+}
+
+impl Observer for AllBegun<'_> {
+    fn turn(&mut self, number: u32, progress: Progress) {
+        self.seen.turn(number, progress);
+    }
+
+    fn follows_threads(&self) -> bool {
+        self.seen.follows_threads()
+    }
+
+    fn goes_on(&mut self, progress: Progress) {
+        if progress.done == progress.all && !self.gate.tell() {
+            self.seen.goes_on(progress);
+        }
+    }
+
+    fn over(&mut self) {
+        self.seen.over();
     }
 }

@@ -3,14 +3,14 @@ use Rattle.std.proofs.Common.{◌≡◌, ℕ, Bool, false, List, Option, Some, N
 use Rattle.std.specs.Io.KnownBytes.{Keeps}
 use Rattle.mpx_num.specs.declared.own.Operation.{Operation}
 use Rattle.mpx_threads.specs.Gates.{nowhere}
-use Rattle.mpx_run.specs.Texts.{TakesInput}
+use Rattle.mpx_run.specs.Texts.{Prints, TakesInput}
 use Rattle.mpx_run.specs.declared.end.End.{End}
 use Rattle.mpx_run.specs.declared.texts.RunError.{RunError}
 use Rattle.mpx_run.specs.declared.texts.RunError.TheVariants.{Memory}
 use Rattle.mpx_run.specs.Founded.{IsFounded}
 use Rattle.mpx_run.specs.Reports.{IsPrinted}
 use Rattle.mpx_run.proofs.Less.{runs_printed}
-use Rattle.mpx_run.proofs.Pieces.{runs_input}
+use Rattle.mpx_run.proofs.Pieces.{prints_ungated, runs_ungated}
 use Rattle.mpx_program.specs.Jobs.{AnswersText, DoesJobWith, Exits, StrictBy, StrictOn}
 use Rattle.mpx_program.specs.Strict.{IsStrict}
 use Rattle.mpx_words.specs.declared.invocation.Invocation.{Invocation}
@@ -37,8 +37,8 @@ pub does_text : (ops : List Operation) (call : Invocation) (there left old new :
     → DoesJobWith IsFounded ops call there left old new code Says
 does_text ops call there left old new text now code Says taken same a = record {
   answer = a.answer;
-  runs = runs_input IsFounded ops nowhere call.job there left old new text now a.answer taken same a.prints;
-  ungated = a.ungated;
+  runs = runs_ungated IsFounded ops call.job there left old new text a.answer taken
+      (prints_ungated IsFounded ops nowhere call.job text old new a.answer a.ungated (subst (λ xs. Prints IsFounded ops nowhere call.job xs old new a.answer) same a.prints));
   complains = a.complains;
   strict = by_answer a.answer a.complains a.strict;
   more = a.more;
@@ -52,8 +52,7 @@ does_text ops call there left old new text now code Says taken same a = record {
 pub does_printed : (ops : List Operation) (call : Invocation) (there left old new : Option (List ℕ)) (code : ℕ) (Says : List ℕ → Type 0) → DoesJobWith IsFounded ops call there left old new code Says → DoesJobWith IsPrinted ops call there left old new code Says
 does_printed ops call there left old new code Says d = record {
   answer = d.answer;
-  runs = runs_printed ops nowhere call.job there left old new d.answer d.runs;
-  ungated = d.ungated;
+  runs = runs_printed ops call.job there left old new d.answer d.runs;
   complains = d.complains;
   strict = d.strict;
   more = d.more;

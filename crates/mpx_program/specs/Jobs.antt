@@ -6,7 +6,7 @@ use Rattle.clap.specs.declared.error.kind.ErrorKind.{ErrorKind}
 use Rattle.clap.specs.declared.error.kind.ErrorKind.TheVariants as kind
 use Rattle.mpx_num.specs.declared.own.Operation.{Operation}
 use Rattle.mpx_threads.specs.Gates.{nowhere}
-use Rattle.mpx_run.specs.Texts.{OfRuns, Prints, Runs, TakesInput}
+use Rattle.mpx_run.specs.Texts.{OfRuns, Prints, RunsUngated, TakesInput}
 use Rattle.mpx_run.specs.declared.end.End.{End}
 use Rattle.mpx_run.specs.declared.texts.RunError.{RunError}
 use Rattle.mpx_run.specs.declared.texts.RunError.TheVariants.{GateGaveUp}
@@ -46,8 +46,7 @@ StrictBy ops call there left (Err error) complains = Unit {0}
 -- `--explain` the standard error is told more
 pub record DoesJobWith (Is : OfRuns) (ops : List Operation) (call : Invocation) (there left old new : Option (List ℕ)) (code : ℕ) (Says : List ℕ → Type 0) : Type 0 where
   pub answer : Result End RunError
-  pub runs : Runs Is ops nowhere call.job there left old new answer
-  pub ungated : answer ≢ Err GateGaveUp
+  pub runs : RunsUngated Is ops call.job there left old new answer
   pub complains : Bool
   pub strict : StrictBy ops call there left answer complains
   pub more : List ℕ

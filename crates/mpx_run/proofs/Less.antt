@@ -6,10 +6,9 @@ use Rattle.mpx_statement.specs.declared.job.Command.TheVariants.{Run, Eval, Chec
 use Rattle.mpx_statement.specs.declared.job.Job.{Job}
 use Rattle.mpx_statement.specs.declared.job.Options.{Options}
 use Rattle.mpx_script.specs.ScriptView.{ScriptView}
-use Rattle.mpx_threads.specs.declared.gate.BusStep.{BusStep}
 use Rattle.mpx_run.specs.Founded.{IsFounded, IsFoundedIn}
 use Rattle.mpx_run.specs.Reports.{IsPrinted}
-use Rattle.mpx_run.specs.Texts.{ComesTo, DoneTo, Prints, PrintsPart, PrintsWhole, Runs, RunsInput}
+use Rattle.mpx_run.specs.Texts.{ComesTo, DoneTo, PrintsUngated, RunsUngated}
 use Rattle.mpx_run.specs.declared.end.End.{End}
 use Rattle.mpx_run.specs.declared.texts.RunError.{RunError}
 use Rattle.mpx_run.specs.declared.texts.RunError.TheVariants as E
@@ -27,23 +26,20 @@ comes_printed ops Check options script end text c = c
 done_printed : (ops : List Operation) (job : Job) (text : List ℕ) (end : End) (out : List ℕ) → DoneTo IsFounded ops job text end out → DoneTo IsPrinted ops job text end out
 done_printed ops job text end out d = record { script = d.script; read = d.read; comes = comes_printed ops job.command job.options d.script end out d.comes }
 
-prints_printed : (ops : List Operation) (gives_up : ℕ → BusStep → ℕ → Type 0) (job : Job) (text : List ℕ) (old new : Option (List ℕ)) (answer : Result End RunError) → Prints IsFounded ops gives_up job text old new answer → Prints IsPrinted ops gives_up job text old new answer
-prints_printed ops gives_up job text old new (Ok end) p = record { out = p.out; comes = done_printed ops job text end p.out p.comes; written = p.written }
-prints_printed ops gives_up job text old new (Err (E.Script refusal)) p = p
-prints_printed ops gives_up job text old new (Err E.TooManyProcesses) p = p
-prints_printed ops gives_up job text old new (Err E.Memory) p = p
-prints_printed ops gives_up job text old new (Err E.Read) p = p
-prints_printed ops gives_up job text old new (Err E.Write) p = record { end = p.end; out = p.out; comes = done_printed ops job text p.end p.out p.comes; count = p.count; written = p.written }
-prints_printed ops gives_up job text old new (Err E.GateGaveUp) p = p
+prints_printed : (ops : List Operation) (job : Job) (text : List ℕ) (old new : Option (List ℕ)) (answer : Result End RunError) → PrintsUngated IsFounded ops job text old new answer → PrintsUngated IsPrinted ops job text old new answer
+prints_printed ops job text old new (Ok end) p = (p.0, done_printed ops job text end p.0 p.1, p.2)
+prints_printed ops job text old new (Err (E.Script refusal)) p = p
+prints_printed ops job text old new (Err E.TooManyProcesses) p = p
+prints_printed ops job text old new (Err E.Memory) p = p
+prints_printed ops job text old new (Err E.Read) p = p
+prints_printed ops job text old new (Err E.Write) p = (p.0, p.1, p.2, done_printed ops job text p.0 p.1 p.3, p.4)
+prints_printed ops job text old new (Err E.GateGaveUp) p = p
 
-input_printed : (ops : List Operation) (gives_up : ℕ → BusStep → ℕ → Type 0) (job : Job) (there left old new : Option (List ℕ)) (answer : Result End RunError) → RunsInput IsFounded ops gives_up job there left old new answer → RunsInput IsPrinted ops gives_up job there left old new answer
-input_printed ops gives_up job there left old new answer r = record { text = r.text; taken = r.taken; prints = prints_printed ops gives_up job r.text old new answer r.prints }
-
-pub runs_printed : (ops : List Operation) (gives_up : ℕ → BusStep → ℕ → Type 0) (job : Job) (there left old new : Option (List ℕ)) (answer : Result End RunError) → Runs IsFounded ops gives_up job there left old new answer → Runs IsPrinted ops gives_up job there left old new answer
-runs_printed ops gives_up job there left old new (Err E.Memory) r = r
-runs_printed ops gives_up job there left old new (Err E.Read) r = r
-runs_printed ops gives_up job there left old new (Ok end) r = input_printed ops gives_up job there left old new (Ok end) r
-runs_printed ops gives_up job there left old new (Err (E.Script refusal)) r = input_printed ops gives_up job there left old new (Err (E.Script refusal)) r
-runs_printed ops gives_up job there left old new (Err E.TooManyProcesses) r = input_printed ops gives_up job there left old new (Err E.TooManyProcesses) r
-runs_printed ops gives_up job there left old new (Err E.Write) r = input_printed ops gives_up job there left old new (Err E.Write) r
-runs_printed ops gives_up job there left old new (Err E.GateGaveUp) r = input_printed ops gives_up job there left old new (Err E.GateGaveUp) r
+pub runs_printed : (ops : List Operation) (job : Job) (there left old new : Option (List ℕ)) (answer : Result End RunError) → RunsUngated IsFounded ops job there left old new answer → RunsUngated IsPrinted ops job there left old new answer
+runs_printed ops job there left old new (Ok end) r = (r.0, r.1, prints_printed ops job r.0 old new (Ok end) r.2)
+runs_printed ops job there left old new (Err E.Memory) r = r
+runs_printed ops job there left old new (Err E.Read) r = r
+runs_printed ops job there left old new (Err (E.Script refusal)) r = r
+runs_printed ops job there left old new (Err E.TooManyProcesses) r = r
+runs_printed ops job there left old new (Err E.Write) r = (r.0, r.1, prints_printed ops job r.0 old new (Err E.Write) r.2)
+runs_printed ops job there left old new (Err E.GateGaveUp) r = absurd r.2

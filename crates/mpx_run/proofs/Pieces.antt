@@ -1,6 +1,6 @@
 -- What is read and written, piece by piece.
-use Rattle.std.proofs.Common.{◌≡◌, ℕ, ◌+◌, ◌-◌, ◌≤◌, List, [], ◌++◌, length, take, drop, Option, Some, None, sym, ap, ◌∙◌, ◌<◌, arith, subst, Ok}
-use Rattle.std.specs.Prelude.{IfSome, min, Result, Err, OnErr}
+use Rattle.std.proofs.Common.{◌≡◌, refl, ℕ, ◌+◌, ◌-◌, ◌≤◌, List, [], ◌++◌, length, take, drop, Option, Some, None, sym, ap, ◌∙◌, ◌<◌, arith, subst, Ok}
+use Rattle.std.specs.Prelude.{◌≢◌, IfSome, min, Result, Err, OnErr}
 use Rattle.std.specs.Io.KnownBytes.{Appends, Keeps, Consumes, IsAtEnd}
 use Rattle.std.proofs.lemmas.List.{append-nil, append_assoc, take_all, length-drop, length-append, length-take, length-take-le, take-append-le}
 use Rattle.std.proofs.Math.Nat.{min-le_left, min-le_right, le-min}
@@ -10,7 +10,7 @@ use Rattle.mpx_run.specs.declared.end.End.{End}
 use Rattle.mpx_statement.specs.declared.job.Job.{Job}
 use Rattle.mpx_script.specs.Words.{bytes_limit}
 use Rattle.mpx_threads.specs.declared.gate.BusStep.{BusStep}
-use Rattle.mpx_run.specs.Texts.{OfRuns, Prints, TakesInput, TakesPart, Runs}
+use Rattle.mpx_run.specs.Texts.{OfRuns, Prints, PrintsUngated, Runs, RunsUngated, TakesInput, TakesPart}
 use Rattle.mpx_run.specs.declared.texts.RunError.{RunError}
 use Rattle.mpx_run.specs.declared.texts.RunError.TheVariants as E
 
@@ -125,13 +125,33 @@ takes_part None left text t = ([], omega arith, tt)
 takes_part (Some all) left text t = (text, subst (λ xs. length xs ≤ bytes_limit + 1) (sym t.0) (within_take (bytes_limit + 1) all), t.1)
 
 -- the answer of a text's run is that of a reader which gives the text
+pub runs_ungated : (Is : OfRuns) (ops : List Operation) (job : Job) (there left old new : Option (List ℕ)) (text : List ℕ) (answer : Result End RunError) → TakesInput there left text → PrintsUngated Is ops job text old new answer → RunsUngated Is ops job there left old new answer
+runs_ungated Is ops job there left old new text (Ok end) t p = (text, t, p)
+runs_ungated Is ops job there left old new text (Err (E.Script refusal)) t p = (text, t, p)
+runs_ungated Is ops job there left old new text (Err E.TooManyProcesses) t p = (text, t, p)
+runs_ungated Is ops job there left old new text (Err E.Memory) t p = (takes_part there left text t, p)
+runs_ungated Is ops job there left old new text (Err E.Read) t p = absurd p
+runs_ungated Is ops job there left old new text (Err E.Write) t p = (text, t, p)
+runs_ungated Is ops job there left old new text (Err E.GateGaveUp) t p = absurd p
+
+-- the same where a gate may end it
 pub runs_input : (Is : OfRuns) (ops : List Operation) (gives_up : ℕ → BusStep → ℕ → Type 0) (job : Job) (there left old new : Option (List ℕ)) (text now : List ℕ) (answer : Result End RunError) → TakesInput there left text → now ≡ text → Prints Is ops gives_up job now old new answer → Runs Is ops gives_up job there left old new answer
 runs_input Is ops gives_up job there left old new text now answer t e p = by_answer answer (subst (λ xs. Prints Is ops gives_up job xs old new answer) e p) where
   by_answer : (a : Result End RunError) → Prints Is ops gives_up job text old new a → Runs Is ops gives_up job there left old new a
-  by_answer (Ok end) q = record { text = text; taken = t; prints = q }
-  by_answer (Err (E.Script refusal)) q = record { text = text; taken = t; prints = q }
-  by_answer (Err E.TooManyProcesses) q = record { text = text; taken = t; prints = q }
-  by_answer (Err E.Memory) q = (takes_part there left text t, q)
-  by_answer (Err E.Read) q = absurd q
-  by_answer (Err E.Write) q = record { text = text; taken = t; prints = q }
-  by_answer (Err E.GateGaveUp) q = record { text = text; taken = t; prints = q }
+  by_answer (Ok end) q = runs_ungated Is ops job there left old new text (Ok end) t q
+  by_answer (Err (E.Script refusal)) q = runs_ungated Is ops job there left old new text (Err (E.Script refusal)) t q
+  by_answer (Err E.TooManyProcesses) q = runs_ungated Is ops job there left old new text (Err E.TooManyProcesses) t q
+  by_answer (Err E.Memory) q = runs_ungated Is ops job there left old new text (Err E.Memory) t q
+  by_answer (Err E.Read) q = runs_ungated Is ops job there left old new text (Err E.Read) t q
+  by_answer (Err E.Write) q = runs_ungated Is ops job there left old new text (Err E.Write) t q
+  by_answer (Err E.GateGaveUp) q = (text, t, q.0, q.1)
+
+-- what an answer says that isn't a gate's
+pub prints_ungated : (Is : OfRuns) (ops : List Operation) (gives_up : ℕ → BusStep → ℕ → Type 0) (job : Job) (text : List ℕ) (old new : Option (List ℕ)) (answer : Result End RunError) → (answer ≢ Err E.GateGaveUp) → Prints Is ops gives_up job text old new answer → PrintsUngated Is ops job text old new answer
+prints_ungated Is ops gives_up job text old new (Ok end) other p = p
+prints_ungated Is ops gives_up job text old new (Err (E.Script refusal)) other p = p
+prints_ungated Is ops gives_up job text old new (Err E.TooManyProcesses) other p = p
+prints_ungated Is ops gives_up job text old new (Err E.Memory) other p = p
+prints_ungated Is ops gives_up job text old new (Err E.Read) other p = p
+prints_ungated Is ops gives_up job text old new (Err E.Write) other p = p
+prints_ungated Is ops gives_up job text old new (Err E.GateGaveUp) other p = absurd (other refl)

@@ -77,25 +77,26 @@ pub record DoneTo (Is : OfRuns) (ops : List Operation) (job : Job) (text : List 
   pub comes : ComesTo Is ops job.command job.options script end out
 
 -- a text is read as a script that has too many ranks to be run with so many relays
-pub record HasTooMany (ops : List Operation) (job : Job) (text : List ℕ) : Type 0 where
-  pub script : ScriptView
-  pub read : reading ops text ≡ Ok script
-  pub runs : job.command ≡ Run
-  pub many : 64 < script.ranks + job.options.relays
+abbrev pub HasTooMany : (ops : List Operation) (job : Job) (text : List ℕ) → Type 0
+HasTooMany ops job text = (script : ScriptView) × (reading ops text ≡ Ok script) × (job.command ≡ Run) × (64 < script.ranks + job.options.relays)
 
--- all that comes of the text is out
-pub record PrintsWhole (Is : OfRuns) (ops : List Operation) (job : Job) (text : List ℕ) (old new : Option (List ℕ)) (end : End) : Type 0 where
-  pub out : List ℕ
-  pub comes : DoneTo Is ops job text end out
-  pub written : Appends old new out
+-- what is out after a job with a text that no gate ends, by the answer: all that comes of the text or, where writing fails, a beginning of that
+abbrev pub PrintsUngated : (Is : OfRuns) (ops : List Operation) (job : Job) (text : List ℕ) (old new : Option (List ℕ)) → Result End RunError → Type 0
+PrintsUngated Is ops job text old new (Ok end) = (out : List ℕ) × DoneTo Is ops job text end out × Appends old new out
+PrintsUngated Is ops job text old new (Err (E.Script refusal)) = (reading ops text ≡ Err refusal) × Keeps old new
+PrintsUngated Is ops job text old new (Err E.TooManyProcesses) = HasTooMany ops job text × Keeps old new
+PrintsUngated Is ops job text old new (Err E.Memory) = Keeps old new
+PrintsUngated Is ops job text old new (Err E.Read) = ⊥
+PrintsUngated Is ops job text old new (Err E.Write) = (end : End) × (out : List ℕ) × (count : ℕ) × DoneTo Is ops job text end out × Appends old new (take count out)
+PrintsUngated Is ops job text old new (Err E.GateGaveUp) = ⊥
 
--- a beginning of it is out
-pub record PrintsPart (Is : OfRuns) (ops : List Operation) (job : Job) (text : List ℕ) (old new : Option (List ℕ)) : Type 0 where
-  pub end : End
-  pub out : List ℕ
-  pub comes : DoneTo Is ops job text end out
-  pub count : ℕ
-  pub written : Appends old new (take count out)
+-- what a reader has left and what is out after a job that no gate ends, by the answer
+abbrev pub RunsUngated : (Is : OfRuns) (ops : List Operation) (job : Job) (there left old new : Option (List ℕ)) → Result End RunError → Type 0
+RunsUngated Is ops job there left old new (Err E.Memory) = TakesPart there left × Keeps old new
+RunsUngated Is ops job there left old new (Err E.Read) = TakesPart there left × Keeps old new
+RunsUngated Is ops job there left old new answer = (text : List ℕ) × TakesInput there left text × PrintsUngated Is ops job text old new answer
+
+-- WHERE A GATE MAY END IT
 
 -- a run in threads is asked for: a gate may end it
 abbrev pub IsGated : Job → Type 0
@@ -114,22 +115,10 @@ pub record IsGivenUp (ops : List Operation) (gives_up : ℕ → BusStep → ℕ 
 
 -- what is out after a job with a text, by the answer, where the gate gives up there
 abbrev pub Prints : (Is : OfRuns) (ops : List Operation) (gives_up : ℕ → BusStep → ℕ → Type 0) (job : Job) (text : List ℕ) (old new : Option (List ℕ)) → Result End RunError → Type 0
-Prints Is ops gives_up job text old new (Ok end) = PrintsWhole Is ops job text old new end
-Prints Is ops gives_up job text old new (Err (E.Script refusal)) = (reading ops text ≡ Err refusal) × Keeps old new
-Prints Is ops gives_up job text old new (Err E.TooManyProcesses) = HasTooMany ops job text × Keeps old new
-Prints Is ops gives_up job text old new (Err E.Memory) = Keeps old new
-Prints Is ops gives_up job text old new (Err E.Read) = ⊥
-Prints Is ops gives_up job text old new (Err E.Write) = PrintsPart Is ops job text old new
 Prints Is ops gives_up job text old new (Err E.GateGaveUp) = IsGivenUp ops gives_up job text × Keeps old new
-
--- the reader's text is taken, and the job done with it
-pub record RunsInput (Is : OfRuns) (ops : List Operation) (gives_up : ℕ → BusStep → ℕ → Type 0) (job : Job) (there left old new : Option (List ℕ)) (answer : Result End RunError) : Type 0 where
-  pub text : List ℕ
-  pub taken : TakesInput there left text
-  pub prints : Prints Is ops gives_up job text old new answer
+Prints Is ops gives_up job text old new answer = PrintsUngated Is ops job text old new answer
 
 -- what a reader has left and what is out after a job, by the answer, where the gate gives up there
 abbrev pub Runs : (Is : OfRuns) (ops : List Operation) (gives_up : ℕ → BusStep → ℕ → Type 0) (job : Job) (there left old new : Option (List ℕ)) → Result End RunError → Type 0
-Runs Is ops gives_up job there left old new (Err E.Memory) = TakesPart there left × Keeps old new
-Runs Is ops gives_up job there left old new (Err E.Read) = TakesPart there left × Keeps old new
-Runs Is ops gives_up job there left old new answer = RunsInput Is ops gives_up job there left old new answer
+Runs Is ops gives_up job there left old new (Err E.GateGaveUp) = (text : List ℕ) × TakesInput there left text × IsGivenUp ops gives_up job text × Keeps old new
+Runs Is ops gives_up job there left old new answer = RunsUngated Is ops job there left old new answer

@@ -8,6 +8,7 @@
 
 mod check;
 mod end;
+mod follows;
 mod report;
 mod streams;
 mod texts;

@@ -7,6 +7,7 @@ ghost use Rattle.mpx_run.specs.Founded.{IsSimulated, IsThreaded, cause_of, threa
 ghost use Rattle.mpx_run.specs.Reports.{EndsSo, IsBy, IsEvaluatedText, lines_at};
 
 use crate::end::{Cause, End};
+use crate::follows::Follows;
 use join_core::OutOfMemory;
 use mpx_eval::eval;
 use mpx_meaning::Report;
@@ -14,7 +15,7 @@ use mpx_num::{Listing, Ops, push_number};
 use mpx_script::Script;
 use mpx_sim::{Observer, run_sim_observed};
 use mpx_statement::Options;
-use mpx_threads::{Gate, NobodyLooks, ThreadsError, run_threads};
+use mpx_threads::{Gate, ThreadsError, run_threads};
 use std::alloc::Global;
 use std::sync::Wait;
 use std::thread::Threads;
@@ -63,6 +64,7 @@ pub(crate) fn print_threads<T: Threads + Wait + Sync, G: Gate + Sync>(
     alloc: Global,
     script: &Script,
     options: &Options,
+    observer: &mut dyn Observer,
     gate: &G,
     ops: &Ops,
 ) -> Result<Printed, ThreadsError>
@@ -71,7 +73,9 @@ pub(crate) fn print_threads<T: Threads + Wait + Sync, G: Gate + Sync>(
     ensures founded { IfOk result (λ printed. IsThreaded (⟦<Ops as Listing>⟧.operations ops.now) options.now script.now printed.end (string_bytes printed.text)) }
     ensures gave_up { IfErr result (λ e. e ≡ ThreadsError.GateGaveUp → GivesUpAmong (G.gives_up gate.now) (script.now.ranks + options.now.relays) options.now.turns) }
 {
-    let run = run_threads(rt, alloc, script, options, gate, NobodyLooks, ops)?;
+    let looks = observer.follows_threads();
+    let follows = Follows { observer, looks };
+    let run = run_threads(rt, alloc, script, options, gate, follows, ops)?;
     let cause = cause_in_threads(run.rests);
     match print_report(alloc, run.report, script.ranks(), cause) {
         Ok(printed) => Ok(printed),

@@ -112,8 +112,8 @@ pub fn run_text<T: Threads + Wait + Sync, R: Read, W: Write>(
     )
 }
 
-/// Reads a script, and writes what it comes to, as [`run_text`] does. `observer` looks on at a simulated run; `gate` is asked
-/// before each step of a run in threads, which answers `GateGaveUp` only where the gate may give up at a step of one of its processes.
+/// Reads a script, and writes what it comes to, as [`run_text`] does. `observer` looks on at the run; `gate` is asked
+/// before each step of one in threads, which answers `GateGaveUp` only where the gate may give up at a step of one of its processes.
 pub fn run_text_observed<T: Threads + Wait + Sync, R: Read, W: Write, G: Gate + Sync>(
     rt: &T,
     alloc: Global,
@@ -157,8 +157,8 @@ pub fn run_bytes<T: Threads + Wait + Sync, W: Write>(
     )
 }
 
-/// Does the job with the script that the bytes are, as [`run_text_observed`] does once it has read them: the observer looks on at a
-/// simulated run, and the gate may end a run in threads.
+/// Does the job with the script that the bytes are, as [`run_text_observed`] does once it has read them: the observer looks on at the
+/// run, and the gate may end one in threads.
 pub fn run_bytes_observed<T: Threads + Wait + Sync, W: Write, G: Gate + Sync>(
     rt: &T,
     alloc: Global,
@@ -219,7 +219,7 @@ fn printed_of<T: Threads + Wait + Sync, G: Gate + Sync>(
     match job.command {
         Command::Run => {
             if job.options.threads {
-                return print_threads(rt, alloc, script, &job.options, gate, ops);
+                return print_threads(rt, alloc, script, &job.options, observer, gate, ops);
             }
             Ok(print(rt, alloc, script, &job.options, observer, ops)?)
         }

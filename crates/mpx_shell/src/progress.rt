@@ -80,11 +80,11 @@ impl<C: Clock, S: Write + IsTerminal + Drop> Observer for HowFar<'_, C, S> {
         if !self.tells() {
             return;
         }
-        let (finished, ranks) = (progress.finished, progress.ranks);
+        let (ended, ranks) = (progress.finished, progress.ranks);
         let (begun, all) = (progress.done, progress.all);
         let _ = write!(
             self.out,
-            "\r{finished} of {ranks} ranks have finished, {begun} of {all} calls begun"
+            "\r{ended} of {ranks} ranks have ended, {begun} of {all} calls begun"
         );
     }
 
