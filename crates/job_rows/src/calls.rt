@@ -1,16 +1,13 @@
 //! What a row asks for: a call of the program, with streams as they mostly are or with such as fail, or what no call shows.
 use crate::begins::begins;
 use crate::dead::dead;
-use crate::gates::{Both, Counting, UntilTold};
+use crate::gated_runs::{both_asked, counted, strange_job, told_meanwhile};
 use crate::lines::{number_of, word_at, words_of};
 use crate::statements::{last_statement, sizes, statements};
 use crate::streams::{Failing, Holding, Limited};
-use crate::terminals::{AllBegun, Leaping, Shown};
+use crate::terminals::{Leaping, Shown};
 use mpx_num::Ops;
-use mpx_program::{refuse, run_job, run_job_observed, status_of, write_message};
-use mpx_run::{
-    Command, End, Gate, Job, Observer, Options, RunError, Unobserved, run_text, run_text_observed,
-};
+use mpx_program::{refuse, run_job, run_job_observed};
 use mpx_script::ReadScriptError;
 use mpx_shell::Seen;
 use mpx_words::not_text;
@@ -285,144 +282,6 @@ fn status<T: Threads + Wait + Sync>(
     let mut reader = script;
     let exit = run_job(rt, alloc, &words, &mut reader, &mut out, &mut said, ops);
     Ok(format!(in alloc; "= {}\n", exit.status)?.into_bytes())
-}
-
-// Options of a run that can't be: with one rank there are too many processes, and no frame comes.
-const STRANGE: Options = Options {
-    threads: false,
-    seed: 1,
-    loss: 100,
-    relays: 63,
-    turns: 100_000,
-    workers: None,
-};
-
-// `job WORD`: the job of this word with strange options, which do nothing for a check and an evaluation.
-fn strange_job<T: Threads + Wait + Sync>(
-    rt: &T,
-    alloc: Global,
-    word: &[u8],
-    script: &[u8],
-    ops: &Ops,
-) -> io::Result<Vec<u8>> {
-    let command = if word == b"check".as_slice() {
-        Command::Check
-    } else if word == b"eval".as_slice() {
-        Command::Eval
-    } else {
-        Command::Run
-    };
-    let job = Job {
-        command,
-        options: STRANGE,
-    };
-    let mut reader = script;
-    let mut out = Vec::new(alloc);
-    let answer = run_text(rt, alloc, &job, &mut reader, &mut out, ops);
-    with_answer(out, &answer)
-}
-
-// What a job printed, with the message and the status of its answer.
-fn with_answer(mut text: Vec<u8>, answer: &Result<End, RunError>) -> io::Result<Vec<u8>> {
-    write_message(answer, &mut text)?;
-    writeln!(text, "= {}", status_of(answer, false))?;
-    Ok(text)
-}
-
-// `both`: a run in threads in which ranks 0 and 1 are held until both have asked for their first frame.
-fn both_asked<T: Threads + Wait + Sync>(
-    rt: &T,
-    alloc: Global,
-    script: &[u8],
-    ops: &Ops,
-) -> io::Result<Vec<u8>> {
-    let both = Both::new();
-    let mut out = gated(rt, alloc, script, 0, &both, ops)?;
-    if !both.were_asked() {
-        writeln!(out, "not asked")?;
-    }
-    Ok(out)
-}
-
-// `gate`: a run of three ranks and two relays in threads, which a gate ends at the fifth push of rank 0; `steps`: the same with a gate
-// that lets all pass. Behind it stands of each process whether the gate was asked for each of its steps.
-fn counted<T: Threads + Wait + Sync>(
-    rt: &T,
-    alloc: Global,
-    script: &[u8],
-    gives_up: bool,
-    ops: &Ops,
-) -> io::Result<Vec<u8>> {
-    let counting = Counting::new(alloc, 5, gives_up)?;
-    let mut out = gated(rt, alloc, script, 2, &counting, ops)?;
-    counting.tell(TURNS, &mut out)?;
-    Ok(out)
-}
-
-// `meanwhile`: what is told on a terminal of a run in threads that is held until all its calls have begun.
-fn told_meanwhile<T: Threads + Wait + Sync>(
-    rt: &T,
-    alloc: Global,
-    script: &[u8],
-    ops: &Ops,
-) -> io::Result<Vec<u8>> {
-    let clock = Leaping::new();
-    let gate = UntilTold::new();
-    let mut begun = AllBegun::new(alloc, &clock, &gate);
-    let mut out = Vec::new(alloc);
-    let answer = in_threads(rt, alloc, script, 0, &mut out, &mut begun, &gate, ops);
-    out.extend_from_slice(&begun.into_text())?;
-    with_answer(out, &answer)
-}
-
-// How many turns a process makes at most in a run that has a gate.
-const TURNS: u32 = 20_000;
-
-// A run in threads that this gate may end.
-fn gated<T: Threads + Wait + Sync, G: Gate + Sync>(
-    rt: &T,
-    alloc: Global,
-    script: &[u8],
-    relays: u8,
-    gate: &G,
-    ops: &Ops,
-) -> io::Result<Vec<u8>> {
-    let mut out = Vec::new(alloc);
-    let answer = in_threads(
-        rt,
-        alloc,
-        script,
-        relays,
-        &mut out,
-        &mut Unobserved,
-        gate,
-        ops,
-    );
-    with_answer(out, &answer)
-}
-
-// The same, while somebody looks on: what is printed goes to `out`.
-fn in_threads<T: Threads + Wait + Sync, G: Gate + Sync>(
-    rt: &T,
-    alloc: Global,
-    script: &[u8],
-    relays: u8,
-    out: &mut Vec<u8>,
-    observer: &mut dyn Observer,
-    gate: &G,
-    ops: &Ops,
-) -> Result<End, RunError> {
-    let job = Job {
-        command: Command::Run,
-        options: Options {
-            threads: true,
-            relays,
-            turns: TURNS,
-            ..STRANGE
-        },
-    };
-    let mut reader = script;
-    run_text_observed(rt, alloc, &job, &mut reader, out, observer, gate, ops)
 }
 
 // `no-text`: what is said where a word of the call isn't UTF-8.

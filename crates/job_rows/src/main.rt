@@ -10,6 +10,7 @@
 mod begins;
 mod calls;
 mod dead;
+mod gated_runs;
 mod gates;
 mod lines;
 mod more_runs;
