@@ -14,7 +14,7 @@ use Rattle.mpx_bus.specs.declared.act.View.{View}
 use Rattle.mpx_bus.specs.Acts.{DidIn, IsAhead, process_at, start_of}
 use Rattle.mpx_bus.specs.Views.{seen_as, standing, seat_of, met}
 use Rattle.mpx_bus.specs.Rule.{IsSent, world_of, StandsForOneWorld}
-use Rattle.mpx_bus.specs.Ports.{PortView, node_in, process_in}
+use Rattle.mpx_bus.specs.Ports.{PortView, node_in}
 use Rattle.mpx_bus.specs.Meetings.{HaveAllMet}
 use Rattle.mpx_bus.proofs.Journals.{onward}
 

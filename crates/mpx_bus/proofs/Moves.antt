@@ -1,6 +1,5 @@
 -- Each step on the queue keeps the rule.
 use Rattle.std.proofs.Common.{◌≡◌, ◌≢◌, ℕ, zero, suc, List, [], ◌∷◌, ◌++◌, length, set, Some, None, true≢false, slice_get, refl, sym, ap, ◌∙◌, subst, ⊎_elim}
-use Rattle.std.specs.Prelude.{IsTrue, is_ok}
 use Rattle.std.proofs.lemmas.Bool.{cases_eq}
 use Rattle.std.proofs.lemmas.List.{append-nil}
 use mathlib.Core.Option.{some, some-injective, some-ne-none}
@@ -10,8 +9,8 @@ use Rattle.crossbeam_queue.specs.Fifo.{Pushes, Pops}
 use Rattle.crossbeam_queue.proofs.Lists.{at_set, set_else}
 use Rattle.mpx_board.specs.Boards.{Look}
 use Rattle.mpx_board.specs.Contexts.{look_of}
-use Rattle.mpx_format.specs.Decoding.{decoded}
-use Rattle.mpx_format.proofs.Decoded.{decoded_again}
+use Rattle.mpx_board.specs.Parts.{PartsView}
+use Rattle.mpx_format.specs.Decoding.{IsSpelled}
 use Rattle.mpx_world.specs.Worlds.{ProcessView, WorldView, Happening}
 use Rattle.mpx_world.proofs.Lists.{slice_get-push}
 use Rattle.mpx_bus.specs.declared.act.Act.{Act}
@@ -215,7 +214,7 @@ pushes n pass v journal bytes is ahead plan may items views room h at =
 
 pub pops : (pass : ℕ) (v : View) (journal : List Act) → v ≡ standing v.setup (seat_of v ∷ []) → IsAhead v.setup (seat_of v).me (seat_of v).journal journal
     → IsPlanned v.setup (seat_of v).me journal
-    → Pops SoundQueue pass v (λ x w. (w ≡ after_pop journal x v) × Stood v.setup (seat_of v).me (seat_of w).journal × IsTrue (is_ok (decoded x)))
+    → Pops SoundQueue pass v (λ x w. (w ≡ after_pop journal x v) × Stood v.setup (seat_of v).me (seat_of w).journal × ((parts : PartsView) × IsSpelled x parts))
 pops pass v journal is ahead plan bytes items views h at =
     let s : Seen = seat_of v in
     let W : WorldView = world_of h.setup h.happenings in
@@ -239,4 +238,4 @@ pops pass v journal is ahead plan bytes items views h at =
     (λ (last : A.Popped bytes ≡ A.Popped b). subst (IsSent (W.parts ++ [])) (same_popped bytes b last) (sent_later W.parts [] bytes was)) (did_now journal (A.Popped b) (A.Popped bytes) d))
     (still_planned h.setup s.me journal new same plan')
     (λ k b e. pushed_set views pass v w b at keeps (h.frames (suc k) b e)) in
-    (w, all.0, (refl, subst (λ (u : Setup). Stood u s.me new) (sym setup) all.1, ap is_ok (decoded_again was.spells.0 bytes was.view was.spells.1)))
+    (w, all.0, (refl, subst (λ (u : Setup). Stood u s.me new) (sym setup) all.1, (was.view, was.spells)))

@@ -6,6 +6,7 @@
 mod act;
 mod both;
 mod frame;
+mod lists;
 mod meeting;
 mod port;
 mod rule;

@@ -8,22 +8,20 @@ ghost use Rattle.mpx_node.specs.Shown.{node_of};
 ghost use Rattle.mpx_bus.specs.declared.act.Act.TheVariants as A;
 ghost use Rattle.mpx_bus.specs.Views.{seat_of};
 ghost use Rattle.mpx_bus.specs.Rule.{Stood};
-ghost use Rattle.mpx_bus.specs.Ports.{CanPush, PortGoes, PortGoesOn, HasListed, HaveMet, IsFleet, IsSamePort, KeepsPlan, node_in};
+ghost use Rattle.mpx_bus.specs.Ports.{CanPush, PortGoes, PortGoesOn, HaveMet, IsFleet, IsSamePort, KeepsPlan, node_in};
 ghost use Rattle.mpx_bus.specs.Buses.{room_of, table_of};
 ghost use Rattle.mpx_bus.specs.Finished.{BothHaveFinished};
-ghost use Rattle.mpx_bus.specs.Answers.{HarvestsOne, Lists, PassesOn, PopsOne, PushesNext, PushesOne, PushesLast, TakesIn};
+ghost use Rattle.mpx_bus.specs.Answers.{HarvestsOne, PassesOn, PopsOne, PushesNext, PushesOne, PushesLast, TakesIn};
 
 use crate::both::both_finished;
-use crate::frame::{Frame, frames_with};
+use crate::frame::Frame;
 use crate::rule::{Meets, Named, Queue, QueuePass, Seats};
 use crate::steps::{name_all, opened_line, pop_to, push_to};
 use crate::trace::{
-    EmptyQueue, JournalPass, acknowledged, gathered, harvested, popped, posted, pruned, pushed,
-    stopped, took,
+    EmptyQueue, JournalPass, gathered, harvested, popped, posted, pruned, pushed, stopped, took,
 };
 use join_core::OutOfMemory;
 use mpx_board::PruneError;
-use mpx_delta::NewFrames;
 use mpx_group::Proc;
 use mpx_name::Name;
 use mpx_node::{Harvest, Node};
@@ -230,7 +228,7 @@ impl Bus {
             return Pop::Empty;
         };
         popped::<Brand>(&port.empty, &mut port.line, &frame);
-        match port.node.take_frame(alloc, frame.as_slice()) {
+        match port.node.take_rope(alloc, frame.rope()) {
             Ok(()) => {
                 took::<Brand>(&port.empty, &mut port.line, &frame);
                 Pop::Took(frame)
@@ -369,42 +367,5 @@ impl Port {
             }
             Err(refusal) => Err(refusal),
         }
-    }
-
-    // Makes a new list, where all frames of the last one were sent.
-    fn lists(&mut self, alloc: Global, limit: usize) -> Result<(), OutOfMemory>
-        requires least { 524288 ≤ limit }
-        requires most { limit ≤ 1048576 }
-        ensures port { PortGoesOn self.old self.new }
-        ensures ok { OnOk result (Lists limit self.old self.new) }
-        ensures some { OnOk result (self.new.kept ≢ []) }
-        ensures err { OnErr result (self.new ≡ self.old) }
-        ensures memory { OnErr result (self.old.kept ≡ []) }
-    {
-        if self.kept.as_slice().is_empty() {
-            self.new_list(alloc, limit)
-        } else {
-            Ok(())
-        }
-    }
-
-    // Says what the process has, and keeps the frames of what others may lack of its board.
-    fn new_list(&mut self, alloc: Global, limit: usize) -> Result<(), OutOfMemory>
-        requires none { self.old.kept ≡ [] }
-        requires least { 524288 ≤ limit }
-        requires most { limit ≤ 1048576 }
-        ensures port { PortGoesOn self.old self.new }
-        ensures ok { OnOk result (HasListed limit self.old self.new) }
-        ensures some { OnOk result (self.new.kept ≢ []) }
-        ensures err { OnErr result (self.new ≡ self.old) }
-    {
-        // what the queue's frames share can't serve once more
-        let mut spare = Vec::new(alloc);
-        let NewFrames { said, frames } = self.node.lacking_frames(alloc, limit, &mut spare)?;
-        let frames = frames_with(alloc, frames)?;
-        self.node.acknowledge(said);
-        acknowledged::<Brand>(&self.empty, &mut self.line, self.node.board());
-        self.kept = frames;
-        Ok(())
     }
 }

@@ -1,8 +1,9 @@
 //! A process's steps at the queue, under its rule, and the list of what it did, which has none at first.
-ghost use Rattle.std.specs.Prelude.{◌≡◌, [], IfOk, IsTrue, is_ok, MatchOption, MatchResult};
+ghost use Rattle.std.specs.Prelude.{◌≡◌, [], IfOk, MatchOption, MatchResult};
 ghost use Rattle.crossbeam_queue.specs.Fifo.{Pops, Pushes};
 ghost use Rattle.crossbeam_queue.specs.Passes.{IsPassOf, IsSamePass, ruled_capacity, view};
-ghost use Rattle.mpx_format.specs.Decoding.{decoded};
+ghost use Rattle.mpx_board.specs.Parts.{PartsView};
+ghost use Rattle.mpx_format.specs.Decoding.{IsSpelled};
 ghost use Rattle.mpx_bus.specs.Rule.{SoundQueue, Stood};
 ghost use Rattle.mpx_bus.specs.Views.{after_pop, after_push, maker as first_view, maker_of, seat_of};
 
@@ -43,10 +44,10 @@ pub(crate) fn pop_to<M: Aim, R: Wait>(
     requires queue { IsPassOf queue.now pass.old }
     requires line { view line.now ≡ M.journal }
     requires rule { Pops SoundQueue pass.old.id (view pass.old)
-        (λ x w. (w ≡ after_pop M.journal x (view pass.old)) × Stood (view pass.old).setup (seat_of (view pass.old)).me (seat_of w).journal × IsTrue (is_ok (decoded x))) }
+        (λ x w. (w ≡ after_pop M.journal x (view pass.old)) × Stood (view pass.old).setup (seat_of (view pass.old)).me (seat_of w).journal × ((parts : PartsView) × IsSpelled x parts)) }
     ensures queue { IsSamePass pass.old pass.new }
     ensures rule { MatchOption result (view pass.new ≡ view pass.old)
-        (λ x. (view pass.new ≡ after_pop (view line.now) x (view pass.old)) × Stood (view pass.old).setup (seat_of (view pass.old)).me (seat_of (view pass.new)).journal × IsTrue (is_ok (decoded x))) }
+        (λ x. (view pass.new ≡ after_pop (view line.now) x (view pass.old)) × Stood (view pass.old).setup (seat_of (view pass.old)).me (seat_of (view pass.new)).journal × ((parts : PartsView) × IsSpelled x parts)) }
 {
     let _ = line;
     queue.pop_as::<Takes<M>, R>(rt, pass)

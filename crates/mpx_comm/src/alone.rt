@@ -3,7 +3,8 @@ ghost use Rattle.std.specs.Prelude.{ℕ, ◌≡◌, ◌≢◌, ◌≤◌, All, I
 ghost use Rattle.mpx_board.specs.Boards.{IsBoardBelow, empty, join_all};
 ghost use Rattle.mpx_board.specs.Changes.{pruned_on};
 ghost use Rattle.mpx_board.specs.Looks.{look, parts_of};
-ghost use Rattle.mpx_format.specs.Decoding.{decoded, shown};
+ghost use Rattle.mpx_board.specs.Parts.{PartsView};
+ghost use Rattle.mpx_format.specs.Decoding.{IsSpelled, decoded, shown};
 ghost use Rattle.mpx_format.specs.Encoding.{length_told};
 ghost use Rattle.mpx_delta.specs.Facts.{OnlyFactsOf};
 ghost use Rattle.mpx_node.specs.laws.Bounded.{node_bounded};
@@ -20,6 +21,7 @@ use mpx_name::Name;
 use mpx_node::{Finished, Harvest, Node};
 use mpx_num::{Listing, Ops};
 use mpx_post::{Draft, PostError};
+use mpx_rope::Rope;
 use std::alloc::Global;
 
 /// A node that hears of nobody in a turn: whoever has it takes the others' boards.
@@ -107,6 +109,17 @@ impl Desk<Node> {
         self.host.take_frame(alloc, frame)
     }
 
+    /// The same of a frame whose items may be shared, as [`Node::take_rope`] does.
+    pub fn take_rope(&mut self, alloc: Global, frame: &Rope) -> Result<(), OutOfMemory>
+        requires spelled { (parts : PartsView) × IsSpelled frame.now parts }
+        ensures ok { OnOk result (node_of self.new.host ≡ learn (shown (decoded frame.now)) (node_of self.old.host)) }
+        ensures err { OnErr result (StopsTaking (shown (decoded frame.now)) (node_of self.old.host) (node_of self.new.host)) }
+        ensures some { OnErr result (shown (decoded frame.now) ≢ empty) }
+        ensures requests { self.new.requests.keys ≡ self.old.requests.keys }
+    {
+        self.host.take_rope(alloc, frame)
+    }
+
     /// Harvests the next call on a context, as [`Node::harvest`] does. An `Err`, for want of memory, changes nothing.
     pub fn harvest(&mut self, alloc: Global, name: &Name, ops: &Ops) -> Result<Harvest, OutOfMemory>
         ensures harvests { HarvestsNext (⟦<Ops as Listing>⟧.operations ops.now) name.now result (node_of self.old.host) (node_of self.new.host) }
@@ -146,12 +159,12 @@ impl Desk<Node> {
         &mut self,
         alloc: Global,
         limit: usize,
-        spare: &mut Vec<Vec<u8>>,
-    ) -> Result<Vec<Vec<u8>>, OutOfMemory>
+        spare: &mut Vec<Rope>,
+    ) -> Result<Vec<Rope>, OutOfMemory>
         requires least { 524288 ≤ limit }
         requires most { limit ≤ 1048576 }
         ensures own { OnOk result (SaysWhatItHas (node_of self.old.host) (node_of self.new.host)) }
-        ensures frames { IfOk result (λ made. AreLacked limit (node_of self.new.host) (map (λ frame. frame.items) made.items)) }
+        ensures frames { IfOk result (λ made. AreLacked limit (node_of self.new.host) made.items) }
         ensures err { OnErr result (node_of self.new.host ≡ node_of self.old.host) }
         ensures requests { self.new.requests.keys ≡ self.old.requests.keys }
     {
@@ -164,22 +177,22 @@ impl Desk<Node> {
         &mut self,
         alloc: Global,
         limit: usize,
-        spare: &mut Vec<Vec<u8>>,
+        spare: &mut Vec<Rope>,
     ) -> Result<NewFrames, OutOfMemory>
         requires least { 524288 ≤ limit }
         requires most { limit ≤ 1048576 }
         ensures node { node_of self.new.host ≡ node_of self.old.host }
-        ensures made { IfOk result (λ made. LackFrames limit (node_of self.old.host) made.said (map (λ frame. frame.items) made.frames.items)) }
+        ensures made { IfOk result (λ made. LackFrames limit (node_of self.old.host) made.said made.frames.items) }
         ensures requests { self.new.requests.keys ≡ self.old.requests.keys }
     {
         self.host.lacking_frames(alloc, limit, spare)
     }
 
     /// Stores what [`Desk::lacking_frames`] made from the desk as it stands, and gives its frames. It takes no memory and can't fail.
-    pub fn say(&mut self, made: NewFrames) -> Vec<Vec<u8>>
-        requires made { (limit : ℕ) × LackFrames limit (node_of self.old.host) made.said (map (λ frame. frame.items) made.frames.items) }
+    pub fn say(&mut self, made: NewFrames) -> Vec<Rope>
+        requires made { (limit : ℕ) × LackFrames limit (node_of self.old.host) made.said made.frames.items }
         ensures own { SaysWhatItHas (node_of self.old.host) (node_of self.new.host) }
-        ensures frames { (limit : ℕ) → LackFrames limit (node_of self.old.host) made.said (map (λ frame. frame.items) made.frames.items) → AreLacked limit (node_of self.new.host) (map (λ frame. frame.items) result.items) }
+        ensures frames { (limit : ℕ) → LackFrames limit (node_of self.old.host) made.said made.frames.items → AreLacked limit (node_of self.new.host) result.items }
         ensures requests { self.new.requests.keys ≡ self.old.requests.keys }
     {
         let NewFrames { said, frames } = made;

@@ -19,6 +19,7 @@ use mpx_board::{Acks, VersionVector};
 use mpx_format::{ReadError, Version};
 use mpx_group::Proc;
 use mpx_name::Name;
+use mpx_rope::Source;
 use std::alloc::Global;
 
 impl WireKey for Proc {
@@ -51,7 +52,11 @@ impl WireValue for Max {
         true
     }
 
-    fn read(_version: Version, _alloc: Global, bytes: &[u8]) -> Result<(Max, &[u8]), ReadError> {
+    fn read<'a>(
+        _version: Version,
+        _source: Source<'_>,
+        bytes: &'a [u8],
+    ) -> Result<(Max, &'a [u8]), ReadError> {
         let (number, rest) = read_some_calls(bytes)?;
         Ok((Max(number), rest))
     }
@@ -71,13 +76,13 @@ impl WireValue for VersionVector {
     }
 
     #[tactic(auto, unfolding(mpx_format::specs::Fields::numbers))]
-    fn read(
+    fn read<'a>(
         version: Version,
-        alloc: Global,
-        bytes: &[u8],
-    ) -> Result<(VersionVector, &[u8]), ReadError> {
+        source: Source<'_>,
+        bytes: &'a [u8],
+    ) -> Result<(VersionVector, &'a [u8]), ReadError> {
         let (count, rest) = read_some_byte(bytes)?;
-        let (entries, rest) = read_rows(version, alloc, count as usize, rest)?;
+        let (entries, rest) = read_rows(version, source, count as usize, rest)?;
         Ok((Keyed::from_rising(entries), rest))
     }
 }
@@ -96,23 +101,27 @@ impl WireValue for Acks {
     }
 
     #[tactic(auto, unfolding(mpx_format::specs::Fields::acks))]
-    fn read(version: Version, alloc: Global, bytes: &[u8]) -> Result<(Acks, &[u8]), ReadError> {
+    fn read<'a>(
+        version: Version,
+        source: Source<'_>,
+        bytes: &'a [u8],
+    ) -> Result<(Acks, &'a [u8]), ReadError> {
         let (count, rest) = read_some_names(bytes)?;
-        let (entries, rest) = read_entries(version, alloc, &None, count as usize, rest)?;
+        let (entries, rest) = read_entries(version, source, &None, count as usize, rest)?;
         Ok((Keyed::from_rising(entries), rest))
     }
 }
 
 #[tactic(auto, unfolding(mpx_format::specs::Fields::all_acks))]
-pub fn read_all_acks(
+pub fn read_all_acks<'a>(
     version: Version,
-    alloc: Global,
-    bytes: &[u8],
-) -> Result<(Keyed<Proc, Acks>, &[u8]), ReadError>
+    source: Source<'_>,
+    bytes: &'a [u8],
+) -> Result<(Keyed<Proc, Acks>, &'a [u8]), ReadError>
     ensures gives { Gives (λ x. (view_of_all_acks x.0, x.1.now)) result (all_acks.read bytes.now) }
     ensures some { IfErr result (λ e. (rest : List ℕ) → byte.read bytes.now ≢ Ok (0, rest)) }
 {
     let (count, rest) = read_u8(bytes)?;
-    let (entries, rest) = read_entries(version, alloc, &None, count as usize, rest)?;
+    let (entries, rest) = read_entries(version, source, &None, count as usize, rest)?;
     Ok((Keyed::from_rising(entries), rest))
 }

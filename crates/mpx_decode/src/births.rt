@@ -12,6 +12,7 @@ use crate::names::read_members;
 use crate::neighbours::EachNear;
 use mpx_birth::{Birth, Neighbours, Topology};
 use mpx_format::{ReadError, Version, out_of_limits};
+use mpx_rope::Source;
 use std::alloc::Global;
 
 fn read_nears(
@@ -83,9 +84,13 @@ impl WireValue for Birth {
     }
 
     #[tactic(auto, unfolding(mpx_format::specs::Births::birth))]
-    fn read(_version: Version, alloc: Global, bytes: &[u8]) -> Result<(Birth, &[u8]), ReadError> {
-        let (members, rest) = read_members(alloc, bytes)?;
-        let (topology, rest) = read_topology(members.len(), alloc, rest)?;
-        Ok((Birth::from_parts(alloc, members, topology)?, rest))
+    fn read<'a>(
+        _version: Version,
+        source: Source<'_>,
+        bytes: &'a [u8],
+    ) -> Result<(Birth, &'a [u8]), ReadError> {
+        let (members, rest) = read_members(source.alloc(), bytes)?;
+        let (topology, rest) = read_topology(members.len(), source.alloc(), rest)?;
+        Ok((Birth::from_parts(source.alloc(), members, topology)?, rest))
     }
 }

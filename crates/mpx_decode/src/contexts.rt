@@ -26,21 +26,22 @@ use mpx_board::{CallPosts, Entry, Lifted, Parts, VersionVector, is_said, is_told
 use mpx_format::{ReadError, Version, out_of_limits};
 use mpx_name::Name;
 use mpx_post::Post;
+use mpx_rope::Source;
 use std::alloc::Global;
 
 // A value that is told once.
-pub fn read_told<T: WireValue>(
+pub fn read_told<'a, T: WireValue>(
     version: Version,
-    alloc: Global,
-    bytes: &[u8],
-) -> Result<(Flat<T>, &[u8]), ReadError>
+    source: Source<'_>,
+    bytes: &'a [u8],
+) -> Result<(Flat<T>, &'a [u8]), ReadError>
     ensures { Gives (λ x. (flat_view T.seen x.0, x.1.now)) result ((told (T.format version)).read bytes.now) }
 {
     let (form, rest) = read_u8(bytes)?;
     if form == 0 {
         Ok((Flat::Unknown, rest))
     } else if form == 1 {
-        let (value, rest) = T::read(version, alloc, rest)?;
+        let (value, rest) = T::read(version, source, rest)?;
         Ok((Flat::Known(value), rest))
     } else if form == 2 {
         Ok((Flat::Clash, rest))
@@ -63,12 +64,12 @@ impl WireValue for Flat<Post> {
     }
 
     #[tactic(auto, unfolding(mpx_format::specs::Contexts::posted))]
-    fn read(
+    fn read<'a>(
         version: Version,
-        alloc: Global,
-        bytes: &[u8],
-    ) -> Result<(Flat<Post>, &[u8]), ReadError> {
-        let (posted, rest): (Flat<Post>, &[u8]) = read_told(version, alloc, bytes)?;
+        source: Source<'_>,
+        bytes: &'a [u8],
+    ) -> Result<(Flat<Post>, &'a [u8]), ReadError> {
+        let (posted, rest): (Flat<Post>, &[u8]) = read_told(version, source, bytes)?;
         if is_told(&posted) {
             Ok((posted, rest))
         } else {
@@ -91,27 +92,27 @@ impl WireValue for CallPosts {
     }
 
     #[tactic(auto, unfolding(mpx_format::specs::Contexts::call_posts))]
-    fn read(
+    fn read<'a>(
         version: Version,
-        alloc: Global,
-        bytes: &[u8],
-    ) -> Result<(CallPosts, &[u8]), ReadError> {
+        source: Source<'_>,
+        bytes: &'a [u8],
+    ) -> Result<(CallPosts, &'a [u8]), ReadError> {
         let (count, rest) = read_some_byte(bytes)?;
-        let (entries, rest) = read_entries(version, alloc, &None, count as usize, rest)?;
+        let (entries, rest) = read_entries(version, source, &None, count as usize, rest)?;
         Ok((Keyed::from_rising(entries), rest))
     }
 }
 
 #[tactic(auto, unfolding(mpx_format::specs::Fields::fronts))]
-fn read_fronts(
+fn read_fronts<'a>(
     version: Version,
-    alloc: Global,
-    bytes: &[u8],
-) -> Result<(VersionVector, &[u8]), ReadError>
+    source: Source<'_>,
+    bytes: &'a [u8],
+) -> Result<(VersionVector, &'a [u8]), ReadError>
     ensures { Gives (λ x. (⟦<VersionVector as Exact>⟧.view x.0, x.1.now)) result (fronts.read bytes.now) }
 {
     let (count, rest) = read_u8(bytes)?;
-    let (entries, rest) = read_rows(version, alloc, count as usize, rest)?;
+    let (entries, rest) = read_rows(version, source, count as usize, rest)?;
     Ok((Keyed::from_rising(entries), rest))
 }
 
@@ -125,27 +126,31 @@ impl WireKey for u32 {
 
 // The dropped front, and the calls at or above it.
 #[tactic(auto, unfolding(mpx_format::specs::Contexts::held, mpx_format::specs::Contexts::calls))]
-fn read_held(
+fn read_held<'a>(
     version: Version,
-    alloc: Global,
-    bytes: &[u8],
-) -> Result<(Trunc<CallPosts>, &[u8]), ReadError>
+    source: Source<'_>,
+    bytes: &'a [u8],
+) -> Result<(Trunc<CallPosts>, &'a [u8]), ReadError>
     ensures { Gives (λ x. (⟦<Trunc<CallPosts> as Exact>⟧.view x.0, x.1.now)) result ((held version).read bytes.now) }
 {
     let (dropped, rest) = read_u32(bytes)?;
     let (count, rest) = read_u32(rest)?;
-    let (calls, rest) = read_entries(version, alloc, &Some(dropped), count as usize, rest)?;
+    let (calls, rest) = read_entries(version, source, &Some(dropped), count as usize, rest)?;
     Ok((Trunc::from_rising(dropped, calls), rest))
 }
 
 // A live context.
 #[tactic(auto, unfolding(mpx_format::specs::Contexts::context, mpx_format::specs::Contexts::progress))]
-fn read_context(version: Version, alloc: Global, bytes: &[u8]) -> Result<(Entry, &[u8]), ReadError>
+fn read_context<'a>(
+    version: Version,
+    source: Source<'_>,
+    bytes: &'a [u8],
+) -> Result<(Entry, &'a [u8]), ReadError>
     ensures { Gives (λ x. (⟦<Entry as Exact>⟧.view x.0, x.1.now)) result ((context version).read bytes.now) }
 {
-    let (birth, rest): (Flat<Birth>, &[u8]) = read_told(version, alloc, bytes)?;
-    let (fronts, rest) = read_fronts(version, alloc, rest)?;
-    let (posts, rest) = read_held(version, alloc, rest)?;
+    let (birth, rest): (Flat<Birth>, &[u8]) = read_told(version, source, bytes)?;
+    let (fronts, rest) = read_fronts(version, source, rest)?;
+    let (posts, rest) = read_held(version, source, rest)?;
     let second = Pair {
         first: fronts,
         second: posts,
@@ -160,14 +165,14 @@ fn read_context(version: Version, alloc: Global, bytes: &[u8]) -> Result<(Entry,
 }
 
 // A live context, as one that may be dead and isn't.
-pub fn read_live(
+pub fn read_live<'a>(
     version: Version,
-    alloc: Global,
-    bytes: &[u8],
-) -> Result<(Lifted, &[u8]), ReadError>
+    source: Source<'_>,
+    bytes: &'a [u8],
+) -> Result<(Lifted, &'a [u8]), ReadError>
     ensures { Gives (λ x. (⟦<Lifted as Exact>⟧.view x.0, x.1.now)) result ((lift_form (context version) 0).read bytes.now) }
 {
-    let (entry, rest) = read_context(version, alloc, bytes)?;
+    let (entry, rest) = read_context(version, source, bytes)?;
     Ok((Lift::Live(entry), rest))
 }
 
@@ -186,13 +191,17 @@ impl WireValue for Lifted {
     }
 
     #[tactic(auto, unfolding(mpx_format::specs::Contexts::lifted))]
-    fn read(version: Version, alloc: Global, bytes: &[u8]) -> Result<(Lifted, &[u8]), ReadError> {
+    fn read<'a>(
+        version: Version,
+        source: Source<'_>,
+        bytes: &'a [u8],
+    ) -> Result<(Lifted, &'a [u8]), ReadError> {
         match version {
-            Version::One => read_live(version, alloc, bytes),
+            Version::One => read_live(version, source, bytes),
             Version::Two => {
                 let (form, rest) = read_u8(bytes)?;
                 if form == 0 {
-                    read_live(version, alloc, rest)
+                    read_live(version, source, rest)
                 } else if form == 1 {
                     Ok((Lift::Dead, rest))
                 } else {
@@ -204,32 +213,32 @@ impl WireValue for Lifted {
 }
 
 // What is said of contexts, by name.
-fn read_contexts(
+fn read_contexts<'a>(
     version: Version,
-    alloc: Global,
-    bytes: &[u8],
-) -> Result<(Keyed<Name, Lifted>, &[u8]), ReadError>
+    source: Source<'_>,
+    bytes: &'a [u8],
+) -> Result<(Keyed<Name, Lifted>, &'a [u8]), ReadError>
     ensures gives { Gives (λ x. (view_of_entries x.0, x.1.now)) result ((keyed name_cmp name_count name (lifted version) says_something).read bytes.now) }
     ensures some { IfErr result (λ e. (rest : List ℕ) → name_count.read bytes.now ≢ Ok (0, rest)) }
 {
     let (count, rest) = read_name_count(bytes)?;
-    let (entries, rest) = read_entries(version, alloc, &None, count as usize, rest)?;
+    let (entries, rest) = read_entries(version, source, &None, count as usize, rest)?;
     Ok((Keyed::from_rising(entries), rest))
 }
 
 /// The parts of a board, as the version spells them, at the front of these bytes, and the bytes after them. An `Err` tells the first
 /// field that is wrong, or that memory is refused; no parts take none.
 #[tactic(auto, unfolding(mpx_format::specs::Contexts::parts))]
-pub fn read_parts(
+pub fn read_parts<'a>(
     version: Version,
-    alloc: Global,
-    bytes: &[u8],
-) -> Result<(Parts, &[u8]), ReadError>
+    source: Source<'_>,
+    bytes: &'a [u8],
+) -> Result<(Parts, &'a [u8]), ReadError>
     ensures gives { Gives (λ x. (⟦<Parts as Exact>⟧.view x.0, x.1.now)) result ((parts version).read bytes.now) }
     ensures some { IfErr result (λ e. bytes.now ≢ (parts version).spelling no_parts) }
 {
-    let (contexts, rest) = read_contexts(version, alloc, bytes)?;
-    let (acks, rest) = read_all_acks(version, alloc, rest)?;
+    let (contexts, rest) = read_contexts(version, source, bytes)?;
+    let (acks, rest) = read_all_acks(version, source, rest)?;
     Ok((
         Pair {
             first: contexts,

@@ -12,6 +12,7 @@ use crate::lists::{Repeated, read_list};
 use mpx_format::{ReadError, out_of_limits};
 use mpx_num::{Spelled, Ty};
 use mpx_post::Counts;
+use mpx_rope::Source;
 use std::alloc::Global;
 
 // Counts, each at most 4,096.
@@ -69,11 +70,11 @@ pub fn read_counts(had: bool, alloc: Global, bytes: &[u8]) -> Result<(Counts, &[
 }
 
 // The items, where there is a type.
-pub fn read_items_for(
+pub fn read_items_for<'a>(
     ty: Option<Ty>,
-    alloc: Global,
-    bytes: &[u8],
-) -> Result<(Option<Spelled>, &[u8]), ReadError>
+    source: Source<'_>,
+    bytes: &'a [u8],
+) -> Result<(Option<Spelled>, &'a [u8]), ReadError>
     ensures read { Gives (λ x. (nums_of x.0, x.1.now)) result ((items_for ty).read bytes.now) }
     ensures ty { IfOk result (λ x. option_map (λ (items : ItemList). items.ty) x.0 ≡ ty) }
     ensures few { IfOk result (λ x. few_items x.0) }
@@ -81,7 +82,7 @@ pub fn read_items_for(
     match ty {
         None => Ok((None, bytes)),
         Some(ty) => {
-            let (items, rest) = read_items(ty, alloc, bytes)?;
+            let (items, rest) = read_items(ty, source, bytes)?;
             Ok((Some(items), rest))
         }
     }

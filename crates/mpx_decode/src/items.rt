@@ -7,7 +7,7 @@ ghost use Rattle.mpx_format.specs.Posts.{integer, item_count, items};
 use crate::big_endian::read_u16;
 use mpx_format::{ReadError, SHORT, out_of_limits};
 use mpx_num::{MOST_ITEMS, Spelled, Ty};
-use std::alloc::Global;
+use mpx_rope::Source;
 
 #[tactic(auto, unfolding(mpx_format::specs::Posts::item_count))]
 pub fn read_item_count(bytes: &[u8]) -> Result<(u16, &[u8]), ReadError>
@@ -23,12 +23,12 @@ pub fn read_item_count(bytes: &[u8]) -> Result<(u16, &[u8]), ReadError>
 }
 
 // So many numbers of the type, which are whole items.
-fn read_numbers(
+fn read_numbers<'a>(
     ty: Ty,
-    alloc: Global,
+    source: Source<'_>,
     count: usize,
-    bytes: &[u8],
-) -> Result<(Spelled, &[u8]), ReadError>
+    bytes: &'a [u8],
+) -> Result<(Spelled, &'a [u8]), ReadError>
     requires whole { count / item_len ty * item_len ty ≡ count }
     requires few { count ≤ 8192 }
     ensures read { Gives (λ x. (x.0.nums, x.1.now)) result (many_read (λ before. integer ty) count [] bytes.now) }
@@ -40,16 +40,20 @@ fn read_numbers(
         return Err(SHORT);
     }
     let (front, rest) = bytes.split_at(len);
-    Ok((Spelled::from_slice(alloc, ty, front)?, rest))
+    Ok((source.items(ty, front, bytes.len())?, rest))
 }
 
 // How many items, and the numbers of all of them.
 #[tactic(auto, unfolding(mpx_format::specs::Posts::items))]
-pub fn read_items(ty: Ty, alloc: Global, bytes: &[u8]) -> Result<(Spelled, &[u8]), ReadError>
+pub fn read_items<'a>(
+    ty: Ty,
+    source: Source<'_>,
+    bytes: &'a [u8],
+) -> Result<(Spelled, &'a [u8]), ReadError>
     ensures read { Gives (λ x. (x.0.nums, x.1.now)) result ((items ty).read bytes.now) }
     ensures ty { IfOk result (λ x. x.0.ty ≡ ty) }
     ensures few { IfOk result (λ x. length x.0.nums ≤ MOST_ITEMS * item_len ty) }
 {
     let (count, rest) = read_item_count(bytes)?;
-    read_numbers(ty, alloc, count as usize * ty.item_len(), rest)
+    read_numbers(ty, source, count as usize * ty.item_len(), rest)
 }

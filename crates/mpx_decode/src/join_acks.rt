@@ -29,7 +29,7 @@ use mpx_board::{Acks, VersionVector};
 use mpx_format::{ReadError, Version};
 use mpx_group::Proc;
 use mpx_name::{Name, Step};
-use std::alloc::Global;
+use mpx_rope::Source;
 use std::mem;
 
 impl FrontKey for Proc {
@@ -129,14 +129,18 @@ impl WireJoin for Max {
 
     ghost wire = { λ version. some_calls };
 
-    fn read_new(version: Version, alloc: Global, bytes: &[u8]) -> Result<(Max, &[u8]), ReadError> {
-        <Max as WireValue>::read(version, alloc, bytes)
+    fn read_new<'a>(
+        version: Version,
+        source: Source<'_>,
+        bytes: &'a [u8],
+    ) -> Result<(Max, &'a [u8]), ReadError> {
+        <Max as WireValue>::read(version, source, bytes)
     }
 
     fn raise<'a>(
         &mut self,
         _version: Version,
-        _alloc: Global,
+        _source: Source<'_>,
         bytes: &'a [u8],
     ) -> Result<&'a [u8], OutOfMemory> {
         match read_some_calls(bytes) {
@@ -166,25 +170,25 @@ impl WireJoin for VersionVector {
 
     ghost wire = { λ version. numbers };
 
-    fn read_new(
+    fn read_new<'a>(
         version: Version,
-        alloc: Global,
-        bytes: &[u8],
-    ) -> Result<(VersionVector, &[u8]), ReadError> {
-        <VersionVector as WireValue>::read(version, alloc, bytes)
+        source: Source<'_>,
+        bytes: &'a [u8],
+    ) -> Result<(VersionVector, &'a [u8]), ReadError> {
+        <VersionVector as WireValue>::read(version, source, bytes)
     }
 
     fn raise<'a>(
         &mut self,
         version: Version,
-        alloc: Global,
+        source: Source<'_>,
         bytes: &'a [u8],
     ) -> Result<&'a [u8], OutOfMemory> {
         match read_some_byte(bytes) {
             Err(_) => unreachable!(),
             Ok((count, rest)) => {
-                let mut entries = mem::replace(self, Keyed::new(alloc)).into_entries();
-                let raised = raise_numbers(version, alloc, &mut entries, count as usize, rest);
+                let mut entries = mem::replace(self, Keyed::new(source.alloc())).into_entries();
+                let raised = raise_numbers(version, source, &mut entries, count as usize, rest);
                 *self = Keyed::from_rising(entries);
                 raised
             }
@@ -207,21 +211,25 @@ impl WireJoin for Acks {
 
     ghost wire = { λ version. acks };
 
-    fn read_new(version: Version, alloc: Global, bytes: &[u8]) -> Result<(Acks, &[u8]), ReadError> {
-        <Acks as WireValue>::read(version, alloc, bytes)
+    fn read_new<'a>(
+        version: Version,
+        source: Source<'_>,
+        bytes: &'a [u8],
+    ) -> Result<(Acks, &'a [u8]), ReadError> {
+        <Acks as WireValue>::read(version, source, bytes)
     }
 
     fn raise<'a>(
         &mut self,
         version: Version,
-        alloc: Global,
+        source: Source<'_>,
         bytes: &'a [u8],
     ) -> Result<&'a [u8], OutOfMemory> {
         match read_some_names(bytes) {
             Err(_) => unreachable!(),
             Ok((count, rest)) => {
-                let mut entries = mem::replace(self, Keyed::new(alloc)).into_entries();
-                let raised = raise_entries(version, alloc, &mut entries, count as usize, rest);
+                let mut entries = mem::replace(self, Keyed::new(source.alloc())).into_entries();
+                let raised = raise_entries(version, source, &mut entries, count as usize, rest);
                 *self = Keyed::from_rising(entries);
                 raised
             }
@@ -236,7 +244,7 @@ impl WireJoin for Acks {
 // What all processes acknowledge.
 pub fn raise_all_acks<'a>(
     version: Version,
-    alloc: Global,
+    source: Source<'_>,
     all: &mut Keyed<Proc, Acks>,
     bytes: &'a [u8],
 ) -> Result<&'a [u8], OutOfMemory>
@@ -248,8 +256,8 @@ pub fn raise_all_acks<'a>(
     match read_u8(bytes) {
         Err(_) => unreachable!(),
         Ok((count, rest)) => {
-            let mut entries = mem::replace(all, Keyed::new(alloc)).into_entries();
-            let raised = raise_entries(version, alloc, &mut entries, count as usize, rest);
+            let mut entries = mem::replace(all, Keyed::new(source.alloc())).into_entries();
+            let raised = raise_entries(version, source, &mut entries, count as usize, rest);
             *all = Keyed::from_rising(entries);
             raised
         }

@@ -33,7 +33,7 @@ use mpx_board::{CallPosts, Entry, Lifted, VersionVector};
 use mpx_format::{ReadError, Version};
 use mpx_name::Name;
 use mpx_post::Post;
-use std::alloc::Global;
+use mpx_rope::Source;
 use std::mem;
 
 impl WireJoin for Flat<Post> {
@@ -47,27 +47,27 @@ impl WireJoin for Flat<Post> {
 
     ghost wire = { posted };
 
-    fn read_new(
+    fn read_new<'a>(
         version: Version,
-        alloc: Global,
-        bytes: &[u8],
-    ) -> Result<(Flat<Post>, &[u8]), ReadError> {
-        <Flat<Post> as WireValue>::read(version, alloc, bytes)
+        source: Source<'_>,
+        bytes: &'a [u8],
+    ) -> Result<(Flat<Post>, &'a [u8]), ReadError> {
+        <Flat<Post> as WireValue>::read(version, source, bytes)
     }
 
     fn raise<'a>(
         &mut self,
         version: Version,
-        alloc: Global,
+        source: Source<'_>,
         bytes: &'a [u8],
     ) -> Result<&'a [u8], OutOfMemory> {
         if let Some(rest) = behind_told(version, self, bytes) {
             return Ok(rest);
         }
-        match <Flat<Post> as WireValue>::read(version, alloc, bytes) {
+        match <Flat<Post> as WireValue>::read(version, source, bytes) {
             Err(_) => Err(OutOfMemory),
             Ok((told, rest)) => {
-                self.join_in(alloc, &told)?;
+                self.join_in(source.alloc(), &told)?;
                 Ok(rest)
             }
         }
@@ -89,25 +89,25 @@ impl WireJoin for CallPosts {
 
     ghost wire = { call_posts };
 
-    fn read_new(
+    fn read_new<'a>(
         version: Version,
-        alloc: Global,
-        bytes: &[u8],
-    ) -> Result<(CallPosts, &[u8]), ReadError> {
-        <CallPosts as WireValue>::read(version, alloc, bytes)
+        source: Source<'_>,
+        bytes: &'a [u8],
+    ) -> Result<(CallPosts, &'a [u8]), ReadError> {
+        <CallPosts as WireValue>::read(version, source, bytes)
     }
 
     fn raise<'a>(
         &mut self,
         version: Version,
-        alloc: Global,
+        source: Source<'_>,
         bytes: &'a [u8],
     ) -> Result<&'a [u8], OutOfMemory> {
         match read_some_byte(bytes) {
             Err(_) => unreachable!(),
             Ok((count, rest)) => {
-                let mut entries = mem::replace(self, Keyed::new(alloc)).into_entries();
-                let raised = raise_entries(version, alloc, &mut entries, count as usize, rest);
+                let mut entries = mem::replace(self, Keyed::new(source.alloc())).into_entries();
+                let raised = raise_entries(version, source, &mut entries, count as usize, rest);
                 *self = Keyed::from_rising(entries);
                 raised
             }
@@ -124,7 +124,7 @@ impl WireJoin for CallPosts {
 // The dropped front, and the calls at or above it.
 fn raise_held<'a>(
     version: Version,
-    alloc: Global,
+    source: Source<'_>,
     held: &mut Trunc<CallPosts>,
     bytes: &'a [u8],
 ) -> Result<&'a [u8], OutOfMemory>
@@ -138,7 +138,7 @@ fn raise_held<'a>(
             Err(_) => unreachable!(),
             Ok((count, rest)) => {
                 held.drop_below(dropped);
-                raise_calls(version, alloc, held, count, rest)
+                raise_calls(version, source, held, count, rest)
             }
         },
     }
@@ -147,7 +147,7 @@ fn raise_held<'a>(
 // So many calls.
 fn raise_calls<'a>(
     version: Version,
-    alloc: Global,
+    source: Source<'_>,
     held: &mut Trunc<CallPosts>,
     count: u32,
     bytes: &'a [u8],
@@ -158,7 +158,7 @@ fn raise_calls<'a>(
 {
     let mut rest = bytes;
     for _ in 0..count {
-        let after = raise_call(version, alloc, held, rest)?;
+        let after = raise_call(version, source, held, rest)?;
         rest = after;
     }
     Ok(rest)
@@ -167,7 +167,7 @@ fn raise_calls<'a>(
 // The call at the front. Where it is below the dropped front, it is passed over.
 fn raise_call<'a>(
     version: Version,
-    alloc: Global,
+    source: Source<'_>,
     held: &mut Trunc<CallPosts>,
     bytes: &'a [u8],
 ) -> Result<&'a [u8], OutOfMemory>
@@ -178,10 +178,10 @@ fn raise_call<'a>(
     let Ok((call, rest)) = read_call(bytes) else {
         return Err(OutOfMemory);
     };
-    match held.replace(&call, Keyed::new(alloc)) {
-        None => put_call(version, alloc, held, call, rest),
+    match held.replace(&call, Keyed::new(source.alloc())) {
+        None => put_call(version, source, held, call, rest),
         Some(mut posts) => {
-            let raised = posts.raise(version, alloc, rest);
+            let raised = posts.raise(version, source, rest);
             held.replace(&call, posts);
             raised
         }
@@ -191,7 +191,7 @@ fn raise_call<'a>(
 // The posts of a call that isn't held are put in, unless it is below the dropped front.
 fn put_call<'a>(
     version: Version,
-    alloc: Global,
+    source: Source<'_>,
     held: &mut Trunc<CallPosts>,
     call: u32,
     bytes: &'a [u8],
@@ -201,7 +201,7 @@ fn put_call<'a>(
     ensures ok { IfOk result (λ rest. PutsCall (call_posts version) call bytes.now rest.now (view_of_calls held.old) (view_of_calls held.new)) }
     ensures err { OnErr result ((view_of_calls held.new).calls ≡ (view_of_calls held.old).calls) }
 {
-    let Ok((posts, rest)) = <CallPosts as WireValue>::read(version, alloc, bytes) else {
+    let Ok((posts, rest)) = <CallPosts as WireValue>::read(version, source, bytes) else {
         return Err(OutOfMemory);
     };
     if call < held.dropped() {
@@ -216,7 +216,7 @@ fn put_call<'a>(
 // How many calls each process has harvested.
 fn raise_fronts<'a>(
     version: Version,
-    alloc: Global,
+    source: Source<'_>,
     fronts: &mut VersionVector,
     bytes: &'a [u8],
 ) -> Result<&'a [u8], OutOfMemory>
@@ -227,8 +227,8 @@ fn raise_fronts<'a>(
     match read_u8(bytes) {
         Err(_) => unreachable!(),
         Ok((count, rest)) => {
-            let mut entries = mem::replace(fronts, Keyed::new(alloc)).into_entries();
-            let raised = raise_entries(version, alloc, &mut entries, count as usize, rest);
+            let mut entries = mem::replace(fronts, Keyed::new(source.alloc())).into_entries();
+            let raised = raise_entries(version, source, &mut entries, count as usize, rest);
             *fronts = Keyed::from_rising(entries);
             raised
         }
@@ -238,7 +238,7 @@ fn raise_fronts<'a>(
 // What is told of the birth.
 fn raise_birth<'a>(
     version: Version,
-    alloc: Global,
+    source: Source<'_>,
     birth: &mut Flat<Birth>,
     bytes: &'a [u8],
 ) -> Result<&'a [u8], OutOfMemory>
@@ -246,11 +246,11 @@ fn raise_birth<'a>(
     ensures ok { IfOk result (λ rest. JoinsFront (told_format birth_format) (flat_joining same_birth) bytes.now rest.now (flat_view (λ b. b) birth.old) (flat_view (λ b. b) birth.new)) }
     ensures err { OnErr result (StopsBetween (told_format birth_format) (old_or_joined (flat_joining same_birth)) bytes.now (flat_view (λ b. b) birth.old) (flat_view (λ b. b) birth.new)) }
 {
-    let read: Result<(Flat<Birth>, &[u8]), ReadError> = read_told(version, alloc, bytes);
+    let read: Result<(Flat<Birth>, &[u8]), ReadError> = read_told(version, source, bytes);
     match read {
         Err(_) => Err(OutOfMemory),
         Ok((told, rest)) => {
-            birth.join_in(alloc, &told)?;
+            birth.join_in(source.alloc(), &told)?;
             Ok(rest)
         }
     }
@@ -259,7 +259,7 @@ fn raise_birth<'a>(
 // How far it is: the fronts and the held calls.
 fn raise_progress<'a>(
     version: Version,
-    alloc: Global,
+    source: Source<'_>,
     known: &mut Pair<VersionVector, Trunc<CallPosts>>,
     bytes: &'a [u8],
 ) -> Result<&'a [u8], OutOfMemory>
@@ -269,14 +269,14 @@ fn raise_progress<'a>(
     ensures err { OnErr result (StopsBetween (progress version) (pair_between numbers_between (trunc_between call_between)) bytes.now
         (view_of_numbers known.old.first, view_of_calls known.old.second) (view_of_numbers known.new.first, view_of_calls known.new.second)) }
 {
-    let rest = raise_fronts(version, alloc, &mut known.first, bytes)?;
-    raise_held(version, alloc, &mut known.second, rest)
+    let rest = raise_fronts(version, source, &mut known.first, bytes)?;
+    raise_held(version, source, &mut known.second, rest)
 }
 
 // A live context.
 fn raise_context<'a>(
     version: Version,
-    alloc: Global,
+    source: Source<'_>,
     entry: &mut Entry,
     bytes: &'a [u8],
 ) -> Result<&'a [u8], OutOfMemory>
@@ -284,14 +284,14 @@ fn raise_context<'a>(
     ensures ok { IfOk result (λ rest. JoinsFront (context version) entry_joining bytes.now rest.now (view_of_entry entry.old) (view_of_entry entry.new)) }
     ensures err { OnErr result (StopsBetween (context version) entry_between bytes.now (view_of_entry entry.old) (view_of_entry entry.new)) }
 {
-    let rest = raise_birth(version, alloc, &mut entry.first, bytes)?;
-    raise_progress(version, alloc, &mut entry.second, rest)
+    let rest = raise_birth(version, source, &mut entry.first, bytes)?;
+    raise_progress(version, source, &mut entry.second, rest)
 }
 
 // The same, where the taker's may be dead.
 fn raise_live<'a>(
     version: Version,
-    alloc: Global,
+    source: Source<'_>,
     known: &mut Lifted,
     bytes: &'a [u8],
 ) -> Result<&'a [u8], OutOfMemory>
@@ -300,8 +300,8 @@ fn raise_live<'a>(
     ensures err { OnErr result (StopsBetween (lift_form (context version) 0) lifted_between bytes.now (view_of_lifted known.old) (view_of_lifted known.new)) }
 {
     match known {
-        Lift::Live(entry) => raise_context(version, alloc, entry, bytes),
-        Lift::Dead => match read_live(version, alloc, bytes) {
+        Lift::Live(entry) => raise_context(version, source, entry, bytes),
+        Lift::Dead => match read_live(version, source, bytes) {
             Err(_) => Err(OutOfMemory),
             Ok((_live, rest)) => Ok(rest),
         },
@@ -319,27 +319,27 @@ impl WireJoin for Lifted {
 
     ghost wire = { lifted };
 
-    fn read_new(
+    fn read_new<'a>(
         version: Version,
-        alloc: Global,
-        bytes: &[u8],
-    ) -> Result<(Lifted, &[u8]), ReadError> {
-        <Lifted as WireValue>::read(version, alloc, bytes)
+        source: Source<'_>,
+        bytes: &'a [u8],
+    ) -> Result<(Lifted, &'a [u8]), ReadError> {
+        <Lifted as WireValue>::read(version, source, bytes)
     }
 
     fn raise<'a>(
         &mut self,
         version: Version,
-        alloc: Global,
+        source: Source<'_>,
         bytes: &'a [u8],
     ) -> Result<&'a [u8], OutOfMemory> {
         match version {
-            Version::One => raise_live(version, alloc, self, bytes),
+            Version::One => raise_live(version, source, self, bytes),
             Version::Two => match read_u8(bytes) {
                 Err(_) => unreachable!(),
                 Ok((form, rest)) => {
                     if form == 0 {
-                        raise_live(version, alloc, self, rest)
+                        raise_live(version, source, self, rest)
                     } else {
                         *self = Lift::Dead;
                         Ok(rest)
@@ -357,7 +357,7 @@ impl WireJoin for Lifted {
 // What is said of contexts, by name.
 pub fn raise_contexts<'a>(
     version: Version,
-    alloc: Global,
+    source: Source<'_>,
     contexts: &mut Keyed<Name, Lifted>,
     bytes: &'a [u8],
 ) -> Result<&'a [u8], OutOfMemory>
@@ -369,8 +369,8 @@ pub fn raise_contexts<'a>(
     match read_name_count(bytes) {
         Err(_) => unreachable!(),
         Ok((count, rest)) => {
-            let mut entries = mem::replace(contexts, Keyed::new(alloc)).into_entries();
-            let raised = raise_entries(version, alloc, &mut entries, count as usize, rest);
+            let mut entries = mem::replace(contexts, Keyed::new(source.alloc())).into_entries();
+            let raised = raise_entries(version, source, &mut entries, count as usize, rest);
             *contexts = Keyed::from_rising(entries);
             raised
         }

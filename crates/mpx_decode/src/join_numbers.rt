@@ -15,12 +15,12 @@ use crate::process_numbers::front_row;
 use join_core::{Max, OutOfMemory};
 use mpx_format::Version;
 use mpx_group::Proc;
-use std::alloc::Global;
+use mpx_rope::Source;
 
 // Joins so many numbers at the front, one after the other.
 pub fn raise_numbers<'a>(
     version: Version,
-    alloc: Global,
+    source: Source<'_>,
     entries: &mut Vec<(Proc, Max)>,
     count: usize,
     bytes: &'a [u8],
@@ -37,7 +37,7 @@ pub fn raise_numbers<'a>(
     let mut next = done;
     let mut rest = behind;
     for _ in done..count {
-        let (after, left) = raise_entry(version, alloc, entries, next, rest)?;
+        let (after, left) = raise_entry(version, source, entries, next, rest)?;
         next = after;
         rest = left;
     }

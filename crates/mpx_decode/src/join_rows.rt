@@ -13,7 +13,7 @@ use crate::entries::WireKey;
 use join_core::{Key, OutOfMemory};
 use join_nest::place_of_key;
 use mpx_format::{ReadError, Version};
-use std::alloc::Global;
+use mpx_rope::Source;
 
 /// A key that is known without being read.
 pub trait FrontKey: WireKey {
@@ -36,14 +36,18 @@ pub trait WireJoin: Drop {
     ghost wire: { Version → Format View };
 
     /// The value at the front, and the bytes after it.
-    fn read_new(version: Version, alloc: Global, bytes: &[u8]) -> Result<(Self, &[u8]), ReadError>
+    fn read_new<'a>(
+        version: Version,
+        source: Source<'_>,
+        bytes: &'a [u8],
+    ) -> Result<(Self, &'a [u8]), ReadError>
         ensures { Gives (λ x. (view x.0, x.1.now)) result ((wire version).read bytes.now) };
 
     /// Joins the value at the front to this one, and gives the bytes after it. An `Err` leaves a value between.
     fn raise<'a>(
         &mut self,
         version: Version,
-        alloc: Global,
+        source: Source<'_>,
         bytes: &'a [u8],
     ) -> Result<&'a [u8], OutOfMemory>
         requires { StandsInFront (wire version) bytes.now }
@@ -58,7 +62,7 @@ pub trait WireJoin: Drop {
 // Joins so many entries at the front, one after the other. Where the taker has the same keys, each is found at once.
 pub fn raise_entries<'a, K: Key + FrontKey, J: WireJoin>(
     version: Version,
-    alloc: Global,
+    source: Source<'_>,
     entries: &mut Vec<(K, J)>,
     count: usize,
     bytes: &'a [u8],
@@ -75,7 +79,7 @@ pub fn raise_entries<'a, K: Key + FrontKey, J: WireJoin>(
     let mut next = 0usize;
     let mut rest = bytes;
     for _ in 0..count {
-        let (after, left) = raise_entry(version, alloc, entries, next, rest)?;
+        let (after, left) = raise_entry(version, source, entries, next, rest)?;
         next = after;
         rest = left;
     }
@@ -85,7 +89,7 @@ pub fn raise_entries<'a, K: Key + FrontKey, J: WireJoin>(
 // Joins the entry at the front, whose key stands at this place, or where else it may. Tells the place after it.
 pub fn raise_entry<'a, K: Key + FrontKey, J: WireJoin>(
     version: Version,
-    alloc: Global,
+    source: Source<'_>,
     entries: &mut Vec<(K, J)>,
     next: usize,
     bytes: &'a [u8],
@@ -98,17 +102,17 @@ pub fn raise_entry<'a, K: Key + FrontKey, J: WireJoin>(
 {
     if next < entries.len() {
         if let Some(after) = entries[next].0.behind(bytes) {
-            let rest = entries[next].1.raise(version, alloc, after)?;
+            let rest = entries[next].1.raise(version, source, after)?;
             return Ok((next + 1, rest));
         }
     }
-    raise_placed(version, alloc, entries, bytes)
+    raise_placed(version, source, entries, bytes)
 }
 
 // Joins the entry at the front to the one with its key, found by a search, or puts it in. Tells the place after it.
 fn raise_placed<'a, K: Key + FrontKey, J: WireJoin>(
     version: Version,
-    alloc: Global,
+    source: Source<'_>,
     entries: &mut Vec<(K, J)>,
     bytes: &'a [u8],
 ) -> Result<(usize, &'a [u8]), OutOfMemory>
@@ -118,16 +122,16 @@ fn raise_placed<'a, K: Key + FrontKey, J: WireJoin>(
     ensures err { OnErr result (StopsRow K.cmp J.view (row K.format (J.wire version)) J.between bytes.now entries.old.items entries.new.items) }
     ensures rising { IsTrue (is_sorted K.cmp entries.new.items) }
 {
-    let Ok((key, rest)) = K::read(alloc, bytes) else {
+    let Ok((key, rest)) = K::read(source.alloc(), bytes) else {
         return Err(OutOfMemory);
     };
     match place_of_key(entries, &key) {
         Ok(at) => {
-            let rest = entries[at].1.raise(version, alloc, rest)?;
+            let rest = entries[at].1.raise(version, source, rest)?;
             Ok((at + 1, rest))
         }
         Err(at) => {
-            let Ok((value, rest)) = J::read_new(version, alloc, rest) else {
+            let Ok((value, rest)) = J::read_new(version, source, rest) else {
                 return Err(OutOfMemory);
             };
             entries.insert(at, (key, value))?;

@@ -37,7 +37,7 @@ fn read_choice(bytes: &[u8]) -> Result<(Option<u32>, &[u8]), ReadError>
     }
 }
 
-#[tactic(auto, using(crate::proofs::Signed::signed32), unfolding(mpx_format::specs::Posts::integer))]
+#[tactic(auto, unfolding(mpx_format::specs::Posts::integer))]
 fn read_key(bytes: &[u8]) -> Result<(i32, &[u8]), ReadError>
     ensures { Gives (λ x. (x.0, x.1.now)) result ((integer I32).read bytes.now) }
 {

@@ -9,7 +9,7 @@ use crate::entries::WireValue;
 use crate::making::read_making;
 use mpx_format::{ReadError, Version};
 use mpx_post::Post;
-use std::alloc::Global;
+use mpx_rope::Source;
 
 impl WireValue for Post {
     ghost Seen = { Given };
@@ -25,7 +25,11 @@ impl WireValue for Post {
     }
 
     #[tactic(auto, unfolding(mpx_format::specs::Posts::post))]
-    fn read(version: Version, alloc: Global, bytes: &[u8]) -> Result<(Post, &[u8]), ReadError> {
+    fn read<'a>(
+        version: Version,
+        source: Source<'_>,
+        bytes: &'a [u8],
+    ) -> Result<(Post, &'a [u8]), ReadError> {
         let (kind, rest) = read_kind(version, bytes)?;
         let (mode, rest) = read_mode(kind, rest)?;
         let fields = kind.fields();
@@ -34,10 +38,10 @@ impl WireValue for Post {
         let (root, rest) = read_root(fields.root, rest)?;
         let (op, rest) = read_op(version, fields.op, rest)?;
         let (ty, rest) = read_type(fields.items, op, rest)?;
-        let (scounts, rest) = read_counts(sent, alloc, rest)?;
-        let (rcounts, rest) = read_counts(got, alloc, rest)?;
-        let (items, rest) = read_items_for(ty, alloc, rest)?;
-        let (making, rest) = read_making(fields.makes, alloc, rest)?;
+        let (scounts, rest) = read_counts(sent, source.alloc(), rest)?;
+        let (rcounts, rest) = read_counts(got, source.alloc(), rest)?;
+        let (items, rest) = read_items_for(ty, source, rest)?;
+        let (making, rest) = read_making(fields.makes, source.alloc(), rest)?;
         let post = Post::new(kind, mode, root, op, scounts, rcounts, items, making);
         Ok((post, rest))
     }

@@ -12,21 +12,22 @@ use crate::entries::read_entries;
 use join_core::{Max, OutOfMemory};
 use mpx_format::{ReadError, Version};
 use mpx_group::Proc;
+use mpx_rope::Source;
 use std::alloc::Global;
 
 // So many rows: in one loop over their bytes where all of them are right, and else as any entries, which tells the first fault.
-pub fn read_rows(
+pub fn read_rows<'a>(
     version: Version,
-    alloc: Global,
+    source: Source<'_>,
     count: usize,
-    bytes: &[u8],
-) -> Result<(Vec<(Proc, Max)>, &[u8]), ReadError>
+    bytes: &'a [u8],
+) -> Result<(Vec<(Proc, Max)>, &'a [u8]), ReadError>
     ensures read { Gives (λ x. (seen (λ n. n.0) x.0.items, x.1.now)) result (many_read (entry nat_cmp None process some_calls always) count [] bytes.now) }
     ensures rising { IfOk result (λ x. IsTrue (is_sorted nat_cmp x.0.items)) }
 {
-    match right_rows(alloc, count, bytes) {
+    match right_rows(source.alloc(), count, bytes) {
         Err(_) => Err(ReadError::OutOfMemory),
-        Ok(None) => read_entries(version, alloc, &None, count, bytes),
+        Ok(None) => read_entries(version, source, &None, count, bytes),
         Ok(Some(read)) => Ok(read),
     }
 }

@@ -15,14 +15,14 @@ use mpx_board::{Acks, Board, Lifted};
 use mpx_format::Version;
 use mpx_group::Proc;
 use mpx_name::Name;
-use std::alloc::Global;
+use mpx_rope::Source;
 use std::mem;
 
 /// Joins the parts at the front of these bytes, as the version spells them, to the board, as they are read, and gives the bytes
 /// after them. An `Err` leaves a board between. No parts take no memory.
 pub fn take_parts<'a>(
     version: Version,
-    alloc: Global,
+    source: Source<'_>,
     board: &mut Board,
     bytes: &'a [u8],
 ) -> Result<&'a [u8], OutOfMemory>
@@ -31,12 +31,12 @@ pub fn take_parts<'a>(
     ensures err { OnErr result (StopsBetween (parts version) parts_between bytes.now (parts_of board.old) (parts_of board.new)) }
     ensures some { OnErr result (bytes.now ≢ (parts version).spelling no_parts) }
 {
-    let held = mem::replace(board, Board::new(alloc));
+    let held = mem::replace(board, Board::new(source.alloc()));
     let Pair {
         mut first,
         mut second,
     } = held.into_pair();
-    let taken = take_both(version, alloc, &mut first, &mut second, bytes);
+    let taken = take_both(version, source, &mut first, &mut second, bytes);
     *board = Board::from_tidy(Pair { first, second });
     taken
 }
@@ -44,7 +44,7 @@ pub fn take_parts<'a>(
 // What is said of contexts, and then the acknowledgements.
 fn take_both<'a>(
     version: Version,
-    alloc: Global,
+    source: Source<'_>,
     contexts: &mut Keyed<Name, Lifted>,
     acks: &mut Keyed<Proc, Acks>,
     bytes: &'a [u8],
@@ -54,6 +54,6 @@ fn take_both<'a>(
     ensures err { OnErr result (StopsBetween (parts version) parts_between bytes.now (view_of_entries contexts.old, view_of_all_acks acks.old) (view_of_entries contexts.new, view_of_all_acks acks.new)) }
     ensures some { OnErr result (bytes.now ≢ (parts version).spelling no_parts) }
 {
-    let rest = raise_contexts(version, alloc, contexts, bytes)?;
-    raise_all_acks(version, alloc, acks, rest)
+    let rest = raise_contexts(version, source, contexts, bytes)?;
+    raise_all_acks(version, source, acks, rest)
 }

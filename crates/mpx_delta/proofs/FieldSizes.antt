@@ -1,7 +1,7 @@
 -- How long the spellings of names, births and posts are.
-use Rattle.std.proofs.Common.{◌≡◌, ◌≤◌, ◌<◌, ◌+◌, ◌-◌, ◌*◌, ◌/◌, ◌^◌, ℕ, zero, suc, Bool, true, false, not, List, [], ◌∷◌, ◌++◌, length, reverse, map, Option, Some, None, refl, sym, ap, ◌∙◌, subst, length-append, arith}
+use Rattle.std.proofs.Common.{◌≡◌, ◌≤◌, ◌<◌, ◌+◌, ◌-◌, ◌*◌, ◌/◌, ℕ, zero, suc, Bool, true, false, not, List, [], ◌∷◌, ◌++◌, length, reverse, map, Option, Some, None, refl, sym, ap, ◌∙◌, subst, length-append, arith}
 use Rattle.std.specs.Prelude.{All, ℤ, ◌&&◌, nat_le, nat_lt}
-use Rattle.std.specs.Int.{w16, w32, w64}
+use Rattle.std.specs.Int.{w16, w32}
 use Rattle.std.specs.Option.{option_map}
 use Rattle.std.specs.List.{sum, sum_by}
 use Rattle.std.proofs.Math.Nat.{suc-mul}
@@ -12,7 +12,7 @@ use Rattle.mpx_num.specs.declared.types.Ty.{Ty}
 use Rattle.mpx_num.specs.declared.types.Ty.TheVariants.{I8, I16, I32, I64, U8, U16, U32, U64, TwoInt}
 use Rattle.mpx_num.specs.declared.operations.Op.{Op}
 use Rattle.mpx_num.specs.ItemList.{ItemList}
-use Rattle.mpx_num.specs.Types.{item_len, width, depth}
+use Rattle.mpx_num.specs.Types.{item_len}
 use Rattle.mpx_kind.specs.declared.kinds.Kind.{Kind}
 use Rattle.mpx_kind.specs.declared.kinds.Makes.{Makes}
 use Rattle.mpx_kind.specs.declared.kinds.Makes.TheVariants as M
@@ -36,9 +36,9 @@ use Rattle.mpx_format.specs.Format.{Format, nothing, byte, number, both, only, t
 use Rattle.mpx_format.specs.Fields.{process, member, member_count, members, call, colour, tag, child, gathering, step, step_count, steps, name}
 use Rattle.mpx_format.specs.Codes.{kind, mode, operation, item_type, flag, missing, there, when}
 use Rattle.mpx_format.specs.Births.{weight, neighbour, neighbours, near, nears, topology_form, topology, birth, ranks_where}
-use Rattle.mpx_format.specs.Posts.{type_for, no_list, count, counts, counts_if, bits_of, signed, of_signed, integer, item_count, items, items_for, choice, split, ranks, group, edge, edge_count, edges, few_neighbours, own, making_for, nums_of, post}
+use Rattle.mpx_format.specs.Posts.{type_for, no_list, count, counts, counts_if, integer, item_count, items, items_for, choice, split, ranks, group, edge, edge_count, edges, few_neighbours, own, making_for, nums_of, post}
 use Rattle.mpx_delta.specs.Limits.{IsShortBirth, IsShortPost}
-use Rattle.mpx_delta.proofs.Sizes.{Short, joined_len, byte_short, short16, short32, short64, through_short, both_short, more_short, each_len, many_len, counted_len}
+use Rattle.mpx_delta.proofs.Sizes.{Short, joined_len, byte_short, short16, short32, both_short, each_len, many_len, counted_len}
 
 -- NAMES
 
@@ -195,20 +195,17 @@ counts_len true cs = counted_len (number w16) (λ before. count) 2 2 short16 (λ
 counts_len false [] = omega arith
 counts_len false (c ∷ cs) = omega arith
 
-bits_short : (ty : Ty) → Short (bits_of ty) 8
-bits_short I8 = more_short byte 1 8 (omega arith) byte_short
-bits_short I16 = more_short (number w16) 2 8 (omega arith) short16
-bits_short I32 = more_short (number w32) 4 8 (omega arith) short32
-bits_short I64 = short64
-bits_short U8 = more_short byte 1 8 (omega arith) byte_short
-bits_short U16 = more_short (number w16) 2 8 (omega arith) short16
-bits_short U32 = more_short (number w32) 4 8 (omega arith) short32
-bits_short U64 = short64
-bits_short TwoInt = more_short (number w32) 4 8 (omega arith) short32
-
 integer_short : (ty : Ty) → Short (integer ty) 8
 unfolding integer
-integer_short ty z = through_short (signed (2 ^ width ty) (depth ty)) (of_signed (2 ^ width ty) (depth ty)) (bits_of ty) 8 (bits_short ty) z
+integer_short I8 z = omega arith
+integer_short I16 z = omega arith
+integer_short I32 z = omega arith
+integer_short I64 z = omega arith
+integer_short U8 z = omega arith
+integer_short U16 z = omega arith
+integer_short U32 z = omega arith
+integer_short U64 z = omega arith
+integer_short TwoInt z = omega arith
 
 item_count_short : Short item_count 2
 unfolding item_count
@@ -242,7 +239,7 @@ choice_short (Some c) = omega (arith, short32 c)
 
 key_short : Short (integer I32) 4
 unfolding integer
-key_short k = through_short (signed (2 ^ 32) (2 ^ 31)) (of_signed (2 ^ 32) (2 ^ 31)) (number w32) 4 short32 k
+key_short k = omega arith
 
 split_short : Short split 9
 unfolding split

@@ -1,7 +1,7 @@
 -- How long spellings are.
 use Rattle.std.proofs.Common.{◌≡◌, ◌≤◌, ◌<◌, ◌+◌, ◌*◌, ◌/◌, ℕ, zero, suc, Bool, true, false, not, List, [], ◌∷◌, ◌++◌, length, reverse, map, Option, Some, None, refl, sym, ap, ◌∙◌, subst, length-append, arith}
 use Rattle.std.specs.Prelude.{All, ℤ, ◌≢◌}
-use Rattle.std.specs.Int.{w16, w32, w64, Width}
+use Rattle.std.specs.Int.{w16, w32}
 use Rattle.std.proofs.Math.Nat.{suc-mul}
 use Rattle.std.proofs.lemmas.List.Elements.{All-head, All-tail}
 use Rattle.std.specs.declared.cmp.Ordering.{Ordering}
@@ -26,20 +26,8 @@ short16 n = omega arith
 pub short32 : Short (number w32) 4
 short32 n = omega arith
 
-pub short64 : Short (number w64) 8
-short64 n = omega arith
-
-pub through_short : {A B : Type 0} (to : A → B) (from : B → Option A) (f : Format A) (n : ℕ) → Short f n → Short (through to from f) n
-through_short to from f n s b = given (from b) where
-  given : (o : Option _) → length (spelled_by f o) ≤ n
-  given None = omega arith
-  given (Some a) = s a
-
 pub both_short : {A B : Type 0} (f : Format A) (g : A → Format B) (m n : ℕ) → Short f m → ((a : A) → Short (g a) n) → Short (both f g) (m + n)
 both_short f g m n s t x = joined_len (f.spelling x.0) ((g x.0).spelling x.1) m n (s x.0) (t x.0 x.1)
-
-pub more_short : {V : Type 0} (f : Format V) (m n : ℕ) → m ≤ n → Short f m → Short f n
-more_short f m n le s v = omega (arith, le, s v)
 
 -- so many values, each of which is short
 pub each_len : {V : Type 0} (f : Format V) (n : ℕ) (before vs : List V) → All (λ v. length (f.spelling v) ≤ n) vs → length (many_spelled (λ b. f) before vs) ≤ length vs * n

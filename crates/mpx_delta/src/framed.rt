@@ -1,5 +1,5 @@
 //! What a process says that it has, and the frames of what others may lack of its board, without a copy of what all say.
-ghost use Rattle.std.specs.Prelude.{◌≡◌, ◌<◌, ◌≤◌, All, IfOk, IfSome, map};
+ghost use Rattle.std.specs.Prelude.{◌≡◌, ◌<◌, ◌≤◌, All, IfOk, IfSome};
 ghost use Rattle.mpx_board.specs.Contexts.{look_of};
 ghost use Rattle.mpx_board.specs.Looks.{look, parts_of};
 ghost use Rattle.mpx_board.specs.Views.{view_of_acks};
@@ -16,34 +16,35 @@ use crate::posted::common_of_posts;
 use join_core::{OutOfMemory, Pair};
 use join_nest::Keyed;
 use mpx_board::{Acks, Board, Raised};
-use mpx_encode::{EncodeError, encode, encode_over};
+use mpx_encode::{EncodeError, encode_over, encode_rope};
 use mpx_group::Proc;
+use mpx_rope::Rope;
 use std::alloc::Global;
 
 /// What a process says that it has, to be stored on its board, and the frames of what others may lack of its board.
 #[derive(Debug, Drop)]
 pub struct NewFrames {
     pub said: Raised,
-    pub frames: Vec<Vec<u8>>,
+    pub frames: Vec<Rope>,
 }
 
 /// Makes what [`new_list`](crate::new_list) makes, with frames of at most `limit` bytes in place of the parts. What all processes say
 /// isn't copied for that: the board lends it, and stays as it is, also where memory is refused. A frame is written over the last of the
-/// `spare` bytes, where there are such: their room serves it in place of memory.
+/// `spare` ones, where there are such: the room of its own bytes serves it in place of memory.
 pub fn new_frames(
     alloc: Global,
     board: &mut Board,
     me: Proc,
     processes: u8,
     limit: usize,
-    spare: &mut Vec<Vec<u8>>,
+    spare: &mut Vec<Rope>,
 ) -> Result<NewFrames, OutOfMemory>
     requires some { 0 < processes }
     requires few { processes ≤ 64 }
     requires least { 524288 ≤ limit }
     requires most { limit ≤ 1048576 }
     ensures board { look board.new ≡ look board.old }
-    ensures made { IfOk result (λ made. AreLacking me processes limit (look board.old) made.said (map (λ frame. frame.items) made.frames.items)) }
+    ensures made { IfOk result (λ made. AreLacking me processes limit (look board.old) made.said made.frames.items) }
 {
     let digest = digest_of(alloc, board)?;
     let before = board.say(alloc, me, &digest)?;
@@ -65,14 +66,14 @@ fn lean_frames(
     board: &mut Board,
     processes: u8,
     limit: usize,
-    spare: &mut Vec<Vec<u8>>,
-) -> Result<Vec<Vec<u8>>, OutOfMemory>
+    spare: &mut Vec<Rope>,
+) -> Result<Vec<Rope>, OutOfMemory>
     requires some { 0 < processes }
     requires few { processes ≤ 64 }
     requires least { 524288 ≤ limit }
     requires most { limit ≤ 1048576 }
     ensures board { parts_of board.new ≡ parts_of board.old }
-    ensures frames { IfOk result (λ made. AreFramesOf limit (without (common_on processes (look board.old)) (look board.old)) (map (λ frame. frame.items) made.items)) }
+    ensures frames { IfOk result (λ made. AreFramesOf limit (without (common_on processes (look board.old)) (look board.old)) made.items) }
 {
     let shared = common_of_posts(alloc, board, board, processes)?;
     if shared.is_empty() {
@@ -100,11 +101,11 @@ fn frames_of(
     alloc: Global,
     board: &Board,
     limit: usize,
-    spare: &mut Vec<Vec<u8>>,
-) -> Result<Vec<Vec<u8>>, OutOfMemory>
+    spare: &mut Vec<Rope>,
+) -> Result<Vec<Rope>, OutOfMemory>
     requires least { 524288 ≤ limit }
     requires most { limit ≤ 1048576 }
-    ensures { IfOk result (λ made. AreFramesOf limit (look board.now) (map (λ frame. frame.items) made.items)) }
+    ensures { IfOk result (λ made. AreFramesOf limit (look board.now) made.items) }
 {
     let Some(frame) = whole_frame(alloc, board, limit, spare)? else {
         let parts = parts(alloc, board, limit)?;
@@ -115,11 +116,11 @@ fn frames_of(
     Ok(made)
 }
 
-// Bytes that were let go, where there are such.
-fn spare_bytes(alloc: Global, spare: &mut Vec<Vec<u8>>) -> Vec<u8> {
+// A frame that was let go, where there is one.
+fn spare_frame(alloc: Global, spare: &mut Vec<Rope>) -> Rope {
     match spare.pop() {
-        Some(bytes) => bytes,
-        None => Vec::new(alloc),
+        Some(frame) => frame,
+        None => Rope::new(alloc),
     }
 }
 
@@ -128,12 +129,12 @@ fn whole_frame(
     alloc: Global,
     board: &Board,
     limit: usize,
-    spare: &mut Vec<Vec<u8>>,
-) -> Result<Option<Vec<u8>>, OutOfMemory>
+    spare: &mut Vec<Rope>,
+) -> Result<Option<Rope>, OutOfMemory>
     ensures fits { IfOk result (λ made. IfSome made (λ frame. length_told (parts_of board.now) ≤ limit)) }
-    ensures spelled { IfOk result (λ made. IfSome made (λ frame. Spells Two frame.items (parts_of board.now))) }
+    ensures spelled { IfOk result (λ made. IfSome made (λ frame. Spells Two frame (parts_of board.now))) }
 {
-    match encode_over(spare_bytes(alloc, spare), board) {
+    match encode_over(spare_frame(alloc, spare), board) {
         Ok(frame) => {
             if limit < frame.len() {
                 return Ok(None);
@@ -146,9 +147,9 @@ fn whole_frame(
 }
 
 // The frames of boards that aren't too long, one for each.
-fn all_frames(alloc: Global, boards: &[Board]) -> Result<Vec<Vec<u8>>, OutOfMemory>
+fn all_frames(alloc: Global, boards: &[Board]) -> Result<Vec<Rope>, OutOfMemory>
     requires { All (λ board. length_told (parts_of board) ≤ 1048576) boards.now }
-    ensures { IfOk result (λ made. AreSpelled (map (λ frame. frame.items) made.items) boards.now) }
+    ensures { IfOk result (λ made. AreSpelled made.items boards.now) }
 {
     let mut made = Vec::new(alloc);
     for board in boards {
@@ -158,11 +159,11 @@ fn all_frames(alloc: Global, boards: &[Board]) -> Result<Vec<Vec<u8>>, OutOfMemo
 }
 
 // The frame of a board that isn't too long.
-fn frame_of(alloc: Global, board: &Board) -> Result<Vec<u8>, OutOfMemory>
+fn frame_of(alloc: Global, board: &Board) -> Result<Rope, OutOfMemory>
     requires { length_told (parts_of board.now) ≤ 1048576 }
-    ensures { IfOk result (λ frame. Spells Two frame.items (parts_of board.now)) }
+    ensures { IfOk result (λ frame. Spells Two frame (parts_of board.now)) }
 {
-    match encode(alloc, board) {
+    match encode_rope(alloc, board) {
         Ok(frame) => Ok(frame),
         Err(EncodeError::TooLong) => unreachable!(),
         Err(EncodeError::OutOfMemory) => Err(OutOfMemory),

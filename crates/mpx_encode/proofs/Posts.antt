@@ -1,14 +1,12 @@
 -- How the fields of posts are spelled, and in how many bytes.
-use Rattle.std.proofs.Common.{◌≡◌, ℕ, zero, suc, ℤ, ◌+◌, ◌-◌, ◌*◌, ◌<◌, Bool, true, false, cond, ◌&&◌, List, [], ◌∷◌, ◌++◌, length, Option, Some, None, is_some, refl, sym, ap, ◌∙◌, arith, length-append, append_assoc}
+use Rattle.std.proofs.Common.{◌≡◌, ℕ, ℤ, ◌+◌, ◌-◌, ◌*◌, ◌<◌, Bool, true, false, cond, ◌&&◌, List, [], ◌∷◌, ◌++◌, length, Option, Some, None, is_some, refl, sym, ap, ◌∙◌, arith, length-append, append_assoc}
 use Rattle.std.specs.Prelude.{nat_lt}
 use Rattle.std.specs.Int.{w16, w32, to_be_bytes}
-use Rattle.std.specs.List.{All, flat_map}
+use Rattle.std.specs.List.{flat_map}
 use Rattle.std.specs.Option.{option_map}
 use Rattle.std.proofs.lemmas.Bool.{ltb-true}
-use Rattle.std.proofs.lemmas.List.{append-nil}
 use Rattle.join_core.specs.Cases.{first_true, second_true}
 use Rattle.mpx_num.specs.ItemList.{ItemList}
-use Rattle.mpx_num.specs.Types.{IsInRange}
 use Rattle.mpx_num.specs.declared.types.Ty.{Ty}
 use Rattle.mpx_num.specs.declared.types.Ty.TheVariants.{I32}
 use Rattle.mpx_num.specs.declared.operations.Op.{Op}
@@ -31,7 +29,6 @@ use Rattle.mpx_format.specs.Births.{weight, neighbour, neighbours}
 use Rattle.mpx_format.specs.Posts.{type_for, count, counts, counts_if, integer, items_for, choice, split, ranks, group, edge, edge_count, edges, few_neighbours, own, making_for, nums_of, post}
 use Rattle.mpx_encode.proofs.Rising.{many_alike}
 use Rattle.mpx_encode.proofs.Births.{length_each, length-weight, neighbours_spelled}
-use Rattle.mpx_format.proofs.Integers.{length-integer}
 
 -- FIELDS THAT MAY BE MISSING
 
@@ -71,25 +68,13 @@ pub split_spelled : (c : Option ℕ) (k : ℤ) → split.spelling (Split c k) �
 unfolding split
 split_spelled c k = refl
 
-length-choice-none : length (choice.spelling None) ≡ 1
-unfolding choice
-length-choice-none = refl
+pub length-split_none : (k : ℤ) → length (split.spelling (Split None k)) ≡ 5
+unfolding split choice integer
+length-split_none k = refl
 
-length-choice-some : (c : ℕ) → length (choice.spelling (Some c)) ≡ 5
-unfolding choice colour
-length-choice-some c = refl
-
-length-key : (k : ℤ) → IsInRange I32 k → length ((integer I32).spelling k) ≡ 4
-length-key k h = length-integer I32 k h
-
-length_split : (c : Option ℕ) (k : ℤ) → IsInRange I32 k → length (split.spelling (Split c k)) ≡ length (choice.spelling c) + 4
-length_split c k h = ap length (split_spelled c k) ∙ length-append (choice.spelling c) ((integer I32).spelling k) ∙ ap (λ n. length (choice.spelling c) + n) (length-key k h)
-
-pub length-split_none : (k : ℤ) → IsInRange I32 k → length (split.spelling (Split None k)) ≡ 5
-length-split_none k h = length_split None k h ∙ ap (λ n. n + 4) length-choice-none
-
-pub length-split_some : (c : ℕ) (k : ℤ) → IsInRange I32 k → length (split.spelling (Split (Some c) k)) ≡ 9
-length-split_some c k h = length_split (Some c) k h ∙ ap (λ n. n + 4) (length-choice-some c)
+pub length-split_some : (c : ℕ) (k : ℤ) → length (split.spelling (Split (Some c) k)) ≡ 9
+unfolding split choice colour integer
+length-split_some c k = refl
 
 pub choice_none : choice.spelling None ≡ 0 ∷ []
 unfolding choice

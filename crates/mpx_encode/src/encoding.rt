@@ -14,6 +14,7 @@ ghost use Rattle.mpx_encode.specs.declared.encoding.EncodeError.TheVariants as E
 use crate::write_contexts::{room_after_frame, write_frame};
 use join_core::OutOfMemory;
 use mpx_board::{Board, Parts};
+use mpx_rope::Rope;
 use std::alloc::{AllocError, Global};
 use thiserror::Error;
 
@@ -22,6 +23,9 @@ const MOST_BYTES: usize = 1_048_576;
 
 /// The greatest number of names in one list.
 const MOST_NAMES: usize = 4096;
+
+// So much room a rope has from the first, at most: of a longer frame most bytes may be shared.
+const FIRST_ROOM: usize = 1024;
 
 /// Why a board has no frame.
 #[derive(Clone, Copy, Debug, PartialEq, Eq, Error)]
@@ -69,8 +73,8 @@ fn has_many_names(parts: &Parts) -> bool
     !has_few_acks(parts)
 }
 
-/// The frame of the board: `MPXG`, the version 2, what is known of each context by its name, or that it is dead, and what
-/// each process acknowledges, all numbers with the highest byte first. It takes memory once, for all its bytes.
+/// The frame of the board, all in one place: `MPXG`, the version 2, what is known of each context by its name, or that it is dead, and
+/// what each process acknowledges, all numbers with the highest byte first.
 ///
 /// # Errors
 /// `TooLong` where the frame would be over 1,048,576 bytes or a list in it over 4,096 names, `OutOfMemory` where memory is
@@ -79,25 +83,37 @@ pub fn encode(alloc: Global, board: &Board) -> Result<Vec<u8>, EncodeError>
     ensures spelled { IfOk result (λ bytes. Spells Two bytes.items (parts_of board.now)) }
     ensures too_long { IsErrOf result EncodeError.TooLong ↔ (is_too_long (parts_of board.now) ≡ true) }
 {
-    encode_over(Vec::new(alloc), board)
+    let frame = encode_rope(alloc, board)?;
+    Ok(frame.joined(alloc)?)
 }
 
-/// The frame of the board as [`encode`] makes it, in the place of what these bytes are: where they have the room, no memory is
-/// taken.
+/// The frame of the board as [`encode`] makes it, which shares items of 64 bytes or more with the board's posts.
 ///
 /// # Errors
-/// As of [`encode`]; the bytes are let go then.
-pub fn encode_over(bytes: Vec<u8>, board: &Board) -> Result<Vec<u8>, EncodeError>
-    ensures spelled { IfOk result (λ bytes. Spells Two bytes.items (parts_of board.now)) }
+/// As of [`encode`].
+pub fn encode_rope(alloc: Global, board: &Board) -> Result<Rope, EncodeError>
+    ensures spelled { IfOk result (λ frame. Spells Two frame (parts_of board.now)) }
+    ensures too_long { IsErrOf result EncodeError.TooLong ↔ (is_too_long (parts_of board.now) ≡ true) }
+{
+    encode_over(Rope::new(alloc), board)
+}
+
+/// The frame of the board as [`encode_rope`] makes it, in the place of what this rope is: where its own bytes have the room, only what is
+/// shared may take memory.
+///
+/// # Errors
+/// As of [`encode`]; the rope is let go then.
+pub fn encode_over(rope: Rope, board: &Board) -> Result<Rope, EncodeError>
+    ensures spelled { IfOk result (λ frame. Spells Two frame (parts_of board.now)) }
     ensures too_long { IsErrOf result EncodeError.TooLong ↔ (is_too_long (parts_of board.now) ≡ true) }
 {
     let parts = board.pair();
     let Some(left) = frame_room(parts) else {
         return Err(EncodeError::TooLong);
     };
-    let mut out = bytes;
+    let mut out = rope;
     out.clear();
-    out.reserve(MOST_BYTES - left)?;
+    out.reserve((MOST_BYTES - left).min(FIRST_ROOM))?;
     write_frame(parts, &mut out)?;
     Ok(out)
 }

@@ -1,5 +1,5 @@
-//! From boards to frames. Which bytes spell a board is said in `mpx_format`; [`encode`] writes them, and [`frame_len`] tells how
-//! many there are.
+//! From boards to frames. Which bytes spell a board is said in `mpx_format`; [`encode_rope`] writes them, [`encode`] all in one place, and
+//! [`frame_len`] tells how many there are.
 #![tactic(auto)]
 
 mod encoding;
@@ -15,4 +15,4 @@ mod write_numbers;
 mod write_posts;
 mod write_process_numbers;
 
-pub use encoding::{EncodeError, encode, encode_over, frame_len};
+pub use encoding::{EncodeError, encode, encode_over, encode_rope, frame_len};

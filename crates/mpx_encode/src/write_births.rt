@@ -9,10 +9,11 @@ use crate::write_names::write_members;
 use crate::write_numbers::{write_u8, write_u16, write_u32};
 use join_core::OutOfMemory;
 use mpx_birth::{Birth, Neighbour, Topology};
+use mpx_rope::Rope;
 
 // Writes the weight at the end, where edges have one.
-pub fn write_weight(weighted: bool, weight: u32, out: &mut Vec<u8>) -> Result<(), OutOfMemory>
-    ensures { OnOk result (out.new.items ≡ out.old.items ++ (weight_format weighted).spelling weight) }
+pub fn write_weight(weighted: bool, weight: u32, out: &mut Rope) -> Result<(), OutOfMemory>
+    ensures { OnOk result (out.new ≡ out.old ++ (weight_format weighted).spelling weight) }
 {
     if weighted {
         write_u32(weight, out)
@@ -28,12 +29,8 @@ pub fn weight_len(weighted: bool) -> usize
     if weighted { 4 } else { 0 }
 }
 
-fn write_neighbour(
-    weighted: bool,
-    neighbour: &Neighbour,
-    out: &mut Vec<u8>,
-) -> Result<(), OutOfMemory>
-    ensures { OnOk result (out.new.items ≡ out.old.items ++ (neighbour_format weighted).spelling neighbour.now) }
+fn write_neighbour(weighted: bool, neighbour: &Neighbour, out: &mut Rope) -> Result<(), OutOfMemory>
+    ensures { OnOk result (out.new ≡ out.old ++ (neighbour_format weighted).spelling neighbour.now) }
 {
     write_u8(neighbour.rank, out)?;
     write_weight(weighted, neighbour.weight, out)
@@ -43,9 +40,9 @@ fn write_neighbour(
 fn write_each_neighbour(
     weighted: bool,
     list: &[Neighbour],
-    out: &mut Vec<u8>,
+    out: &mut Rope,
 ) -> Result<(), OutOfMemory>
-    ensures { OnOk result (out.new.items ≡ out.old.items ++ flat_map (neighbour_format weighted).spelling list.now) }
+    ensures { OnOk result (out.new ≡ out.old ++ flat_map (neighbour_format weighted).spelling list.now) }
 {
     for neighbour in list {
         write_neighbour(weighted, neighbour, out)?;
@@ -65,10 +62,10 @@ pub fn neighbours_len(weighted: bool, list: &[Neighbour]) -> usize
 pub fn write_neighbours(
     weighted: bool,
     list: &[Neighbour],
-    out: &mut Vec<u8>,
+    out: &mut Rope,
 ) -> Result<(), OutOfMemory>
     requires few { length list.now ≤ most_neighbours }
-    ensures { OnOk result (out.new.items ≡ out.old.items ++ (neighbours_format weighted).spelling list.now) }
+    ensures { OnOk result (out.new ≡ out.old ++ (neighbours_format weighted).spelling list.now) }
 {
     write_u16(list.len() as u16, out)?;
     write_each_neighbour(weighted, list, out)
@@ -89,8 +86,8 @@ fn nears_len(topology: &Topology) -> usize
     total
 }
 
-fn write_nears(topology: &Topology, out: &mut Vec<u8>) -> Result<(), OutOfMemory>
-    ensures { OnOk result (out.new.items ≡ out.old.items ++ flat_map (near topology.now.weighted).spelling topology.now.ranks) }
+fn write_nears(topology: &Topology, out: &mut Rope) -> Result<(), OutOfMemory>
+    ensures { OnOk result (out.new ≡ out.old ++ flat_map (near topology.now.weighted).spelling topology.now.ranks) }
 {
     let weighted = topology.weighted();
     let size = topology.size();
@@ -104,9 +101,9 @@ fn write_near(
     topology: &Topology,
     weighted: bool,
     rank: u8,
-    out: &mut Vec<u8>,
+    out: &mut Rope,
 ) -> Result<(), OutOfMemory>
-    ensures { OnOk result (out.new.items ≡ out.old.items ++ (near weighted).spelling (slice_index_or topology.now.ranks rank nobody)) }
+    ensures { OnOk result (out.new ≡ out.old ++ (near weighted).spelling (slice_index_or topology.now.ranks rank nobody)) }
 {
     write_neighbours(weighted, topology.sources(rank), out)?;
     write_neighbours(weighted, topology.destinations(rank), out)
@@ -126,8 +123,8 @@ pub fn birth_len(birth: &Birth) -> usize
 }
 
 // Writes the topology at the end.
-fn write_topology(topology: &Topology, out: &mut Vec<u8>) -> Result<(), OutOfMemory>
-    ensures { OnOk result (out.new.items ≡ out.old.items ++ topology_spelled (Some topology.now)) }
+fn write_topology(topology: &Topology, out: &mut Rope) -> Result<(), OutOfMemory>
+    ensures { OnOk result (out.new ≡ out.old ++ topology_spelled (Some topology.now)) }
 {
     write_u8(code_of_weighted(topology.weighted()), out)?;
     write_nears(topology, out)
@@ -140,9 +137,9 @@ fn code_of_weighted(weighted: bool) -> u8
 }
 
 // Writes the birth at the end.
-pub fn write_birth(birth: &Birth, out: &mut Vec<u8>) -> Result<(), OutOfMemory>
+pub fn write_birth(birth: &Birth, out: &mut Rope) -> Result<(), OutOfMemory>
     requires { birth_format.fits birth.now ≡ true }
-    ensures { OnOk result (out.new.items ≡ out.old.items ++ birth_format.spelling birth.now) }
+    ensures { OnOk result (out.new ≡ out.old ++ birth_format.spelling birth.now) }
 {
     write_members(birth.members(), out)?;
     match birth.topology() {

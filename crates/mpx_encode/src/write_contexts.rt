@@ -26,6 +26,7 @@ use join_nest::{Lift, Trunc};
 use mpx_birth::Birth;
 use mpx_board::{Acks, CallPosts, Entry, Lifted, Parts};
 use mpx_post::Post;
+use mpx_rope::Rope;
 
 impl WriteValue for Flat<Post> {
     ghost Seen = { FlatView Given };
@@ -44,7 +45,7 @@ impl WriteValue for Flat<Post> {
         }
     }
 
-    fn write(&self, out: &mut Vec<u8>) -> Result<(), OutOfMemory> {
+    fn write(&self, out: &mut Rope) -> Result<(), OutOfMemory> {
         match self {
             Flat::Unknown => write_u8(0, out),
             Flat::Known(post) => {
@@ -68,9 +69,9 @@ fn room_after_birth(birth: &Flat<Birth>, room: usize) -> Option<usize>
     }
 }
 
-fn write_told_birth(birth: &Flat<Birth>, out: &mut Vec<u8>) -> Result<(), OutOfMemory>
+fn write_told_birth(birth: &Flat<Birth>, out: &mut Rope) -> Result<(), OutOfMemory>
     requires { (told_format birth_format).fits (flat_view (λ b. b) birth.now) ≡ true }
-    ensures { OnOk result (out.new.items ≡ out.old.items ++ (told_format birth_format).spelling (flat_view (λ b. b) birth.now)) }
+    ensures { OnOk result (out.new ≡ out.old ++ (told_format birth_format).spelling (flat_view (λ b. b) birth.now)) }
 {
     match birth {
         Flat::Unknown => write_u8(0, out),
@@ -95,7 +96,7 @@ impl WriteValue for CallPosts {
         room_after_counted(1, self.entries(), room)
     }
 
-    fn write(&self, out: &mut Vec<u8>) -> Result<(), OutOfMemory> {
+    fn write(&self, out: &mut Rope) -> Result<(), OutOfMemory> {
         let entries = self.entries();
         write_u8(entries.len() as u8, out)?;
         write_entries(entries, out)
@@ -112,9 +113,9 @@ fn room_after_held(held: &Trunc<CallPosts>, room: usize) -> Option<usize>
     room_after_counted(8, held.entries(), room)
 }
 
-fn write_held(held: &Trunc<CallPosts>, out: &mut Vec<u8>) -> Result<(), OutOfMemory>
+fn write_held(held: &Trunc<CallPosts>, out: &mut Rope) -> Result<(), OutOfMemory>
     requires { (held_format Two).fits (view_of_calls held.now) ≡ true }
-    ensures { OnOk result (out.new.items ≡ out.old.items ++ (held_format Two).spelling (view_of_calls held.now)) }
+    ensures { OnOk result (out.new ≡ out.old ++ (held_format Two).spelling (view_of_calls held.now)) }
 {
     let entries = held.entries();
     write_u32(held.dropped(), out)?;
@@ -133,9 +134,9 @@ fn room_after_context(entry: &Entry, room: usize) -> Option<usize>
     room_after_held(&entry.second.second, behind_fronts)
 }
 
-fn write_context(entry: &Entry, out: &mut Vec<u8>) -> Result<(), OutOfMemory>
+fn write_context(entry: &Entry, out: &mut Rope) -> Result<(), OutOfMemory>
     requires { (context Two).fits (view_of_entry entry.now) ≡ true }
-    ensures { OnOk result (out.new.items ≡ out.old.items ++ (context Two).spelling (view_of_entry entry.now)) }
+    ensures { OnOk result (out.new ≡ out.old ++ (context Two).spelling (view_of_entry entry.now)) }
 {
     write_told_birth(&entry.first, out)?;
     write_fronts(&entry.second.first, out)?;
@@ -171,7 +172,7 @@ impl WriteValue for Lifted {
     }
 
     #[tactic(auto, unfolding(mpx_format::specs::Contexts::lifted))]
-    fn write(&self, out: &mut Vec<u8>) -> Result<(), OutOfMemory> {
+    fn write(&self, out: &mut Rope) -> Result<(), OutOfMemory> {
         match self {
             Lift::Live(entry) => {
                 write_u8(0, out)?;
@@ -195,7 +196,7 @@ impl WriteValue for Acks {
         room_after_counted(2, self.entries(), room)
     }
 
-    fn write(&self, out: &mut Vec<u8>) -> Result<(), OutOfMemory> {
+    fn write(&self, out: &mut Rope) -> Result<(), OutOfMemory> {
         let entries = self.entries();
         write_u16(entries.len() as u16, out)?;
         write_entries(entries, out)
@@ -216,9 +217,9 @@ pub fn room_after_frame(parts: &Parts, room: usize) -> Option<usize>
 }
 
 // Writes the frame of these parts at the end.
-pub fn write_frame(parts: &Parts, out: &mut Vec<u8>) -> Result<(), OutOfMemory>
+pub fn write_frame(parts: &Parts, out: &mut Rope) -> Result<(), OutOfMemory>
     requires { frame.fits (Two, view_of_parts parts.now) ≡ true }
-    ensures { OnOk result (out.new.items ≡ out.old.items ++ frame.spelling (Two, view_of_parts parts.now)) }
+    ensures { OnOk result (out.new ≡ out.old ++ frame.spelling (Two, view_of_parts parts.now)) }
 {
     let names = parts.first.entries();
     let processes = parts.second.entries();

@@ -8,6 +8,7 @@ ghost use Rattle.mpx_encode.specs.Entries.{entry_spelled, entries_spelled, both_
 
 use crate::room::room_left;
 use join_core::OutOfMemory;
+use mpx_rope::Rope;
 
 /// A key that is written.
 pub trait WriteKey: Ord + Drop {
@@ -23,9 +24,9 @@ pub trait WriteKey: Ord + Drop {
         ensures fits { IfSome result (λ left. format.fits self.now ≡ true) };
 
     /// Writes it at the end.
-    fn write(&self, out: &mut Vec<u8>) -> Result<(), OutOfMemory>
+    fn write(&self, out: &mut Rope) -> Result<(), OutOfMemory>
         requires { format.fits self.now ≡ true }
-        ensures { OnOk result (out.new.items ≡ out.old.items ++ format.spelling self.now) };
+        ensures { OnOk result (out.new ≡ out.old ++ format.spelling self.now) };
 }
 
 /// A value that is written.
@@ -48,9 +49,9 @@ pub trait WriteValue: Drop {
         ensures fits { IfSome result (λ left. format.fits (seen self.now) ≡ true) };
 
     /// Writes it at the end.
-    fn write(&self, out: &mut Vec<u8>) -> Result<(), OutOfMemory>
+    fn write(&self, out: &mut Rope) -> Result<(), OutOfMemory>
         requires { format.fits (seen self.now) ≡ true }
-        ensures { OnOk result (out.new.items ≡ out.old.items ++ format.spelling (seen self.now)) };
+        ensures { OnOk result (out.new ≡ out.old ++ format.spelling (seen self.now)) };
 }
 
 // What is left of so much room behind these, one after the other.
@@ -68,9 +69,9 @@ pub fn room_after_list<K: WriteKey>(list: &[K], room: usize) -> Option<usize>
 }
 
 // Writes these at the end, one after the other.
-pub fn write_list<K: WriteKey>(list: &[K], out: &mut Vec<u8>) -> Result<(), OutOfMemory>
+pub fn write_list<K: WriteKey>(list: &[K], out: &mut Rope) -> Result<(), OutOfMemory>
     requires { list_all K.format.fits list.now ≡ true }
-    ensures { OnOk result (out.new.items ≡ out.old.items ++ flat_map K.format.spelling list.now) }
+    ensures { OnOk result (out.new ≡ out.old ++ flat_map K.format.spelling list.now) }
 {
     for key in list {
         key.write(out)?;
@@ -125,10 +126,10 @@ pub fn room_after_counted<K: WriteKey, J: WriteValue>(
 // Writes the entries at the end.
 pub fn write_entries<K: WriteKey, J: WriteValue>(
     entries: &[(K, J)],
-    out: &mut Vec<u8>,
+    out: &mut Rope,
 ) -> Result<(), OutOfMemory>
     requires { both_pass K.format.fits J.format.fits (seen J.seen entries.now) ≡ true }
-    ensures { OnOk result (out.new.items ≡ out.old.items ++ entries_spelled K.format J.format (seen J.seen entries.now)) }
+    ensures { OnOk result (out.new ≡ out.old ++ entries_spelled K.format J.format (seen J.seen entries.now)) }
 {
     for entry in entries {
         write_entry(entry, out)?;
@@ -138,11 +139,11 @@ pub fn write_entries<K: WriteKey, J: WriteValue>(
 
 fn write_entry<K: WriteKey, J: WriteValue>(
     entry: &(K, J),
-    out: &mut Vec<u8>,
+    out: &mut Rope,
 ) -> Result<(), OutOfMemory>
     requires key { K.format.fits entry.now.0 ≡ true }
     requires value { J.format.fits (J.seen entry.now.1) ≡ true }
-    ensures { OnOk result (out.new.items ≡ out.old.items ++ entry_spelled K.format J.format (entry.now.0, J.seen entry.now.1)) }
+    ensures { OnOk result (out.new ≡ out.old ++ entry_spelled K.format J.format (entry.now.0, J.seen entry.now.1)) }
 {
     entry.0.write(out)?;
     entry.1.write(out)

@@ -13,9 +13,10 @@ use crate::write_numbers::{write_u8, write_u16, write_u32};
 use join_core::OutOfMemory;
 use mpx_birth::Edge;
 use mpx_post::{Edges, Making, OwnNeighbours, Post, Ranks};
+use mpx_rope::Rope;
 
-fn write_choice(colour: Option<u32>, out: &mut Vec<u8>) -> Result<(), OutOfMemory>
-    ensures { OnOk result (out.new.items ≡ out.old.items ++ choice.spelling colour) }
+fn write_choice(colour: Option<u32>, out: &mut Rope) -> Result<(), OutOfMemory>
+    ensures { OnOk result (out.new ≡ out.old ++ choice.spelling colour) }
 {
     match colour {
         None => write_u8(0, out),
@@ -26,8 +27,8 @@ fn write_choice(colour: Option<u32>, out: &mut Vec<u8>) -> Result<(), OutOfMemor
     }
 }
 
-fn write_split(colour: Option<u32>, key: i32, out: &mut Vec<u8>) -> Result<(), OutOfMemory>
-    ensures { OnOk result (out.new.items ≡ out.old.items ++ split.spelling (Split colour key)) }
+fn write_split(colour: Option<u32>, key: i32, out: &mut Rope) -> Result<(), OutOfMemory>
+    ensures { OnOk result (out.new ≡ out.old ++ split.spelling (Split colour key)) }
 {
     write_choice(colour, out)?;
     write_u32(key.cast_unsigned(), out)
@@ -37,16 +38,15 @@ fn split_len(colour: Option<u32>, key: i32) -> usize
     ensures value { result ≡ length (split.spelling (Split colour key)) }
     ensures small { result ≤ 9 }
 {
-    let _key = key;
     match colour {
         None => 5,
         Some(_) => 9,
     }
 }
 
-fn write_ranks(ranks: &Ranks, out: &mut Vec<u8>) -> Result<(), OutOfMemory>
+fn write_ranks(ranks: &Ranks, out: &mut Rope) -> Result<(), OutOfMemory>
     requires { ranks_format.fits ranks.now ≡ true }
-    ensures { OnOk result (out.new.items ≡ out.old.items ++ ranks_format.spelling ranks.now) }
+    ensures { OnOk result (out.new ≡ out.old ++ ranks_format.spelling ranks.now) }
 {
     let list = ranks.as_slice();
     write_u8(list.len() as u8, out)?;
@@ -62,16 +62,16 @@ fn ranks_len(ranks: &Ranks) -> usize
     1 + ranks.as_slice().len()
 }
 
-fn write_edge(weighted: bool, edge: &Edge, out: &mut Vec<u8>) -> Result<(), OutOfMemory>
-    ensures { OnOk result (out.new.items ≡ out.old.items ++ (edge_format weighted).spelling edge.now) }
+fn write_edge(weighted: bool, edge: &Edge, out: &mut Rope) -> Result<(), OutOfMemory>
+    ensures { OnOk result (out.new ≡ out.old ++ (edge_format weighted).spelling edge.now) }
 {
     write_u8(edge.source, out)?;
     write_u8(edge.destination, out)?;
     write_weight(weighted, edge.weight, out)
 }
 
-fn write_each_edge(weighted: bool, list: &[Edge], out: &mut Vec<u8>) -> Result<(), OutOfMemory>
-    ensures { OnOk result (out.new.items ≡ out.old.items ++ flat_map (edge_format weighted).spelling list.now) }
+fn write_each_edge(weighted: bool, list: &[Edge], out: &mut Rope) -> Result<(), OutOfMemory>
+    ensures { OnOk result (out.new ≡ out.old ++ flat_map (edge_format weighted).spelling list.now) }
 {
     for edge in list {
         write_edge(weighted, edge, out)?;
@@ -80,8 +80,8 @@ fn write_each_edge(weighted: bool, list: &[Edge], out: &mut Vec<u8>) -> Result<(
 }
 
 #[tactic(auto, unfolding(mpx_format::specs::Codes::flag))]
-fn write_flag(flag: bool, out: &mut Vec<u8>) -> Result<(), OutOfMemory>
-    ensures { OnOk result (out.new.items ≡ out.old.items ++ flag_format.spelling flag) }
+fn write_flag(flag: bool, out: &mut Rope) -> Result<(), OutOfMemory>
+    ensures { OnOk result (out.new ≡ out.old ++ flag_format.spelling flag) }
 {
     if flag {
         write_u8(1, out)
@@ -90,8 +90,8 @@ fn write_flag(flag: bool, out: &mut Vec<u8>) -> Result<(), OutOfMemory>
     }
 }
 
-fn write_edges(edges: &Edges, out: &mut Vec<u8>) -> Result<(), OutOfMemory>
-    ensures { OnOk result (out.new.items ≡ out.old.items ++ edges_format.spelling edges.now) }
+fn write_edges(edges: &Edges, out: &mut Rope) -> Result<(), OutOfMemory>
+    ensures { OnOk result (out.new ≡ out.old ++ edges_format.spelling edges.now) }
 {
     let list = edges.as_slice();
     write_flag(edges.weighted(), out)?;
@@ -106,10 +106,10 @@ fn edges_len(edges: &Edges) -> usize
     3 + edges.as_slice().len() * (2 + weight_len(edges.weighted()))
 }
 
-fn write_own(own: &OwnNeighbours, out: &mut Vec<u8>) -> Result<(), OutOfMemory>
+fn write_own(own: &OwnNeighbours, out: &mut Rope) -> Result<(), OutOfMemory>
     requires sources { length own.now.sources ≤ most_edges }
     requires destinations { length own.now.destinations ≤ most_edges }
-    ensures { OnOk result (out.new.items ≡ out.old.items ++ own_format.spelling own.now) }
+    ensures { OnOk result (out.new ≡ out.old ++ own_format.spelling own.now) }
 {
     write_flag(own.weighted(), out)?;
     write_neighbours(own.weighted(), own.sources(), out)?;
@@ -143,9 +143,9 @@ pub fn making_len(given: &Post) -> usize
 }
 
 // Writes at the end what the post says of a new communicator.
-pub fn write_making(given: &Post, out: &mut Vec<u8>) -> Result<(), OutOfMemory>
+pub fn write_making(given: &Post, out: &mut Rope) -> Result<(), OutOfMemory>
     requires { (making_for (fields_of given.now.kind).makes).fits given.now.making ≡ true }
-    ensures { OnOk result (out.new.items ≡ out.old.items ++ (making_for (fields_of given.now.kind).makes).spelling given.now.making) }
+    ensures { OnOk result (out.new ≡ out.old ++ (making_for (fields_of given.now.kind).makes).spelling given.now.making) }
 {
     given.limits();
     match given.making() {

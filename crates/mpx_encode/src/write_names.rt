@@ -11,18 +11,19 @@ use crate::write_numbers::{write_u8, write_u16};
 use join_core::OutOfMemory;
 use mpx_group::Proc;
 use mpx_name::{Name, Step};
+use mpx_rope::Rope;
 
 // Writes the members at the end.
-pub fn write_members(members: &[Proc], out: &mut Vec<u8>) -> Result<(), OutOfMemory>
+pub fn write_members(members: &[Proc], out: &mut Rope) -> Result<(), OutOfMemory>
     requires { members_format.fits members.now ≡ true }
-    ensures { OnOk result (out.new.items ≡ out.old.items ++ members_format.spelling members.now) }
+    ensures { OnOk result (out.new ≡ out.old ++ members_format.spelling members.now) }
 {
     write_u8(members.len() as u8, out)?;
     write_list(members, out)
 }
 
-fn write_child(call: u32, colour: u32, out: &mut Vec<u8>) -> Result<(), OutOfMemory>
-    ensures { OnOk result (out.new.items ≡ out.old.items ++ step.spelling (Child call colour)) }
+fn write_child(call: u32, colour: u32, out: &mut Rope) -> Result<(), OutOfMemory>
+    ensures { OnOk result (out.new ≡ out.old ++ step.spelling (Child call colour)) }
 {
     out.extend_from_slice(&child_bytes(call, colour))?;
     Ok(())
@@ -38,9 +39,9 @@ fn child_bytes(call: u32, colour: u32) -> [u8; 9]
     [0, a[0], a[1], a[2], a[3], b[0], b[1], b[2], b[3]]
 }
 
-fn write_gathering(tag: u16, members: &[Proc], out: &mut Vec<u8>) -> Result<(), OutOfMemory>
+fn write_gathering(tag: u16, members: &[Proc], out: &mut Rope) -> Result<(), OutOfMemory>
     requires { members_format.fits members.now ≡ true }
-    ensures { OnOk result (out.new.items ≡ out.old.items ++ step.spelling (Gathering tag members.now)) }
+    ensures { OnOk result (out.new ≡ out.old ++ step.spelling (Gathering tag members.now)) }
 {
     write_u8(1, out)?;
     write_u16(tag, out)?;
@@ -59,7 +60,7 @@ impl WriteKey for Step {
         }
     }
 
-    fn write(&self, out: &mut Vec<u8>) -> Result<(), OutOfMemory> {
+    fn write(&self, out: &mut Rope) -> Result<(), OutOfMemory> {
         match self {
             Step::Child { call, colour } => write_child(*call, *colour, out),
             Step::Gathering { tag, members } => write_gathering(*tag, members.members(), out),
@@ -82,9 +83,9 @@ fn room_after_steps(steps: &[Step], room: usize) -> Option<usize>
 }
 
 // Writes the steps at the end: mostly there is one, to a child.
-fn write_steps(steps: &[Step], out: &mut Vec<u8>) -> Result<(), OutOfMemory>
+fn write_steps(steps: &[Step], out: &mut Rope) -> Result<(), OutOfMemory>
     requires { list_all step.fits steps.now ≡ true }
-    ensures { OnOk result (out.new.items ≡ out.old.items ++ flat_map step.spelling steps.now) }
+    ensures { OnOk result (out.new ≡ out.old ++ flat_map step.spelling steps.now) }
 {
     if steps.len() == 1 {
         if let Step::Child { call, colour } = &steps[0] {
@@ -107,7 +108,7 @@ impl WriteKey for Name {
         room_after_steps(steps, left)
     }
 
-    fn write(&self, out: &mut Vec<u8>) -> Result<(), OutOfMemory> {
+    fn write(&self, out: &mut Rope) -> Result<(), OutOfMemory> {
         let steps = self.steps();
         write_u8(steps.len() as u8, out)?;
         write_steps(steps, out)

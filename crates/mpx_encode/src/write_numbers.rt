@@ -4,16 +4,17 @@ ghost use Rattle.std.specs.Int.{w16, w32, to_be_bytes};
 
 use byteorder::{BigEndian, ByteOrder};
 use join_core::OutOfMemory;
+use mpx_rope::Rope;
 
-pub fn write_u8(number: u8, out: &mut Vec<u8>) -> Result<(), OutOfMemory>
-    ensures { OnOk result (out.new.items ≡ out.old.items ++ number ∷ []) }
+pub fn write_u8(number: u8, out: &mut Rope) -> Result<(), OutOfMemory>
+    ensures { OnOk result (out.new ≡ out.old ++ number ∷ []) }
 {
     out.push(number)?;
     Ok(())
 }
 
-pub fn write_u16(number: u16, out: &mut Vec<u8>) -> Result<(), OutOfMemory>
-    ensures { OnOk result (out.new.items ≡ out.old.items ++ to_be_bytes w16 number) }
+pub fn write_u16(number: u16, out: &mut Rope) -> Result<(), OutOfMemory>
+    ensures { OnOk result (out.new ≡ out.old ++ to_be_bytes w16 number) }
 {
     let mut bytes = [0u8; 2];
     BigEndian::write_u16(&mut bytes, number);
@@ -21,8 +22,8 @@ pub fn write_u16(number: u16, out: &mut Vec<u8>) -> Result<(), OutOfMemory>
     Ok(())
 }
 
-pub fn write_u32(number: u32, out: &mut Vec<u8>) -> Result<(), OutOfMemory>
-    ensures { OnOk result (out.new.items ≡ out.old.items ++ to_be_bytes w32 number) }
+pub fn write_u32(number: u32, out: &mut Rope) -> Result<(), OutOfMemory>
+    ensures { OnOk result (out.new ≡ out.old ++ to_be_bytes w32 number) }
 {
     let mut bytes = [0u8; 4];
     BigEndian::write_u32(&mut bytes, number);

@@ -14,9 +14,10 @@ use crate::write_makings::{making_len, write_making};
 use crate::write_numbers::{write_u8, write_u16};
 use join_core::OutOfMemory;
 use mpx_post::{Counts, Post};
+use mpx_rope::Rope;
 
-fn write_root(given: &Post, out: &mut Vec<u8>) -> Result<(), OutOfMemory>
-    ensures { OnOk result (out.new.items ≡ out.old.items ++ (when (fields_of given.now.kind).root process).spelling given.now.root) }
+fn write_root(given: &Post, out: &mut Rope) -> Result<(), OutOfMemory>
+    ensures { OnOk result (out.new ≡ out.old ++ (when (fields_of given.now.kind).root process).spelling given.now.root) }
 {
     match given.root() {
         None => Ok(()),
@@ -24,8 +25,8 @@ fn write_root(given: &Post, out: &mut Vec<u8>) -> Result<(), OutOfMemory>
     }
 }
 
-fn write_operation(given: &Post, out: &mut Vec<u8>) -> Result<(), OutOfMemory>
-    ensures { OnOk result (out.new.items ≡ out.old.items ++ (when (fields_of given.now.kind).op (operation Two)).spelling given.now.op) }
+fn write_operation(given: &Post, out: &mut Rope) -> Result<(), OutOfMemory>
+    ensures { OnOk result (out.new ≡ out.old ++ (when (fields_of given.now.kind).op (operation Two)).spelling given.now.op) }
 {
     match given.op() {
         None => Ok(()),
@@ -37,8 +38,8 @@ fn write_operation(given: &Post, out: &mut Vec<u8>) -> Result<(), OutOfMemory>
     }
 }
 
-fn write_type(given: &Post, out: &mut Vec<u8>) -> Result<(), OutOfMemory>
-    ensures { OnOk result (out.new.items ≡ out.old.items ++ type_spelled given.now) }
+fn write_type(given: &Post, out: &mut Rope) -> Result<(), OutOfMemory>
+    ensures { OnOk result (out.new ≡ out.old ++ type_spelled given.now) }
 {
     match given.items() {
         None => Ok(()),
@@ -46,8 +47,8 @@ fn write_type(given: &Post, out: &mut Vec<u8>) -> Result<(), OutOfMemory>
     }
 }
 
-fn write_items_of(given: &Post, out: &mut Vec<u8>) -> Result<(), OutOfMemory>
-    ensures { OnOk result (out.new.items ≡ out.old.items ++ items_spelled given.now) }
+fn write_items_of(given: &Post, out: &mut Rope) -> Result<(), OutOfMemory>
+    ensures { OnOk result (out.new ≡ out.old ++ items_spelled given.now) }
 {
     match given.items() {
         None => Ok(()),
@@ -66,8 +67,8 @@ fn typed_len(given: &Post) -> usize
     }
 }
 
-fn write_each_count(counts: &[u16], out: &mut Vec<u8>) -> Result<(), OutOfMemory>
-    ensures { OnOk result (out.new.items ≡ out.old.items ++ flat_map count_format.spelling counts.now) }
+fn write_each_count(counts: &[u16], out: &mut Rope) -> Result<(), OutOfMemory>
+    ensures { OnOk result (out.new ≡ out.old ++ flat_map count_format.spelling counts.now) }
 {
     for &count in counts {
         write_u16(count, out)?;
@@ -76,8 +77,8 @@ fn write_each_count(counts: &[u16], out: &mut Vec<u8>) -> Result<(), OutOfMemory
 }
 
 // Writes the counts at the end, where the kind has them.
-fn write_counts(had: bool, counts: &Counts, out: &mut Vec<u8>) -> Result<(), OutOfMemory>
-    ensures { OnOk result (out.new.items ≡ out.old.items ++ (counts_if had).spelling counts.now) }
+fn write_counts(had: bool, counts: &Counts, out: &mut Rope) -> Result<(), OutOfMemory>
+    ensures { OnOk result (out.new ≡ out.old ++ (counts_if had).spelling counts.now) }
 {
     if !had {
         return Ok(());
@@ -134,9 +135,9 @@ pub fn post_len(given: &Post) -> usize
 }
 
 // Writes the post at the end.
-pub fn write_post(given: &Post, out: &mut Vec<u8>) -> Result<(), OutOfMemory>
+pub fn write_post(given: &Post, out: &mut Rope) -> Result<(), OutOfMemory>
     requires { (post_format Two).fits given.now ≡ true }
-    ensures { OnOk result (out.new.items ≡ out.old.items ++ (post_format Two).spelling given.now) }
+    ensures { OnOk result (out.new ≡ out.old ++ (post_format Two).spelling given.now) }
 {
     let fields = given.kind().fields();
     write_u8(given.kind().code(), out)?;

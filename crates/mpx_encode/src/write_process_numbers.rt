@@ -17,6 +17,7 @@ use crate::write_numbers::{write_u8, write_u32};
 use join_core::{Max, OutOfMemory};
 use mpx_board::VersionVector;
 use mpx_group::Proc;
+use mpx_rope::Rope;
 
 impl WriteKey for Proc {
     ghost format = { process };
@@ -30,7 +31,7 @@ impl WriteKey for Proc {
     }
 
     #[tactic(auto, unfolding(mpx_format::specs::Fields::process))]
-    fn write(&self, out: &mut Vec<u8>) -> Result<(), OutOfMemory> {
+    fn write(&self, out: &mut Rope) -> Result<(), OutOfMemory> {
         write_u8(self.number(), out)
     }
 }
@@ -48,7 +49,7 @@ impl WriteKey for u32 {
     }
 
     #[tactic(auto, unfolding(mpx_format::specs::Fields::call))]
-    fn write(&self, out: &mut Vec<u8>) -> Result<(), OutOfMemory> {
+    fn write(&self, out: &mut Rope) -> Result<(), OutOfMemory> {
         write_u32(*self, out)
     }
 }
@@ -69,7 +70,7 @@ impl WriteValue for Max {
     }
 
     #[tactic(auto, unfolding(mpx_format::specs::Fields::some_calls))]
-    fn write(&self, out: &mut Vec<u8>) -> Result<(), OutOfMemory> {
+    fn write(&self, out: &mut Rope) -> Result<(), OutOfMemory> {
         write_u32(self.0, out)
     }
 }
@@ -87,7 +88,7 @@ impl WriteValue for VersionVector {
         room_after_rows(self.entries(), room)
     }
 
-    fn write(&self, out: &mut Vec<u8>) -> Result<(), OutOfMemory> {
+    fn write(&self, out: &mut Rope) -> Result<(), OutOfMemory> {
         let entries = self.entries();
         write_u8(entries.len() as u8, out)?;
         write_rows(entries, out)
@@ -133,9 +134,9 @@ pub fn room_after_fronts(numbers: &VersionVector, room: usize) -> Option<usize>
 }
 
 // Writes the fronts at the end.
-pub fn write_fronts(numbers: &VersionVector, out: &mut Vec<u8>) -> Result<(), OutOfMemory>
+pub fn write_fronts(numbers: &VersionVector, out: &mut Rope) -> Result<(), OutOfMemory>
     requires { fronts.fits (view_of_numbers numbers.now) ≡ true }
-    ensures { OnOk result (out.new.items ≡ out.old.items ++ fronts.spelling (view_of_numbers numbers.now)) }
+    ensures { OnOk result (out.new ≡ out.old ++ fronts.spelling (view_of_numbers numbers.now)) }
 {
     let entries = numbers.entries();
     write_u8(entries.len() as u8, out)?;
@@ -143,8 +144,8 @@ pub fn write_fronts(numbers: &VersionVector, out: &mut Vec<u8>) -> Result<(), Ou
 }
 
 // Writes processes with their numbers at the end, four at once as long as there are four.
-fn write_rows(rows: &[(Proc, Max)], out: &mut Vec<u8>) -> Result<(), OutOfMemory>
-    ensures { OnOk result (out.new.items ≡ out.old.items ++ entries_spelled process some_calls (seen (λ n. n.0) rows.now)) }
+fn write_rows(rows: &[(Proc, Max)], out: &mut Rope) -> Result<(), OutOfMemory>
+    ensures { OnOk result (out.new ≡ out.old ++ entries_spelled process some_calls (seen (λ n. n.0) rows.now)) }
 {
     let rest = write_fours(rows, out)?;
     for row in rest {
@@ -156,10 +157,10 @@ fn write_rows(rows: &[(Proc, Max)], out: &mut Vec<u8>) -> Result<(), OutOfMemory
 // Writes fours of them at the end, and gives those that are left.
 fn write_fours<'a>(
     rows: &'a [(Proc, Max)],
-    out: &mut Vec<u8>,
+    out: &mut Rope,
 ) -> Result<&'a [(Proc, Max)], OutOfMemory>
-    ensures { IfOk result (λ rest. out.new.items ++ entries_spelled process some_calls (seen (λ n. n.0) rest.now)
-        ≡ out.old.items ++ entries_spelled process some_calls (seen (λ n. n.0) rows.now)) }
+    ensures { IfOk result (λ rest. out.new ++ entries_spelled process some_calls (seen (λ n. n.0) rest.now)
+        ≡ out.old ++ entries_spelled process some_calls (seen (λ n. n.0) rows.now)) }
 {
     let mut rest = rows;
     while let Some((four, after)) = rest.split_first_chunk::<4>() {

@@ -8,6 +8,7 @@ use Rattle.std.specs.FinMap.{FinMap, entries, len, len-entries}
 use Rattle.std.proofs.lemmas.Bool.{ltb-true, ltb-false, le-ltb, eqb-true, ne_eqb, and_parts, and_from}
 use Rattle.std.proofs.lemmas.List.{append-nil, nil_from_length}
 use Rattle.join_nest.specs.Lift.{live, dead}
+use Rattle.mpx_num.proofs.Spellings.{IsBytes}
 use Rattle.mpx_name.specs.Order.{name_cmp}
 use Rattle.mpx_board.specs.Parts.{LiftedView, PartsView}
 use Rattle.mpx_board.specs.Tidy.{is_bare, has_no_zero, is_tidy_numbers, is_tidy_acks, are_tidy_posts, is_tidy_call, is_tidy_entry, is_tidy_lifted, is_tidy, is_unknown, says_nothing}
@@ -23,7 +24,7 @@ use Rattle.mpx_format.specs.Births.{birth}
 use Rattle.mpx_format.specs.Posts.{post}
 use Rattle.mpx_format.specs.Contexts.{told, posted, call_posts, calls, held, progress, context, lifted, says_something, parts, frame}
 use Rattle.mpx_format.specs.Decoding.{Spells, IsSpelled, most_bytes, placed, ended, decoded}
-use Rattle.mpx_format.proofs.FormatLaws.{IsBytes, ok_is}
+use Rattle.mpx_format.proofs.FormatLaws.{ok_is}
 use Rattle.mpx_format.proofs.ContextLaws.{frame_laws, parts_fit}
 
 -- TIDY

@@ -1,29 +1,20 @@
 -- What holds of each format: what is read is spelled so, and what is spelled so is read, whatever follows.
-use Rattle.std.proofs.Common.{◌≡◌, ℕ, zero, suc, ◌^◌, ◌<◌, ◌≤◌, Bool, true, false, ◌&&◌, cond, ltb, eqb, List, [], ◌∷◌, ◌++◌, length, get_or, take, drop, Option, Some, None, Result, Ok, Err, refl, sym, ap, subst, ◌∙◌, append_assoc, arith, inl, inr}
-use Rattle.std.specs.Int.{Width, w16, w32, w64, byte_len, from_be_bytes, to_be_bytes}
-use Rattle.std.proofs.lemmas.Bool.{cases_lt, ltb-false, le-ltb, lt-ltb, ltb-true, eqb-true, eq-eqb, and_parts, and_from}
-use Rattle.std.proofs.lemmas.List.{take_at, drop_at, take-append-drop, length-append, length-take, get_or-take, get_or_past}
-use Rattle.std.proofs.lemmas.Nat.{be_bytes_2, be_bytes_4, be_bytes_8, from_be_bytes-to_be_bytes_2, from_be_bytes-to_be_bytes_4, from_be_bytes-to_be_bytes_8}
+use Rattle.std.proofs.Common.{◌≡◌, ℕ, zero, suc, ◌-◌, ◌^◌, ◌<◌, ◌≤◌, ℤ, pos, ◌≤ℤ◌, Bool, true, false, ◌&&◌, cond, ltb, eqb, List, [], ◌∷◌, ◌++◌, length, take, drop, Option, Some, None, Result, Ok, Err, refl, sym, ap, subst, ◌∙◌, append_assoc, arith}
+use Rattle.std.specs.Int.{Width, w16, w32, w64, byte_len, cast_unsigned, from_be_bytes, to_be_bytes}
+use Rattle.std.proofs.lemmas.Bool.{ltb-false, le-ltb, lt-ltb, ltb-true, eqb-true, eq-eqb, and_parts, and_from}
+use Rattle.std.proofs.lemmas.Int.{ints}
+use Rattle.std.proofs.lemmas.List.{take_at, drop_at, take-append-drop, length-append, length-take}
+use Rattle.mpx_num.specs.declared.types.Ty.{Ty}
+use Rattle.mpx_num.specs.declared.types.Ty.TheVariants.{U16, U32, U64}
+use Rattle.mpx_num.specs.Spelling.{bytes_of, number_in, number_len, width_of}
+use Rattle.mpx_num.specs.Types.{depth, greatest, width}
+use Rattle.mpx_num.proofs.Spellings.{IsBytes, IsBytes-take, IsBytes-drop, spells}
 use Rattle.mpx_format.specs.declared.defects.Defect.{Defect}
 use Rattle.mpx_format.specs.declared.defects.Defect.TheVariants.{ShortFrame}
-use Rattle.mpx_format.specs.Format.{Format, ◌>>=◌, byte, number, nothing, mark, both, only, through, spelled_by, fits_by, many, many_read, many_spelled, many_fit, counted, tagged, out_of_limits}
-
-abbrev pub IsBytes : List ℕ → Type 0
-IsBytes bytes = (i : ℕ) → get_or bytes i 0 < 256
-
-IsBytes-rest : (b : ℕ) (bytes : List ℕ) → IsBytes (b ∷ bytes) → IsBytes bytes
-IsBytes-rest b bytes h i = h (suc i)
+use Rattle.mpx_format.specs.Format.{Format, ◌>>=◌, byte, number, sized, nothing, mark, both, only, through, spelled_by, fits_by, many, many_read, many_spelled, many_fit, counted, tagged, out_of_limits}
 
 pub IsBytes-after : (front bytes : List ℕ) → IsBytes (front ++ bytes) → IsBytes bytes
-IsBytes-after [] bytes h = h
-IsBytes-after (b ∷ front) bytes h = IsBytes-after front bytes (IsBytes-rest b (front ++ bytes) h)
-
-IsBytes-take : (n : ℕ) (bytes : List ℕ) → IsBytes bytes → IsBytes (take n bytes)
-IsBytes-take n bytes h i =
-    elim (cases_lt i n) [
-      | inl lt ↦ rw (get_or-take n bytes i 0 lt) (h i)
-      | inr le ↦ rw (get_or_past (take n bytes) i 0 (omega (arith, length-take n bytes))) (omega arith)
-    ]
+IsBytes-after front bytes h = subst IsBytes (drop_at front bytes (length front) refl) (IsBytes-drop (length front) (front ++ bytes) h)
 
 pub record Exactly {V : Type 0} (f : Format V) : Type 0 where
   pub found : (bytes : List ℕ) (x : V × List ℕ) → IsBytes bytes → f.read bytes ≡ Ok x → (f.fits x.0 ≡ true) × (bytes ≡ f.spelling x.0 ++ x.1)
@@ -65,50 +56,58 @@ byte_found (b ∷ bytes) x h e =
 pub byte_laws : Exactly byte
 byte_laws = record { found = byte_found; again = λ v rest fits. refl }
 
-pub record IsWide (w : Width) : Type 0 where
-  pub len : (n : ℕ) → length (to_be_bytes w n) ≡ byte_len w
-  pub back : (bytes : List ℕ) → length bytes ≡ byte_len w → IsBytes bytes → to_be_bytes w (from_be_bytes w bytes) ≡ bytes
-  pub again : (n : ℕ) → n < 256 ^ byte_len w → from_be_bytes w (to_be_bytes w n) ≡ n
-  pub below : (bytes : List ℕ) → IsBytes bytes → from_be_bytes w bytes < 256 ^ byte_len w
+-- each value is spelled in so many bytes, and so many bytes spell one that passes the test
+pub record IsSized {V : Type 0} (len : ℕ) (spelling : V → List ℕ) (value : List ℕ → V) (test : V → Bool) : Type 0 where
+  pub long : (v : V) → length (spelling v) ≡ len
+  pub back : (bytes : List ℕ) → length bytes ≡ len → IsBytes bytes → spelling (value bytes) ≡ bytes
+  pub again : (v : V) → test v ≡ true → value (spelling v) ≡ v
+  pub passed : (bytes : List ℕ) → IsBytes bytes → test (value bytes) ≡ true
+
+pub sized_laws : {V : Type 0} {len : ℕ} {spelling : V → List ℕ} {value : List ℕ → V} {test : V → Bool} → IsSized len spelling value test → Exactly (sized len spelling value test)
+sized_laws {V = V} {len = len} {spelling = spelling} {value = value} {test = test} is = record {
+  found = λ bytes x h e.
+      let front = take len bytes in
+      let g = short_ok (ltb (length bytes) len) ShortFrame (value front, drop len bytes) x e in
+      let long : len ≤ length bytes = ltb-false _ _ g.0 in
+      let whole : spelling (value front) ≡ front = is.back front (omega (arith, length-take len bytes)) (IsBytes-take len bytes h) in
+      subst (λ (y : V × List ℕ). (test y.0 ≡ true) × (bytes ≡ spelling y.0 ++ y.1)) g.1
+      (is.passed front (IsBytes-take len bytes h), sym (ap (λ (t : List ℕ). t ++ drop len bytes) whole ∙ take-append-drop len bytes));
+  again = λ v rest fits.
+      let long = is.long v in
+      let enough : ltb (length (spelling v ++ rest)) len ≡ false = le-ltb _ _ (omega (arith, length-append (spelling v) rest)) in
+      rw (enough, take_at (spelling v) rest len long, drop_at (spelling v) rest len long, is.again v fits) refl;
+}
+
+abbrev pub IsWide : Width → Type 0
+IsWide w = IsSized (byte_len w) (to_be_bytes w) (from_be_bytes w) (λ n. ltb n (256 ^ byte_len w))
+
+-- unsigned numbers are those of an unsigned type
+unsigned : (ty : Ty) → depth ty ≡ 0 → 256 ^ number_len ty ≡ 2 ^ width ty → 0 < 2 ^ width ty → IsWide (width_of ty)
+unsigned ty low broad some = record {
+  long = λ n. (spells ty).len (pos n);
+  back = λ bytes len h. ap (bytes_of ty) (sym (reads bytes)) ∙ (spells ty).back bytes len h;
+  again = λ n lt.
+      let below : n < 2 ^ width ty = subst (λ (k : ℕ). n < k) broad (ltb-true _ _ lt) in
+      ap (cast_unsigned (width_of ty)) (sym (reads (bytes_of ty (pos n))) ∙ (spells ty).again (pos n) (record { low = rw low (omega (arith, ints)); high = rw low (omega (arith, ints, below)) }));
+  passed = λ bytes h.
+      let high : pos (from_be_bytes (width_of ty) bytes) ≤ℤ pos (2 ^ width ty - 1 - depth ty) = subst (λ (z : ℤ). z ≤ℤ greatest ty) (reads bytes) ((spells ty).within bytes h).high in
+      lt-ltb _ _ (rw broad (omega (arith, ints, high, some)));
+}
+  where
+    reads : (bytes : List ℕ) → number_in ty bytes ≡ pos (from_be_bytes (width_of ty) bytes)
+    reads bytes = rw low refl
 
 pub wide16 : IsWide w16
-wide16 = record {
-  len = λ n. refl;
-  back = λ bytes len fits. be_bytes_2 bytes _ len fits refl;
-  again = λ n lt. from_be_bytes-to_be_bytes_2 n lt;
-  below = λ bytes fits. omega (arith, fits 0, fits 1);
-}
+wide16 = unsigned U16 refl refl (omega arith)
 
 pub wide32 : IsWide w32
-wide32 = record {
-  len = λ n. refl;
-  back = λ bytes len fits. be_bytes_4 bytes _ len fits refl;
-  again = λ n lt. from_be_bytes-to_be_bytes_4 n lt;
-  below = λ bytes fits. omega (arith, fits 0, fits 1, fits 2, fits 3);
-}
+wide32 = unsigned U32 refl refl (omega arith)
 
 pub wide64 : IsWide w64
-wide64 = record {
-  len = λ n. refl;
-  back = λ bytes len fits. be_bytes_8 bytes _ len fits refl;
-  again = λ n lt. from_be_bytes-to_be_bytes_8 n lt;
-  below = λ bytes fits. omega (arith, fits 0, fits 1, fits 2, fits 3, fits 4, fits 5, fits 6, fits 7);
-}
+wide64 = unsigned U64 refl refl (omega arith)
 
 pub number_laws : (w : Width) → IsWide w → Exactly (number w)
-number_laws w wide = record {
-  found = λ bytes x h e.
-      let g = short_ok (ltb (length bytes) (byte_len w)) ShortFrame (from_be_bytes w (take (byte_len w) bytes), drop (byte_len w) bytes) x e in
-      let long : byte_len w ≤ length bytes = ltb-false _ _ g.0 in
-      let front = IsBytes-take (byte_len w) bytes h in
-      let whole : to_be_bytes w (from_be_bytes w (take (byte_len w) bytes)) ≡ take (byte_len w) bytes = wide.back (take (byte_len w) bytes) (omega (arith, length-take (byte_len w) bytes)) front in
-      subst (λ (y : ℕ × List ℕ). (ltb y.0 (256 ^ byte_len w) ≡ true) × (bytes ≡ to_be_bytes w y.0 ++ y.1)) g.1
-      (lt-ltb _ _ (wide.below (take (byte_len w) bytes) front), sym (ap (λ (t : List ℕ). t ++ drop (byte_len w) bytes) whole ∙ take-append-drop (byte_len w) bytes));
-  again = λ n rest fits.
-      let len = wide.len n in
-      let long : ltb (length (to_be_bytes w n ++ rest)) (byte_len w) ≡ false = le-ltb _ _ (omega (arith, length-append (to_be_bytes w n) rest)) in
-      rw (long, take_at (to_be_bytes w n) rest (byte_len w) len, drop_at (to_be_bytes w n) rest (byte_len w) len, wide.again n (ltb-true _ _ fits)) refl;
-}
+number_laws w is = sized_laws is
 
 -- OUT OF OTHERS
 
@@ -119,7 +118,7 @@ module _ {V : Type 0} {f : Format V} (wrong : Defect) (c : ℕ) (p : Exactly f) 
   mark_found : (bytes : List ℕ) (x : V × List ℕ) → IsBytes bytes → (mark wrong c f).read bytes ≡ Ok x → (f.fits x.0 ≡ true) × (bytes ≡ c ∷ f.spelling x.0 ++ x.1)
   mark_found [] x h e = absurd cc
   mark_found (b ∷ bytes) x h e = elim (eqb b c) as (λ t. eqb b c ≡ t → (cond t (Ok bytes) (Err wrong) >>= f.read) ≡ Ok x → (f.fits x.0 ≡ true) × (b ∷ bytes ≡ c ∷ f.spelling x.0 ++ x.1)) [
-    | true ↦ λ is e. let r = p.found bytes x (IsBytes-rest b bytes h) e in (r.0, λ i. eqb-true b c is i ∷ r.1 i)
+    | true ↦ λ is e. let r = p.found bytes x (IsBytes-drop 1 (b ∷ bytes) h) e in (r.0, λ i. eqb-true b c is i ∷ r.1 i)
     | false ↦ λ is e. absurd cc
   ] refl e
 

@@ -3,6 +3,7 @@ pub mod Rows
 pub mod FieldLaws
 pub mod CodeLaws
 pub mod BirthLaws
+pub mod Integers
 pub mod PostLaws
 pub mod Truncs
 pub mod ContextLaws
@@ -10,4 +11,3 @@ pub mod Decoded
 pub mod Examples
 pub mod Spelled
 pub mod SpelledPosts
-pub mod Integers

@@ -1,8 +1,8 @@
 -- The laws of the format of posts.
-use Rattle.std.proofs.Common.{◌≡◌, ℕ, zero, suc, ℤ, pos, negsuc, ◌-◌, ◌*◌, ◌/◌, ◌^◌, ◌<◌, ◌≤◌, Bool, true, false, ◌&&◌, cond, ltb, List, [], ◌∷◌, length, Option, Some, None, refl, sym, ap, ◌∙◌, arith}
-use Rattle.std.specs.Int.{w16, w32, w64}
+use Rattle.std.proofs.Common.{◌≡◌, ℕ, zero, suc, ℤ, ◌-◌, ◌*◌, ◌/◌, Bool, true, false, ◌&&◌, ltb, List, [], ◌∷◌, length, Option, Some, None, refl, sym, ap, ◌∙◌, arith}
+use Rattle.std.specs.Int.{w16}
 use Rattle.std.specs.Option.{option_map}
-use Rattle.std.proofs.lemmas.Bool.{ltb-true, ltb-false, lt-ltb, le-ltb, and_parts}
+use Rattle.std.proofs.lemmas.Bool.{ltb-true, and_parts}
 use Rattle.mpx_num.specs.ItemList.{ItemList}
 use Rattle.mpx_num.specs.Types.{item_len}
 use Rattle.mpx_num.specs.declared.types.Ty.{Ty}
@@ -17,14 +17,15 @@ use Rattle.mpx_post.specs.declared.making.Making.TheVariants.{Nothing, Split, Gr
 use Rattle.mpx_post.specs.Graphs.{EdgesView, NeighboursView, most_edges}
 use Rattle.mpx_post.specs.Posts.{Given}
 use Rattle.mpx_format.specs.declared.versions.Version.{Version}
-use Rattle.mpx_format.specs.Format.{Format, through, many_fit, out_of_limits}
+use Rattle.mpx_format.specs.Format.{Format, many_fit, out_of_limits}
 use Rattle.mpx_format.specs.Fields.{process, colour}
 use Rattle.mpx_format.specs.Codes.{kind, mode, operation, when}
-use Rattle.mpx_format.specs.Posts.{type_for, of_nil, no_list, count, counts, counts_if, signed, of_signed, integer, item_count, items, items_for, code_of_option, option_form, choice, split_of, of_split, split, of_group, ranks, group, edge_of, edge, edge_count, edges_of, edges, few_neighbours, own_of, own, of_nothing, of_edges, of_own, making_for, PostFields, given_from, nums_of, fields_from, post}
-use Rattle.mpx_format.proofs.FormatLaws.{Exactly, byte_laws, number_laws, wide16, wide32, wide64, nothing_laws, both_laws, only_laws, through_laws, many_laws, many_fit-length, counted_laws, tagged_laws, some_is}
+use Rattle.mpx_format.specs.Posts.{type_for, of_nil, no_list, count, counts, counts_if, integer, item_count, items, items_for, code_of_option, option_form, choice, split_of, of_split, split, of_group, ranks, group, edge_of, edge, edge_count, edges_of, edges, few_neighbours, own_of, own, of_nothing, of_edges, of_own, making_for, PostFields, given_from, nums_of, fields_from, post}
+use Rattle.mpx_format.proofs.FormatLaws.{Exactly, byte_laws, number_laws, wide16, nothing_laws, both_laws, only_laws, through_laws, many_laws, many_fit-length, counted_laws, tagged_laws, some_is}
 use Rattle.mpx_format.proofs.FieldLaws.{process_laws, member_laws, colour_laws}
 use Rattle.mpx_format.proofs.CodeLaws.{kind_laws, mode_laws, operation_laws, item_type_laws, flag_laws, missing_laws, there_laws, when_laws}
 use Rattle.mpx_format.proofs.BirthLaws.{weight_laws, neighbour_laws}
+use Rattle.mpx_format.proofs.Integers.{integer_laws}
 
 -- TYPES AND COUNTS
 
@@ -52,39 +53,6 @@ counts_if_laws true = counts_laws
 counts_if_laws false = no_list_laws
 
 -- ITEMS
-
-signed_back : (size below n : ℕ) → below ≤ size → n < size → of_signed size below (signed size below n) ≡ Some n
-signed_back size below n le lt = elim (ltb n (size - below)) as (λ b. ltb n (size - below) ≡ b → of_signed size below (cond b (pos n) (negsuc (size - 1 - n))) ≡ Some n) [
-  | true ↦ λ e. rw e refl
-  | false ↦ λ e. rw (lt-ltb (size - 1 - n) below (omega (arith, ltb-false _ _ e))) (ap Some (omega arith))
-] refl
-
-whole_or : (b : Bool) (x : ℕ) (n : ℕ) → cond b (Some x) None ≡ Some n → (b ≡ true) × (x ≡ n)
-whole_or true x n e = (refl, some_is x n e)
-whole_or false x n e = absurd cc
-
-signed_forth : (size below : ℕ) → below ≤ size → (z : ℤ) (n : ℕ) → of_signed size below z ≡ Some n → signed size below n ≡ z
-signed_forth size below le (pos k) n e = let w = whole_or (ltb k (size - below)) k n e in rw (← w.1, w.0) refl
-signed_forth size below le (negsuc m) n e =
-    let w = whole_or (ltb m below) (size - 1 - m) n e in
-    let lt : m < below = ltb-true _ _ w.0 in
-    rw (← w.1, le-ltb (size - 1 - m) (size - below) (omega arith)) (ap negsuc (omega arith))
-
-module _ (size below : ℕ) {f : Format ℕ} (p : Exactly f) (le : below ≤ size) (within : (n : ℕ) → f.fits n ≡ true → n < size) where
-  signed_laws : Exactly (through (signed size below) (of_signed size below) f)
-  signed_laws = through_laws (signed size below) (of_signed size below) p (λ n fits. signed_back size below n le (within n fits)) (signed_forth size below le)
-
-pub integer_laws : (ty : Ty) → Exactly (integer ty)
-unfolding integer
-integer_laws I8 = signed_laws (2 ^ 8) (2 ^ 7) byte_laws (omega arith) (λ n fits. ltb-true n (2 ^ 8) fits)
-integer_laws I16 = signed_laws (2 ^ 16) (2 ^ 15) (number_laws w16 wide16) (omega arith) (λ n fits. ltb-true n (2 ^ 16) fits)
-integer_laws I32 = signed_laws (2 ^ 32) (2 ^ 31) (number_laws w32 wide32) (omega arith) (λ n fits. ltb-true n (2 ^ 32) fits)
-integer_laws I64 = signed_laws (2 ^ 64) (2 ^ 63) (number_laws w64 wide64) (omega arith) (λ n fits. ltb-true n (2 ^ 64) fits)
-integer_laws U8 = signed_laws (2 ^ 8) (0) byte_laws (omega arith) (λ n fits. ltb-true n (2 ^ 8) fits)
-integer_laws U16 = signed_laws (2 ^ 16) (0) (number_laws w16 wide16) (omega arith) (λ n fits. ltb-true n (2 ^ 16) fits)
-integer_laws U32 = signed_laws (2 ^ 32) (0) (number_laws w32 wide32) (omega arith) (λ n fits. ltb-true n (2 ^ 32) fits)
-integer_laws U64 = signed_laws (2 ^ 64) (0) (number_laws w64 wide64) (omega arith) (λ n fits. ltb-true n (2 ^ 64) fits)
-integer_laws TwoInt = signed_laws (2 ^ 32) (2 ^ 31) (number_laws w32 wide32) (omega arith) (λ n fits. ltb-true n (2 ^ 32) fits)
 
 item_len-cases : (ty : Ty) (n l : ℕ) → l ≡ n * item_len ty → l / item_len ty ≡ n
 item_len-cases I8 n l e = omega (arith, e)

@@ -1,10 +1,8 @@
 -- Posts within the limits of their type have a spelling in version 2.
-use Rattle.std.proofs.Common.{◌≡◌, ℕ, ℤ, pos, negsuc, neg_ℤ, ◌≤ℤ◌, ◌+◌, ◌-◌, ◌*◌, ◌/◌, ◌^◌, ◌<◌, ◌≤◌, Bool, true, false, cond, ltb, ◌&&◌, List, [], length, Option, Some, None, refl, ap, subst, ◌∙◌, arith}
+use Rattle.std.proofs.Common.{◌≡◌, ℕ, ℤ, ◌+◌, ◌-◌, ◌*◌, ◌/◌, ◌^◌, ◌<◌, ◌≤◌, Bool, true, false, ltb, ◌&&◌, List, [], length, Option, Some, None, refl, ap, subst, ◌∙◌, arith}
 use Rattle.std.specs.Prelude.{is_some, slice_index_or}
 use Rattle.std.specs.List.{All}
 use Rattle.std.specs.Option.{option_map, option_map_or}
-use Rattle.std.specs.Int.{w16, w32, w64}
-use Rattle.std.proofs.lemmas.Int.{ints}
 use Rattle.std.proofs.lemmas.Bool.{lt-ltb, le-leb, ltb-true, eqb-true, eq-eqb, and_from, or_right}
 use Rattle.mpx_group.proofs.Members.{length_distinct}
 use Rattle.mpx_num.specs.ItemList.{ItemList, AreItems}
@@ -28,12 +26,13 @@ use Rattle.mpx_post.specs.Graphs.{EdgesView, NeighboursView, most_edges, IsWeigh
 use Rattle.mpx_post.specs.Ranks.{AreRanks}
 use Rattle.mpx_post.specs.Posts.{Given, most_items, most_counts, AreCounts, few_items, IsColour, makes_of, IsWithin, IsMaking, key_in, key_of, type_of, NoneUnless, are_items_of, IsPost}
 use Rattle.mpx_format.specs.declared.versions.Version.TheVariants.{Two}
-use Rattle.mpx_format.specs.Format.{Format, byte, number, fits_by, many_fit}
+use Rattle.mpx_format.specs.Format.{many_fit}
 use Rattle.mpx_format.specs.Fields.{process}
 use Rattle.mpx_format.specs.Codes.{kind, mode, operation, item_type, flag, when}
 use Rattle.mpx_format.specs.Births.{neighbour}
-use Rattle.mpx_format.specs.Posts.{type_for, no_list, count, counts, counts_if, of_signed, integer, item_count, items, items_for, choice, split, ranks, group, edge, edge_count, edges, few_neighbours, own, making_for, nums_of, post}
+use Rattle.mpx_format.specs.Posts.{type_for, no_list, count, counts, counts_if, integer, item_count, items, items_for, choice, split, ranks, group, edge, edge_count, edges, few_neighbours, own, making_for, nums_of, post}
 use Rattle.mpx_format.proofs.CodeLaws.{each_kind}
+use Rattle.mpx_format.proofs.Integers.{integer_fits}
 use Rattle.mpx_format.proofs.Spelled.{each_fit, process_fits, distinct_fit, colour_fits, weight_fits}
 
 kind_fits : (k : Kind) → (kind Two).fits k ≡ true
@@ -107,27 +106,6 @@ had_counts_fit true cs h none = counts_fit cs h
 had_counts_fit false cs h none = ap (no_list {A = ℕ}).fits none
 
 -- ITEMS
-
-module _ (size below : ℕ) (f : Format ℕ) (within : (n : ℕ) → n < size → f.fits n ≡ true) (le : below < size) where
-  signed_fits : (z : ℤ) → neg_ℤ (pos below) ≤ℤ z → z ≤ℤ pos (size - 1 - below) → fits_by f (of_signed size below z) ≡ true
-  signed_fits (pos n) low high =
-      let lt : n < size - below = omega (arith, ints) in
-      ap (λ b. fits_by f (cond b (Some n) None)) (lt-ltb n (size - below) lt) ∙ within n (omega arith)
-  signed_fits (negsuc m) low high =
-      let lt : m < below = omega (arith, ints) in
-      ap (λ b. fits_by f (cond b (Some (size - 1 - m)) None)) (lt-ltb m below lt) ∙ within (size - 1 - m) (omega arith)
-
-pub integer_fits : (ty : Ty) (z : ℤ) → IsInRange ty z → (integer ty).fits z ≡ true
-unfolding integer
-integer_fits I8 z h = signed_fits (2 ^ 8) (2 ^ 7) byte (λ n lt. lt-ltb n (2 ^ 8) lt) (omega arith) z h.low h.high
-integer_fits I16 z h = signed_fits (2 ^ 16) (2 ^ 15) (number w16) (λ n lt. lt-ltb n (2 ^ 16) lt) (omega arith) z h.low h.high
-integer_fits I32 z h = signed_fits (2 ^ 32) (2 ^ 31) (number w32) (λ n lt. lt-ltb n (2 ^ 32) lt) (omega arith) z h.low h.high
-integer_fits I64 z h = signed_fits (2 ^ 64) (2 ^ 63) (number w64) (λ n lt. lt-ltb n (2 ^ 64) lt) (omega arith) z h.low h.high
-integer_fits U8 z h = signed_fits (2 ^ 8) 0 byte (λ n lt. lt-ltb n (2 ^ 8) lt) (omega arith) z h.low h.high
-integer_fits U16 z h = signed_fits (2 ^ 16) 0 (number w16) (λ n lt. lt-ltb n (2 ^ 16) lt) (omega arith) z h.low h.high
-integer_fits U32 z h = signed_fits (2 ^ 32) 0 (number w32) (λ n lt. lt-ltb n (2 ^ 32) lt) (omega arith) z h.low h.high
-integer_fits U64 z h = signed_fits (2 ^ 64) 0 (number w64) (λ n lt. lt-ltb n (2 ^ 64) lt) (omega arith) z h.low h.high
-integer_fits TwoInt z h = signed_fits (2 ^ 32) (2 ^ 31) (number w32) (λ n lt. lt-ltb n (2 ^ 32) lt) (omega arith) z h.low h.high
 
 -- so many whole items are few, where their numbers are
 few_whole : (ty : Ty) (n len : ℕ) → n * item_len ty ≡ len → len ≤ most_items * item_len ty → n ≤ 4096

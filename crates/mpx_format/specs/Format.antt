@@ -35,13 +35,17 @@ read_byte (b ∷ bytes) = Ok (b, bytes)
 abbrev pub byte : Format ℕ
 byte = record { spelling = λ n. n ∷ []; fits = λ n. nat_lt n 256; read = read_byte }
 
+-- a value that is spelled in so many bytes
+abbrev pub sized : {V : Type 0} → ℕ → (V → List ℕ) → (List ℕ → V) → (V → Bool) → Format V
+sized len spelling value fits = record {
+  spelling = spelling;
+  fits = fits;
+  read = λ bytes. cond (nat_lt (length bytes) len) (Err ShortFrame) (Ok (value (take len bytes), drop len bytes));
+}
+
 -- an unsigned number, the highest byte first
 abbrev pub number : Width → Format ℕ
-number w = record {
-  spelling = to_be_bytes w;
-  fits = λ n. nat_lt n (256 ^ byte_len w);
-  read = λ bytes. cond (nat_lt (length bytes) (byte_len w)) (Err ShortFrame) (Ok (from_be_bytes w (take (byte_len w) bytes), drop (byte_len w) bytes));
-}
+number w = sized (byte_len w) (to_be_bytes w) (from_be_bytes w) (λ n. nat_lt n (256 ^ byte_len w))
 
 -- OUT OF OTHERS
 

@@ -1,12 +1,13 @@
 -- How frames spell posts: the fields of each kind, by the table of kinds (MPI 4.1, sections 6.3 to 6.12, 7.4, 8.5 and 8.6).
-use Rattle.std.specs.Prelude.{ℕ, zero, suc, ℤ, pos, negsuc, ◌-◌, ◌*◌, ◌/◌, ◌^◌, Bool, true, false, cond, nat_lt, nat_le, List, [], ◌∷◌, length, Option, Some, None}
-use Rattle.std.specs.Int.{w16, w32, w64}
+use Rattle.std.specs.Prelude.{ℕ, zero, suc, ℤ, ◌-◌, ◌*◌, ◌/◌, Bool, true, false, nat_lt, nat_le, List, [], ◌∷◌, length, Option, Some, None}
+use Rattle.std.specs.Int.{w16}
 use Rattle.std.specs.Option.{option_map}
 use Rattle.mpx_num.specs.ItemList.{ItemList}
-use Rattle.mpx_num.specs.Types.{width, depth, item_len}
+use Rattle.mpx_num.specs.Spelling.{bytes_of, number_in, number_len}
+use Rattle.mpx_num.specs.Types.{item_len}
 use Rattle.mpx_num.specs.Operations.{fits}
 use Rattle.mpx_num.specs.declared.types.Ty.{Ty}
-use Rattle.mpx_num.specs.declared.types.Ty.TheVariants.{I8, I16, I32, I64, U8, U16, U32, U64, TwoInt}
+use Rattle.mpx_num.specs.declared.types.Ty.TheVariants.{I32}
 use Rattle.mpx_num.specs.declared.operations.Op.{Op}
 use Rattle.mpx_kind.specs.declared.kinds.Kind.{Kind}
 use Rattle.mpx_kind.specs.declared.kinds.Mode.{Mode}
@@ -17,10 +18,11 @@ use Rattle.mpx_birth.specs.declared.edges.Edge.{Edge}
 use Rattle.mpx_birth.specs.declared.edges.Neighbour.{Neighbour}
 use Rattle.mpx_post.specs.declared.making.Making.{Making}
 use Rattle.mpx_post.specs.declared.making.Making.TheVariants.{Nothing, Split, Group, Edges, Neighbours}
+use Rattle.mpx_post.specs.Drafts.{is_of}
 use Rattle.mpx_post.specs.Graphs.{EdgesView, NeighboursView, most_edges}
 use Rattle.mpx_post.specs.Posts.{Given}
 use Rattle.mpx_format.specs.declared.versions.Version.{Version}
-use Rattle.mpx_format.specs.Format.{Format, nothing, byte, number, both, only, through, many, counted, tagged, out_of_limits}
+use Rattle.mpx_format.specs.Format.{Format, nothing, byte, number, sized, both, only, through, many, counted, tagged, out_of_limits}
 use Rattle.mpx_format.specs.Fields.{process, member, colour}
 use Rattle.mpx_format.specs.Codes.{kind, mode, operation, item_type, flag, missing, there, when}
 use Rattle.mpx_format.specs.Births.{weight, neighbour}
@@ -52,27 +54,9 @@ counts_if false = no_list
 
 -- ITEMS
 
--- a number of the type in two's complement, by the unsigned number with the same bits
-abbrev pub signed : (size below : ℕ) → ℕ → ℤ
-signed size below n = cond (nat_lt n (size - below)) (pos n) (negsuc (size - 1 - n))
-
-abbrev pub of_signed : (size below : ℕ) → ℤ → Option ℕ
-of_signed size below (pos n) = cond (nat_lt n (size - below)) (Some n) None
-of_signed size below (negsuc m) = cond (nat_lt m below) (Some (size - 1 - m)) None
-
-abbrev pub bits_of : Ty → Format ℕ
-bits_of I8 = byte
-bits_of I16 = number w16
-bits_of I32 = number w32
-bits_of I64 = number w64
-bits_of U8 = byte
-bits_of U16 = number w16
-bits_of U32 = number w32
-bits_of U64 = number w64
-bits_of TwoInt = number w32
-
+-- a number in the range of the type, as items keep it
 unfoldable pub integer : Ty → Format ℤ
-integer ty = through (signed (2 ^ width ty) (depth ty)) (of_signed (2 ^ width ty) (depth ty)) (bits_of ty)
+integer ty = sized (number_len ty) (bytes_of ty) (number_in ty) (is_of ty)
 
 unfoldable pub item_count : Format ℕ
 item_count = only out_of_limits (λ n. nat_le n 4096) (number w16)

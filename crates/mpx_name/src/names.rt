@@ -205,7 +205,12 @@ impl Ord for Name {
     ghost matches_eq = { λ a b. refl };
 
     fn cmp(&self, other: &Name) -> Ordering {
-        self.steps().cmp(other.steps())
+        let mine = self.steps();
+        let theirs = other.steps();
+        if mine.len() == 1 && theirs.len() == 1 {
+            return mine[0].cmp(&theirs[0]);
+        }
+        mine.cmp(theirs)
     }
 }
 

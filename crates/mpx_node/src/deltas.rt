@@ -12,6 +12,7 @@ use crate::part::{PartError, whole_part};
 use join_core::OutOfMemory;
 use mpx_board::{Board, Raised};
 use mpx_delta::{NewFrames, NewList, new_frames, new_list, parts};
+use mpx_rope::Rope;
 use std::alloc::Global;
 
 impl Node {
@@ -58,17 +59,17 @@ impl Node {
     }
 
     /// Makes what [`Node::lacking`] makes, with frames in place of the parts, and no copy of what all processes say. The node
-    /// stays as it is, also where memory is refused. A frame is written over the last of the `spare` bytes, where there are such.
+    /// stays as it is, also where memory is refused. A frame is written over the last of the `spare` ones, where there are such.
     pub fn lacking_frames(
         &mut self,
         alloc: Global,
         limit: usize,
-        spare: &mut Vec<Vec<u8>>,
+        spare: &mut Vec<Rope>,
     ) -> Result<NewFrames, OutOfMemory>
         requires least { 524288 ≤ limit }
         requires most { limit ≤ 1048576 }
         ensures node { node_of self.new ≡ node_of self.old }
-        ensures made { IfOk result (λ made. LackFrames limit (node_of self.old) made.said (map (λ frame. frame.items) made.frames.items)) }
+        ensures made { IfOk result (λ made. LackFrames limit (node_of self.old) made.said made.frames.items) }
     {
         new_frames(
             alloc,
@@ -113,12 +114,12 @@ impl Node {
         &mut self,
         alloc: Global,
         limit: usize,
-        spare: &mut Vec<Vec<u8>>,
-    ) -> Result<Vec<Vec<u8>>, OutOfMemory>
+        spare: &mut Vec<Rope>,
+    ) -> Result<Vec<Rope>, OutOfMemory>
         requires least { 524288 ≤ limit }
         requires most { limit ≤ 1048576 }
         ensures own { OnOk result (SaysWhatItHas (node_of self.old) (node_of self.new)) }
-        ensures frames { IfOk result (λ made. AreLacked limit (node_of self.new) (map (λ frame. frame.items) made.items)) }
+        ensures frames { IfOk result (λ made. AreLacked limit (node_of self.new) made.items) }
         ensures err { OnErr result (node_of self.new ≡ node_of self.old) }
     {
         let NewFrames { said, frames } = self.lacking_frames(alloc, limit, spare)?;

@@ -12,6 +12,7 @@ mod part;
 mod pruning;
 mod results;
 mod starting;
+mod taking;
 
 pub use finished::Finished;
 pub use node::{Harvest, Node};

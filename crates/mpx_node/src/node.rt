@@ -1,10 +1,8 @@
 //! One process, and its steps.
-ghost use Rattle.std.specs.Prelude.{◌≡◌, ◌≢◌, ◌<◌, ◌≤◌, [], None, OnOk, OnErr, IfOk, IsTrue, slice_get, is_ok, is_some};
+ghost use Rattle.std.specs.Prelude.{◌≡◌, ◌<◌, ◌≤◌, [], None, OnOk, OnErr, IfOk, slice_get, is_some};
 ghost use Rattle.std.specs.Option.{option_copied};
 ghost use Rattle.mpx_post.specs.Drafts.{most_calls, refusal_of};
-ghost use Rattle.mpx_board.specs.Boards.{IsBoardBelow, empty};
 ghost use Rattle.mpx_board.specs.Looks.{look};
-ghost use Rattle.mpx_format.specs.Decoding.{decoded, shown};
 
 use crate::finished::Finished;
 use crate::opened::Opened;
@@ -18,7 +16,6 @@ use mpx_group::Proc;
 use mpx_name::Name;
 use mpx_num::{Listing, Ops};
 use mpx_post::{At, Draft, Gathering, PostError};
-use mpx_wire::take_spelled;
 use std::alloc::Global;
 use std::collections::BTreeMap;
 
@@ -45,7 +42,7 @@ pub enum Harvest {
 }
 
 impl Node {
-    ghost use Rattle.mpx_node.specs.Nodes.{Opens, Posts, StopsTaking, add_result, NodeView, start_node, learn, checked_on, children_on, gathering_name, gathers_on, next_result, open_gathering_node, posted_on, results_on, front_on, freed_on};
+    ghost use Rattle.mpx_node.specs.Nodes.{Opens, Posts, add_result, NodeView, start_node, checked_on, children_on, gathering_name, gathers_on, next_result, open_gathering_node, posted_on, results_on, front_on, freed_on};
     ghost use Rattle.mpx_node.specs.Shown.{node_of};
     ghost use Rattle.mpx_node.specs.Opened.{HasUnfinished};
     ghost use Rattle.mpx_node.specs.Harvests.{Harvests};
@@ -182,27 +179,6 @@ impl Node {
             Ok(name) => Ok(name),
             Err(_) => Err(PostError::OutOfMemory),
         }
-    }
-
-    /// Joins a part to the board, in place: only what is new takes memory. An `Err` leaves a board between the old one and
-    /// the join, each fact of which is one of the board, of the part or of their join, and changes nothing else.
-    pub fn take(&mut self, alloc: Global, part: &Board) -> Result<(), OutOfMemory>
-        ensures ok { OnOk result (node_of self.new ≡ learn (look part.now) (node_of self.old)) }
-        ensures err { OnErr result (StopsTaking (look part.now) (node_of self.old) (node_of self.new)) }
-        ensures more { OnErr result (¬ (IsBoardBelow (look part.now) (node_of self.old).board)) }
-    {
-        self.board.take(alloc, part)
-    }
-
-    /// Joins the board that the bytes of a frame spell, as [`Node::take`] joins a part, with no board of its own for what they say. That
-    /// they spell one is the caller's condition. An `Err` leaves what it leaves there; a frame that tells nothing wants no memory.
-    pub fn take_frame(&mut self, alloc: Global, frame: &[u8]) -> Result<(), OutOfMemory>
-        requires spelled { IsTrue (is_ok (decoded frame.now)) }
-        ensures ok { OnOk result (node_of self.new ≡ learn (shown (decoded frame.now)) (node_of self.old)) }
-        ensures err { OnErr result (StopsTaking (shown (decoded frame.now)) (node_of self.old) (node_of self.new)) }
-        ensures some { OnErr result (shown (decoded frame.now) ≢ empty) }
-    {
-        take_spelled(alloc, &mut self.board, frame)
     }
 
     /// The result of a call on a context that was harvested, kept for good; none of one that wasn't.

@@ -58,8 +58,7 @@ pub struct At {
     pub call: u32,
     /// How many steps the name of its context has.
     pub depth: usize,
-    /// Whether the caller has posted a free on its context, behind which it posts no more there (`MPI_COMM_FREE`, MPI 4.1
-    /// section 7.4.3).
+    /// Whether the caller has posted a free on its context, and posts no more there (`MPI_COMM_FREE`, MPI 4.1 section 7.4.3).
     pub closed: bool,
     /// Whether its context is a gathering, on which only calls of `create_group` are made.
     pub gathering: bool,

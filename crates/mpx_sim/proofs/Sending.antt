@@ -1,6 +1,6 @@
 -- Frames, and the board whose bytes they are.
-use Rattle.std.proofs.Common.{◌≡◌, ◌<◌, ◌≤◌, ℕ, zero, suc, true, false, get_or, take, drop, List, [], ◌∷◌, ◌++◌, length, map, set, Some, Result, Err, refl, sym, ap, ◌∙◌, subst, arith}
-use Rattle.std.specs.Prelude.{All, IsTrue, is_ok, slice_get}
+use Rattle.std.proofs.Common.{◌≡◌, ◌<◌, ◌≤◌, ℕ, zero, suc, get_or, take, drop, List, [], ◌∷◌, ◌++◌, length, map, set, Some, refl, sym, ap, subst, arith}
+use Rattle.std.specs.Prelude.{All, slice_get}
 use Rattle.std.specs.List.{remove}
 use Rattle.std.proofs.lemmas.List.{map-append}
 use Rattle.std.proofs.lemmas.List.Elements.{All-nil, All-cons, All-head, All-tail, All-map}
@@ -8,7 +8,6 @@ use Rattle.mpx_num.specs.declared.own.Operation.{Operation}
 use Rattle.mpx_board.specs.Boards.{Look}
 use Rattle.mpx_board.specs.Contexts.{look_of}
 use Rattle.mpx_board.specs.Parts.{PartsView}
-use Rattle.mpx_format.specs.declared.defects.WireError.{WireError}
 use Rattle.mpx_format.specs.declared.versions.Version.{Version}
 use Rattle.mpx_format.specs.Decoding.{Spells, decoded}
 use Rattle.mpx_format.proofs.Decoded.{decoded_again}
@@ -24,14 +23,8 @@ use Rattle.mpx_sim.proofs.Running.{run_sends}
 
 -- BYTES
 
-pub spelled_ok : (version : Version) (bytes : List ℕ) (v : PartsView) → Spells version bytes v → IsTrue (is_ok (decoded bytes))
-spelled_ok version bytes v s = ap is_ok (decoded_again version bytes v s)
-
 pub spelled_shown : (version : Version) (bytes : List ℕ) (v : PartsView) → Spells version bytes v → shown (decoded bytes) ≡ look_of v
 spelled_shown version bytes v s = ap shown (decoded_again version bytes v s)
-
-is_refused : (r : Result PartsView WireError) (e : WireError) → IsTrue (is_ok r) → r ≡ Err e → ⊥
-is_refused r e ok f = let none : false ≡ true = sym (ap is_ok f) ∙ ok in cc none
 
 -- PARTS
 

@@ -133,8 +133,8 @@ run_gone ops count turn fs old new all script ranks size begun frames few run =
 -- what is so of the frames that a process has made ahead stays so where it stays the same process
 pub ready_same : (old new : Process) → process_of new ≡ process_of old → new.notes.ahead ≡ old.notes.ahead → IsReady old → IsReady new
 ready_same old new same ahead h =
-    subst (λ a. IfSome a (λ (made : NewFrames). LackFrames 1048576 (process_of new).node made.said (map (λ frame. frame.items) made.frames.items))) (sym ahead)
-    (subst (λ (v : ProcessView). IfSome old.notes.ahead (λ (made : NewFrames). LackFrames 1048576 v.node made.said (map (λ frame. frame.items) made.frames.items))) (sym same) h)
+    subst (λ a. IfSome a (λ (made : NewFrames). LackFrames 1048576 (process_of new).node made.said made.frames.items)) (sym ahead)
+    (subst (λ (v : ProcessView). IfSome old.notes.ahead (λ (made : NewFrames). LackFrames 1048576 v.node made.said made.frames.items)) (sym same) h)
 
 pub run_made : (turn : ℕ) (old new : List Process) → AllMake turn old new → (ops : List Operation) (script : Script) (ranks size : ℕ) (begun : Moment) (t : ScheduleView) (frames : List Look) → IsUnderWay ops script ranks size begun (Going t) (map process_of old) frames
     → IsUnderWay ops script ranks size begun (Going t) (map process_of new) frames

@@ -29,7 +29,7 @@ process_of p = record { rank = rank_of call_of p.rank; node = node_of p.carrier.
 
 -- the board that a frame's bytes spell
 abbrev pub part_of : FrameUnderWay → Look
-part_of f = shown (decoded f.bytes.items)
+part_of f = shown (decoded f.bytes)
 
 -- how many of a hundred frames are lost, and the generator
 abbrev pub schedule_of : Schedule → ScheduleView

@@ -50,7 +50,7 @@ AllGoOn ops count turn frames old new = (length new ≡ length old) × ((place :
 
 -- the frames that a process has made ahead, if any, are those of its board as it stands
 abbrev pub IsReady : Process → Type 0
-IsReady p = IfSome p.notes.ahead (λ made. LackFrames 1048576 (process_of p).node made.said (map (λ frame. frame.items) made.frames.items))
+IsReady p = IfSome p.notes.ahead (λ made. LackFrames 1048576 (process_of p).node made.said made.frames.items)
 
 abbrev pub AreReady : List Process → Type 0
 AreReady ps = (place : ℕ) (p : Process) → slice_get ps place ≡ Some p → IsReady p

@@ -1,8 +1,9 @@
 //! A frame on its way.
-ghost use Rattle.std.specs.Prelude.{◌≡◌, is_ok, IsTrue};
-ghost use Rattle.mpx_format.specs.Decoding.{decoded};
+ghost use Rattle.std.specs.Prelude.{◌≡◌};
+ghost use Rattle.mpx_sim.specs.Frames.{IsFrame};
 
 use crate::observer::FrameSeen;
+use mpx_rope::Rope;
 
 /// The bytes of a board on their way: from which process to which, in which turn they come, and whether they have come before.
 #[derive(Drop)]
@@ -11,8 +12,8 @@ pub(crate) struct FrameUnderWay {
     pub(crate) to: usize,
     pub(crate) turn: u64,
     pub(crate) again: bool,
-    pub(crate) bytes: Vec<u8>,
-    ghost spelled: { IsTrue (is_ok (decoded bytes.items)) },
+    pub(crate) bytes: Rope,
+    ghost spelled: { IsFrame bytes },
 }
 
 impl FrameUnderWay {

@@ -1,10 +1,12 @@
 //! Frames, by the bytes of boards.
-ghost use Rattle.std.specs.Prelude.{◌≡◌, All, IfOk, IsTrue, is_ok, map};
+ghost use Rattle.std.specs.Prelude.{◌≡◌, All, IfOk, map};
 ghost use Rattle.mpx_format.specs.Decoding.{decoded, shown};
+ghost use Rattle.mpx_sim.specs.Frames.{IsFrame};
 ghost use Rattle.mpx_sim.specs.Shown.{part_of};
 
 use crate::frame_under_way::FrameUnderWay;
 use join_core::OutOfMemory;
+use mpx_rope::Rope;
 use std::alloc::Global;
 
 /// The most bytes of a frame.
@@ -13,13 +15,13 @@ pub(crate) const MOST_BYTES: usize = 1_048_576;
 /// Frames with these bytes, one for each, from a process to another: they come in this turn and those after it, one in each.
 pub(crate) fn frames_with(
     alloc: Global,
-    lists: Vec<Vec<u8>>,
+    lists: Vec<Rope>,
     from: u8,
     to: usize,
     turn: u64,
 ) -> Result<Vec<FrameUnderWay>, OutOfMemory>
-    requires { All (λ bytes. IsTrue (is_ok (decoded bytes.items))) lists.items }
-    ensures { IfOk result (λ made. map part_of made.items ≡ map (λ bytes. shown (decoded bytes.items)) lists.items) }
+    requires { All IsFrame lists.items }
+    ensures { IfOk result (λ made. map part_of made.items ≡ map (λ bytes. shown (decoded bytes)) lists.items) }
 {
     let mut made = Vec::new(alloc);
     let mut turn = turn;

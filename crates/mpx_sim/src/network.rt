@@ -17,15 +17,16 @@ use crate::observer::Observer;
 use crate::process::Process;
 use crate::schedule::Schedule;
 use join_core::OutOfMemory;
+use mpx_rope::Rope;
 use mpx_statement::Options;
 use std::alloc::Global;
 use std::mem;
 
-/// What goes from process to process: the frames that are under way, the bytes of those that have come, and what is drawn.
+/// What goes from process to process: the frames that are under way, the room of those that have come, and what is drawn.
 #[derive(Drop)]
 pub(crate) struct Network {
     frames: Vec<FrameUnderWay>,
-    pub(crate) spare: Vec<Vec<u8>>,
+    pub(crate) spare: Vec<Rope>,
     pub(crate) schedule: Schedule,
 }
 
@@ -71,8 +72,8 @@ impl Network {
     }
 }
 
-/// Every process that has no spare bytes to write its next frame over gets some, where there are such.
-pub(crate) fn hand_out(processes: &mut [Process<'_>], spare: &mut Vec<Vec<u8>>)
+/// Every process that has no room to write its next frame into gets that of one that has come, where there is such.
+pub(crate) fn hand_out(processes: &mut [Process<'_>], spare: &mut Vec<Rope>)
     ensures same { map process_of processes.new ≡ map process_of processes.old }
     ensures ready { AreReady processes.old → AreReady processes.new }
 {
@@ -81,8 +82,8 @@ pub(crate) fn hand_out(processes: &mut [Process<'_>], spare: &mut Vec<Vec<u8>>)
     }
 }
 
-// A process gets some, where it has none. Where memory for that is refused, they go.
-fn hand_to(process: &mut Process<'_>, spare: &mut Vec<Vec<u8>>)
+// A process gets room, where it has none. Where memory for that is refused, the room goes.
+fn hand_to(process: &mut Process<'_>, spare: &mut Vec<Rope>)
     ensures same { process_of process.new ≡ process_of process.old }
     ensures ahead { process.new.notes.ahead ≡ process.old.notes.ahead }
 {
@@ -209,7 +210,7 @@ fn arrive(
     Ok(())
 }
 
-/// One in four of the turn's frames is taken again in a later turn. The others are let go, and their bytes are spare.
+/// One in four of the turn's frames is taken again in a later turn. The others are let go, and their room is spare.
 pub(crate) fn keep_some(network: &mut Network, turn: u64)
     requires { turn < 4294967296 }
     ensures run { (operations : List Operation) (script : Statements) (ranks size : ℕ) (begun : Moment) (processes : List ProcessView) → IsUnderWay operations script ranks size begun (Coming (schedule_of network.old.schedule)) processes (map part_of network.old.frames.items)
@@ -223,8 +224,8 @@ pub(crate) fn keep_some(network: &mut Network, turn: u64)
     }
 }
 
-// Lets the frame at the place go, where it comes no more, and tells the place of the next one. Where memory for one more is refused, its bytes go
-// too.
+// Lets the frame at the place go, where it comes no more, and tells the place of the next one. Its items go, and its room serves another frame.
+// Where memory for one more is refused, its room goes too.
 fn let_go(network: &mut Network, i: usize, turn: u64) -> usize
     ensures run { (operations : List Operation) (script : Statements) (ranks size : ℕ) (begun : Moment) (processes : List ProcessView) → IsUnderWay operations script ranks size begun (Coming (schedule_of network.old.schedule)) processes (map part_of network.old.frames.items)
         → IsUnderWay operations script ranks size begun (Coming (schedule_of network.new.schedule)) processes (map part_of network.new.frames.items) }
@@ -234,7 +235,9 @@ fn let_go(network: &mut Network, i: usize, turn: u64) -> usize
         return i.wrapping_add(1);
     }
     let frame = network.frames.remove(i);
-    let _ = network.spare.push(frame.bytes);
+    let mut bytes = frame.bytes;
+    bytes.clear();
+    let _ = network.spare.push(bytes);
     i
 }
 

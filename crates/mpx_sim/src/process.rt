@@ -24,6 +24,7 @@ use mpx_group::Proc;
 use mpx_node::Node;
 use mpx_num::{Listing, Ops};
 use mpx_rank::Interpreter;
+use mpx_rope::Rope;
 use mpx_statement::Statement;
 use std::alloc::Global;
 
@@ -146,16 +147,16 @@ impl<'a> Process<'a> {
     }
 
     /// Says what the process has, and gives the frames of what others may lack of its board: its next list, which goes out from this turn
-    /// on. They are those that were made ahead, or are made now, over spare bytes.
+    /// on. They are those that were made ahead, or are made now, into spare room.
     pub(crate) fn make_list(
         &mut self,
         alloc: Global,
         ahead: Option<NewFrames>,
         turn: u64,
-    ) -> Result<Vec<Vec<u8>>, OutOfMemory>
-        requires { IfSome ahead (λ made. LackFrames 1048576 (process_of self.old).node made.said (map (λ frame. frame.items) made.frames.items)) }
+    ) -> Result<Vec<Rope>, OutOfMemory>
+        requires { IfSome ahead (λ made. LackFrames 1048576 (process_of self.old).node made.said made.frames.items) }
         ensures keeps { OnOk result ((t : ScheduleView) (operations : List Operation) → Keeps (Going t) operations (process_of self.old) (process_of self.new)) }
-        ensures frames { IfOk result (λ made. AreLacked 1048576 (process_of self.new).node (map (λ frame. frame.items) made.items)) }
+        ensures frames { IfOk result (λ made. AreLacked 1048576 (process_of self.new).node made.items) }
     {
         if let Some(made) = ahead {
             let frames = self.carrier.desk.say(made);
@@ -178,7 +179,7 @@ impl<'a> Process<'a> {
         to: usize,
         turn: u64,
     ) -> Result<Vec<FrameUnderWay>, OutOfMemory>
-        requires { IfSome ahead (λ made. LackFrames 1048576 (process_of self.old).node made.said (map (λ frame. frame.items) made.frames.items)) }
+        requires { IfSome ahead (λ made. LackFrames 1048576 (process_of self.old).node made.said made.frames.items) }
         ensures keeps { OnOk result ((t : ScheduleView) (operations : List Operation) → Keeps (Going t) operations (process_of self.old) (process_of self.new)) }
         ensures facts { IfOk result (λ made. All (λ frame. OnlyFactsOf (part_of frame) (process_of self.new).node.board) made.items) }
         ensures join { IfOk result (λ made. join_all (map part_of made.items) ≡ lacking_on (process_of self.new).node) }
@@ -317,7 +318,7 @@ impl<'a> Process<'a> {
     ) -> Result<(), OutOfMemory>
         ensures { OnOk result (process_of self.new ≡ record { rank = (process_of self.old).rank; node = learn (part_of frame.now) (process_of self.old).node }) }
     {
-        self.carrier.desk.take_frame(alloc, frame.bytes.as_slice())
+        self.carrier.desk.take_rope(alloc, &frame.bytes)
     }
 
     /// Its number.

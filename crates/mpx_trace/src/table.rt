@@ -1,4 +1,5 @@
 //! A simulated run, a row a turn.
+ghost use Rattle.std.specs.Prelude.{◌≡◌};
 
 use crate::holding::push_newest;
 use crate::news::News;
@@ -23,7 +24,9 @@ pub struct Table<W: Write> {
 }
 
 impl<W: Write> Table<W> {
-    pub fn new(alloc: Global, out: W) -> Table<W> {
+    pub fn new(alloc: Global, out: W) -> Table<W>
+        ensures { result.out ≡ out }
+    {
         Table {
             alloc,
             out,
@@ -35,7 +38,9 @@ impl<W: Write> Table<W> {
     }
 
     /// Gives the writer back.
-    pub fn into_writer(self) -> W {
+    pub fn into_writer(self) -> W
+        ensures { result ≡ self.out }
+    {
         self.out
     }
 

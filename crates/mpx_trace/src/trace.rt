@@ -1,4 +1,5 @@
 //! A simulated run, a line an event.
+ghost use Rattle.std.specs.Prelude.{◌≡◌};
 
 use crate::holding::push_held;
 use crate::news::News;
@@ -18,7 +19,9 @@ pub struct Trace<W: Write> {
 }
 
 impl<W: Write> Trace<W> {
-    pub fn new(alloc: Global, out: W) -> Trace<W> {
+    pub fn new(alloc: Global, out: W) -> Trace<W>
+        ensures { result.out ≡ out }
+    {
         Trace {
             alloc,
             out,
@@ -27,7 +30,9 @@ impl<W: Write> Trace<W> {
     }
 
     /// Gives the writer back.
-    pub fn into_writer(self) -> W {
+    pub fn into_writer(self) -> W
+        ensures { result ≡ self.out }
+    {
         self.out
     }
 

@@ -1,9 +1,9 @@
 -- What is spelled is joined as it is read.
-use Rattle.std.proofs.Common.{◌≡◌, ◌≢◌, ℕ, true, List, [], Result, Ok, Err, OnErr, refl, sym, ap, ◌∙◌, subst}
+use Rattle.std.proofs.Common.{◌≡◌, ◌≢◌, ℕ, ◌≤◌, true, List, [], ◌∷◌, length, Result, Ok, Err, OnErr, refl, sym, ap, ◌∙◌, subst, arith}
 use Rattle.std.proofs.lemmas.List.{append-nil}
 use Rattle.mpx_board.specs.Boards.{IsBetween, empty, join}
 use Rattle.mpx_board.specs.Contexts.{look_of}
-use Rattle.mpx_board.specs.Parts.{PartsView, parts_between, parts_joining}
+use Rattle.mpx_board.specs.Parts.{PartsView, parts_between, parts_between_laws, parts_joining}
 use Rattle.mpx_board.specs.Tidy.{is_tidy}
 use Rattle.mpx_board.proofs.Left.{taken_err}
 use Rattle.mpx_board.proofs.Looking.{look-empty, look-join}
@@ -22,6 +22,7 @@ use Rattle.mpx_format.specs.Format.{Fails, Format, ◌>>=◌, both, mark, mark_a
 use Rattle.mpx_format.proofs.ContextLaws.{frame_laws}
 use Rattle.mpx_format.proofs.Decoded.{frame_tidy}
 use Rattle.mpx_format.proofs.FormatLaws.{bind_ok, ok_is}
+use Rattle.mpx_decode.proofs.NoParts.{three_zeros}
 use Rattle.mpx_decode.specs.Raising.{JoinsFront, StandsTidy, StopsBetween, no_parts}
 use Rattle.mpx_wire.specs.Reading.{front}
 
@@ -125,3 +126,18 @@ behind_it bytes version rest is w v e =
 -- what tells nothing has no parts
 pub spells_none : (bytes : List ℕ) (v : PartsView) (s : IsSpelled bytes v) → look_of v ≡ empty → bytes ≡ frame.spelling (s.0, no_parts)
 spells_none bytes v s none = s.1.bytes_are ∙ ap (λ (w : PartsView). frame.spelling (s.0, w)) (same_look v no_parts (frame_tidy s.0 v s.1.fits) tidy_empty (none ∙ sym look-empty))
+
+none_len : (version : Version) → length (frame.spelling (version, no_parts)) ≡ 8
+unfolding frame
+none_len One = ap (λ (l : List ℕ). length (77 ∷ 80 ∷ 88 ∷ 71 ∷ 1 ∷ l)) (three_zeros One)
+none_len Two = ap (λ (l : List ℕ). length (77 ∷ 80 ∷ 88 ∷ 71 ∷ 2 ∷ l)) (three_zeros Two)
+
+-- what has more bytes tells something
+pub many_tell : (bytes : List ℕ) → 64 ≤ length bytes → (v : PartsView) → IsSpelled bytes v → look_of v ≢ empty
+many_tell bytes many v s none =
+    let few : length bytes ≡ 8 = ap length (spells_none bytes v s none) ∙ none_len s.0 in
+    absurd (omega (arith, few, many))
+
+-- what isn't touched is between
+pub left_alone : (old v : PartsView) → IsBetween (look_of old) (look_of v) (look_of old)
+left_alone old v = taken_err (Err (tt {0})) old v old (parts_between_laws.old old v)

@@ -15,6 +15,7 @@ use join_core::{Exact, OutOfMemory};
 use mpx_board::{Board, Parts};
 use mpx_decode::{read_parts, read_version, take_parts};
 use mpx_format::{Defect, ReadError, SHORT, Version, WireError, placed};
+use mpx_rope::{Rope, Source};
 use std::alloc::Global;
 
 // This byte; else the fault.
@@ -53,7 +54,7 @@ fn read_frame(alloc: Global, bytes: &[u8]) -> Result<((Version, Parts), &[u8]), 
     ensures some { IfErr result (λ e. e ≡ ReadError.OutOfMemory → (version : Version) → bytes.now ≢ frame.spelling (version, no_parts)) }
 {
     let (version, rest) = read_front(bytes)?;
-    let (parts, rest) = read_parts(version, alloc, rest)?;
+    let (parts, rest) = read_parts(version, Source::of(alloc), rest)?;
     Ok(((version, parts), rest))
 }
 
@@ -113,10 +114,37 @@ pub fn take_spelled(alloc: Global, board: &mut Board, bytes: &[u8]) -> Result<()
     ensures err { OnErr result ((v : PartsView) → IsSpelled bytes.now v → IsBetween (look board.old) (look_of v) (look board.new)) }
     ensures some { OnErr result ((v : PartsView) → IsSpelled bytes.now v → look_of v ≢ empty) }
 {
+    take_from(Source::of(alloc), board, bytes)
+}
+
+/// The same of a frame whose items may be shared: what it joins to the board shares them, and copies none. Where pieces are shared, it
+/// joins all bytes in one place first, to read them.
+pub fn take_rope(alloc: Global, board: &mut Board, rope: &Rope) -> Result<(), OutOfMemory>
+    requires { (v : PartsView) × IsSpelled rope.now v }
+    ensures ok { OnOk result ((v : PartsView) → IsSpelled rope.now v → look board.new ≡ join (look board.old) (look_of v)) }
+    ensures err { OnErr result ((v : PartsView) → IsSpelled rope.now v → IsBetween (look board.old) (look_of v) (look board.new)) }
+    ensures some { OnErr result ((v : PartsView) → IsSpelled rope.now v → look_of v ≢ empty) }
+{
+    match rope.in_one_place() {
+        Some(bytes) => take_from(rope.source(alloc), board, bytes),
+        None => match rope.joined(alloc) {
+            Err(_) => Err(OutOfMemory),
+            Ok(bytes) => take_from(rope.source(alloc), board, &bytes),
+        },
+    }
+}
+
+// What `take_spelled` says, with the items taken from this source.
+fn take_from(source: Source<'_>, board: &mut Board, bytes: &[u8]) -> Result<(), OutOfMemory>
+    requires { (v : PartsView) × IsSpelled bytes.now v }
+    ensures ok { OnOk result ((v : PartsView) → IsSpelled bytes.now v → look board.new ≡ join (look board.old) (look_of v)) }
+    ensures err { OnErr result ((v : PartsView) → IsSpelled bytes.now v → IsBetween (look board.old) (look_of v) (look board.new)) }
+    ensures some { OnErr result ((v : PartsView) → IsSpelled bytes.now v → look_of v ≢ empty) }
+{
     match read_front(bytes) {
         Err(_) => unreachable!(),
         Ok((version, rest)) => {
-            let _after = take_parts(version, alloc, board, rest)?;
+            let _after = take_parts(version, source, board, rest)?;
             Ok(())
         }
     }

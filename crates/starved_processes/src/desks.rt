@@ -3,6 +3,7 @@ use crate::nodes::{add_contexts, frame_of};
 use crate::same::{is_between, same_finished, same_nodes};
 use mpx_board::Board;
 use mpx_comm::{CallError, Comm, Desk, OpenedGathering, Request, Tested, WaitError};
+use mpx_encode::encode_rope;
 use mpx_group::Proc;
 use mpx_kind::Kind;
 use mpx_name::Name;
@@ -31,6 +32,8 @@ pub enum DeskCall {
     Take,
     /// Of the frame of the part, which is decoded first.
     TakeFrame,
+    /// Of the part's frame as a rope, which is made first.
+    TakeRope,
     Harvest,
     Deltas,
     CommOf,
@@ -224,6 +227,13 @@ fn take_frame(alloc: Global, desk: &mut Desk<Node>, frame: &[u8]) -> Result<Desk
     Ok(DeskMade::Nothing)
 }
 
+// The frame of the part, which the desk's node then takes.
+fn take_rope(alloc: Global, desk: &mut Desk<Node>, part: &Board) -> Result<DeskMade, Trouble> {
+    let frame = encode_rope(alloc, part)?;
+    desk.take_rope(alloc, &frame)?;
+    Ok(DeskMade::Nothing)
+}
+
 fn comm_of(alloc: Global, finished: &[Finished]) -> Result<DeskMade, Trouble> {
     match finished.last() {
         Some(finished) => Ok(DeskMade::Comm(Comm::of(alloc, finished)?)),
@@ -280,6 +290,7 @@ impl Trial for DeskCall {
                 Ok(DeskMade::Nothing)
             }
             DeskCall::TakeFrame => take_frame(alloc, &mut alone.desk, &alone.frame),
+            DeskCall::TakeRope => take_rope(alloc, &mut alone.desk, &alone.part),
             DeskCall::Harvest => {
                 Ok(DeskMade::Harvest(alone.desk.harvest(alloc, alone.comm.name(), ops)?))
             }
@@ -339,6 +350,7 @@ pub const DESK_CALLS: &[(&str, DeskCall)] = &[
     ("Desk::waitall", DeskCall::WaitAll),
     ("Desk::take", DeskCall::Take),
     ("Desk::take_frame, behind decode", DeskCall::TakeFrame),
+    ("Desk::take_rope, behind encode_rope", DeskCall::TakeRope),
     ("Desk::harvest", DeskCall::Harvest),
     ("Desk::deltas", DeskCall::Deltas),
     ("Comm::of", DeskCall::CommOf),

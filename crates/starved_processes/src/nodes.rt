@@ -1,13 +1,15 @@
 //! The steps of one process.
-use crate::same::{is_between, same_finished, same_nodes};
+use crate::same::{is_between, same_finished, same_frames, same_nodes};
 use join_core::Exact;
 use mpx_board::Board;
+use mpx_encode::encode_rope;
 use mpx_group::Proc;
 use mpx_kind::Kind;
 use mpx_name::Name;
 use mpx_node::{Finished, Harvest, Node, PartError};
 use mpx_num::Ops;
 use mpx_post::Draft;
+use mpx_rope::Rope;
 use mpx_wire::{decode, encode};
 use std::alloc::Global;
 use test_drafts::kinds;
@@ -28,10 +30,12 @@ pub enum NodeCall {
     TakeAgain,
     /// Of the frame of the part, which is decoded first.
     TakeFrame,
+    /// Of the part's frame as a rope, which is made first.
+    TakeRope,
     Part,
     Parts,
     Deltas,
-    /// Of bytes that are spare none.
+    /// Of frames that are spare none.
     FramedDeltas,
     CopyFinished,
 }
@@ -55,7 +59,7 @@ pub enum NodeMade {
     Harvest(Harvest),
     Board(Board),
     Boards(Vec<Board>),
-    Frames(Vec<Vec<u8>>),
+    Frames(Vec<Rope>),
     Finished(Finished),
 }
 
@@ -173,6 +177,13 @@ fn take_frame(alloc: Global, node: &mut Node, frame: &[u8]) -> Result<NodeMade, 
     Ok(NodeMade::Nothing)
 }
 
+// The frame of the part, which the node then takes.
+fn take_rope(alloc: Global, node: &mut Node, part: &Board) -> Result<NodeMade, Trouble> {
+    let frame = encode_rope(alloc, part)?;
+    node.take_rope(alloc, &frame)?;
+    Ok(NodeMade::Nothing)
+}
+
 // The node's board as one part.
 fn part(alloc: Global, node: &Node) -> Result<Board, Trouble> {
     match node.part(alloc, 524_288) {
@@ -186,7 +197,7 @@ pub fn frame_of(alloc: Global, board: &Board) -> Result<Vec<u8>, Trouble> {
     Ok(encode(alloc, board)?)
 }
 
-// The frames of what the other may lack, written over no bytes that were let go.
+// The frames of what the other may lack, written over none that was let go.
 fn framed(alloc: Global, node: &mut Node) -> Result<NodeMade, Trouble> {
     let mut spare = Vec::new(alloc);
     let frames = node.framed_deltas(alloc, 524_288, &mut spare)?;
@@ -258,6 +269,7 @@ impl Trial for NodeCall {
             NodeCall::Take => take(alloc, stand),
             NodeCall::TakeAgain => take(alloc, stand),
             NodeCall::TakeFrame => take_frame(alloc, &mut stand.node, &stand.frame),
+            NodeCall::TakeRope => take_rope(alloc, &mut stand.node, &stand.part),
             NodeCall::Part => Ok(NodeMade::Board(part(alloc, &stand.node)?)),
             NodeCall::Parts => Ok(NodeMade::Boards(stand.node.parts(alloc, 524_288)?)),
             NodeCall::Deltas => Ok(NodeMade::Boards(stand.node.deltas(alloc, 524_288)?)),
@@ -279,7 +291,7 @@ impl Trial for NodeCall {
             (NodeMade::Harvest(one), NodeMade::Harvest(other)) => one == other,
             (NodeMade::Board(one), NodeMade::Board(other)) => one.same(other),
             (NodeMade::Boards(one), NodeMade::Boards(other)) => same_boards(one, other),
-            (NodeMade::Frames(one), NodeMade::Frames(other)) => one == other,
+            (NodeMade::Frames(one), NodeMade::Frames(other)) => same_frames(one, other),
             (NodeMade::Finished(one), NodeMade::Finished(other)) => same_finished(one, other),
             _ => false,
         }
@@ -288,7 +300,7 @@ impl Trial for NodeCall {
     // A take may leave what stands between.
     fn is_kept(&self, left: &Stand, before: &Stand, whole: &Stand) -> bool {
         match self {
-            NodeCall::Take | NodeCall::TakeFrame => {
+            NodeCall::Take | NodeCall::TakeFrame | NodeCall::TakeRope => {
                 is_between(&left.node, &before.node, &whole.node, &left.names)
             }
             _ => self.are_same(left, before),
@@ -308,6 +320,7 @@ pub const NODE_CALLS: &[(&str, NodeCall)] = &[
     ("Node::take", NodeCall::Take),
     ("Node::take of nothing new", NodeCall::TakeAgain),
     ("Node::take_frame, behind decode", NodeCall::TakeFrame),
+    ("Node::take_rope, behind encode_rope", NodeCall::TakeRope),
     ("Node::part", NodeCall::Part),
     ("Node::parts", NodeCall::Parts),
     ("Node::deltas, lacking", NodeCall::Deltas),

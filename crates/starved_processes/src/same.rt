@@ -3,6 +3,7 @@ use join_core::{Exact, Join};
 use mpx_board::Board;
 use mpx_name::Name;
 use mpx_node::{Finished, Node};
+use mpx_rope::Rope;
 use mpx_value::Outcome;
 
 pub fn same_outcomes(one: &Outcome, other: &Outcome) -> bool {
@@ -81,4 +82,22 @@ pub fn is_between(node: &Node, before: &Node, whole: &Node, names: &[Name]) -> b
         }
     }
     before.board().leq(node.board()) && node.board().leq(whole.board())
+}
+
+// Whether two frames with short items, which lie in one place, are the same.
+fn same_frame(one: &Rope, other: &Rope) -> bool {
+    match (one.in_one_place(), other.in_one_place()) {
+        (Some(one), Some(other)) => one == other,
+        _ => false,
+    }
+}
+
+/// Whether these frames with short items are the same.
+pub fn same_frames(one: &[Rope], other: &[Rope]) -> bool {
+    for (one, other) in one.iter().zip(other) {
+        if !same_frame(one, other) {
+            return false;
+        }
+    }
+    one.len() == other.len()
 }

@@ -1,7 +1,3 @@
-use Rattle.std.proofs.Common.{◌*◌, [], ℤ, rules}
-use Rattle.mpx_num.specs.Types.{item_len}
-use Rattle.mpx_format.specs.Format.{many_read}
-use Rattle.mpx_format.specs.Posts.{integer, items}
 use Rattle.mpx_decode.proofs.Integers.{items_given}
 use Rattle.mpx_decode.proofs.items.read_items.Goals as goal
 

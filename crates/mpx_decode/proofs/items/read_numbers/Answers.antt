@@ -1,31 +1,30 @@
-use Rattle.std.proofs.Common.{◌≡◌, ◌*◌, ◌/◌, ◌++◌, ◌∙◌, ◌≤◌, ℕ, ℤ, List, [], length, take, drop, sym, ap, subst, arith, rules, Ok, refl}
+use Rattle.std.proofs.Common.{◌≡◌, ◌*◌, ◌++◌, ◌∙◌, [], length, sym, ap, rules, Ok}
 use Rattle.std.specs.List.{flat_map}
-use Rattle.std.proofs.lemmas.List.{length-take-le, take-append-drop}
 use Rattle.mpx_num.specs.ItemList.{AreItems}
-use Rattle.mpx_num.specs.Types.{width}
 use Rattle.mpx_num.specs.Spelling.{bytes_of, number_len}
 use Rattle.mpx_format.specs.Format.{many_read}
 use Rattle.mpx_format.specs.Posts.{integer}
-use Rattle.mpx_format.proofs.Integers.{byte_count, length-spelled, numbers_stand}
+use Rattle.mpx_num.proofs.Spellings.{length-spelled}
+use Rattle.mpx_format.proofs.Integers.{numbers_stand}
 use Rattle.mpx_decode.proofs.Integers.{as_many, too_short, whole_bytes}
 use Rattle.mpx_decode.proofs.items.read_numbers.Goals as goal
 
 pub returns-then-bytes-len-clause-read : goal.returns-then-bytes-len-clause-read
 returns-then-bytes-len-clause-read c =
-    too_short c.args.ty c.args.count [] c.args.bytes.now (rw (byte_count c.args.ty, ← c.number_len.ensures.value) c.if-bytes-len.true)
+    too_short c.args.ty c.args.count [] c.args.bytes.now (rw (← c.number_len.ensures.value) c.if-bytes-len.true)
 
-pub from_slice-requires : goal.from_slice-requires
-from_slice-requires c =
+pub items-requires : goal.items-requires
+items-requires c =
     whole_bytes c.args.ty c.split_at.result.0.now c.args.count c.requires.whole (search rules)
 
 pub returns-clause-read : goal.returns-clause-read
 returns-clause-read c =
     let ty = c.args.ty in
-    let nums = c.in_ok-from_slice.field-0.nums in
+    let nums = c.in_ok-items.field-0.nums in
     let front = c.split_at.result.0.now in
     let rest = c.split_at.result.1.now in
-    let spelled : flat_map (bytes_of ty) nums ≡ front = c.in_ok-from_slice.ensures.spelling in
-    let items : AreItems ty nums = c.in_ok-from_slice.ensures.items in
+    let spelled : flat_map (bytes_of ty) nums ≡ front = c.in_ok-items.ensures.spelling in
+    let items : AreItems ty nums = c.in_ok-items.ensures.items in
     let size : length front ≡ c.args.count * number_len ty = search rules in
     let count : length nums ≡ c.args.count = as_many ty (length nums) c.args.count (sym (length-spelled ty nums) ∙ ap length spelled ∙ size) in
     let both : c.args.bytes.now ≡ front ++ rest = search rules in
@@ -35,7 +34,7 @@ returns-clause-read c =
 pub returns-clause-len : goal.returns-clause-len
 returns-clause-len c =
     let ty = c.args.ty in
-    let nums = c.in_ok-from_slice.field-0.nums in
-    let spelled : flat_map (bytes_of ty) nums ≡ c.split_at.result.0.now = c.in_ok-from_slice.ensures.spelling in
+    let nums = c.in_ok-items.field-0.nums in
+    let spelled : flat_map (bytes_of ty) nums ≡ c.split_at.result.0.now = c.in_ok-items.ensures.spelling in
     let size : length c.split_at.result.0.now ≡ c.args.count * number_len ty = search rules in
     as_many ty (length nums) c.args.count (sym (length-spelled ty nums) ∙ ap length spelled ∙ size)

@@ -23,5 +23,5 @@ returns c =
       fit = All-cons (λ part. length_told (parts_of part) ≤ c.args.limit) c.args.board.now [] (subst (λ o. IfSome o (λ frame. length_told board ≤ c.args.limit)) c.in-Some.is c.in_ok-frame.ensures.fits) (All-nil (λ part. length_told (parts_of part) ≤ c.args.limit));
       join = one_join c.args.board.now c.args.board.now refl;
       few = tt;
-      spelled = rw (c.in_ok-push.ensures.items, c.new-made.ensures.items) (subst (λ o. IfSome o (λ frame. Spells Two frame.items board)) c.in-Some.is c.in_ok-frame.ensures.spelled, tt);
+      spelled = rw (c.in_ok-push.ensures.items, c.new-made.ensures.items) (subst (λ o. IfSome o (λ frame. Spells Two frame board)) c.in-Some.is c.in_ok-frame.ensures.spelled, tt);
     }

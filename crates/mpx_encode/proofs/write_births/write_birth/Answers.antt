@@ -12,12 +12,12 @@ pub returns-in-None : goal.returns-in-None
 returns-in-None c =
     let b = c.args.birth.now in
     let bare : b.topology ≡ None = search rules in
-    let first : c.write_members.new.out.items ≡ c.args.out.now.items ++ members.spelling b.members = rw c.members.ensures.value at c.in_ok-write_members.ensures in
-    told_behind c.write_u8.result c.args.out.now.items c.write_members.new.out.items c.write_u8.new.out.items _ _ _ (birth_spelled b ∙ ap (λ t. members.spelling b.members ++ topology_spelled t) bare) first (search rules)
+    let first : c.write_members.new.out ≡ c.args.out.now ++ members.spelling b.members = rw c.members.ensures.value at c.in_ok-write_members.ensures in
+    told_behind c.write_u8.result c.args.out.now c.write_members.new.out c.write_u8.new.out _ _ _ (birth_spelled b ∙ ap (λ t. members.spelling b.members ++ topology_spelled t) bare) first (search rules)
 
 pub returns-in-Some : goal.returns-in-Some
 returns-in-Some c =
     let b = c.args.birth.now in
     let there : b.topology ≡ Some c.in-Some.topology.now = search rules in
-    let first : c.write_members.new.out.items ≡ c.args.out.now.items ++ members.spelling b.members = rw c.members.ensures.value at c.in_ok-write_members.ensures in
-    told_behind c.write_topology.result c.args.out.now.items c.write_members.new.out.items c.write_topology.new.out.items _ _ _ (birth_spelled b ∙ ap (λ t. members.spelling b.members ++ topology_spelled t) there) first (search rules)
+    let first : c.write_members.new.out ≡ c.args.out.now ++ members.spelling b.members = rw c.members.ensures.value at c.in_ok-write_members.ensures in
+    told_behind c.write_topology.result c.args.out.now c.write_members.new.out c.write_topology.new.out _ _ _ (birth_spelled b ∙ ap (λ t. members.spelling b.members ++ topology_spelled t) there) first (search rules)

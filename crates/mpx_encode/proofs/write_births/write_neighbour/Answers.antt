@@ -7,5 +7,5 @@ use Rattle.mpx_encode.proofs.write_births.write_neighbour.Goals as goal
 pub returns : goal.returns
 unfolding neighbour process
 returns c =
-    let first : c.write_u8.new.out.items ≡ c.args.out.now.items ++ c.args.neighbour.now.rank ∷ [] = search rules in
-    told_behind c.write_weight.result c.args.out.now.items c.write_u8.new.out.items c.write_weight.new.out.items (c.args.neighbour.now.rank ∷ []) _ _ refl first (search rules)
+    let first : c.write_u8.new.out ≡ c.args.out.now ++ c.args.neighbour.now.rank ∷ [] = search rules in
+    told_behind c.write_weight.result c.args.out.now c.write_u8.new.out c.write_weight.new.out (c.args.neighbour.now.rank ∷ []) _ _ refl first (search rules)

@@ -9,4 +9,4 @@ unfolding weight
 returns-then-weighted c = rw c.if-weighted.true c.write_u32.ensures
 
 pub returns-else-weighted : goal.returns-else-weighted
-returns-else-weighted c = rw (c.if-weighted.false, weightless c.args.weight) (sym (append-nil c.args.out.now.items))
+returns-else-weighted c = rw (c.if-weighted.false, weightless c.args.weight) (sym (append-nil c.args.out.now))

@@ -18,6 +18,6 @@ write_held-requires c = context_held (view_of_entry c.args.entry.now) c.requires
 pub returns : goal.returns
 returns c =
     let e = view_of_entry c.args.entry.now in
-    let old = c.args.out.now.items in
-    let first = written_behind old c.write_told_birth.new.out.items c.write_fronts.new.out.items ((told birth).spelling e.0) (fronts.spelling e.1.0) c.in_ok-write_told_birth.ensures c.in_ok-write_fronts.ensures in
-    told_behind c.write_held.result old c.write_fronts.new.out.items c.write_held.new.out.items _ _ _ (context_spelled e) first c.write_held.ensures
+    let old = c.args.out.now in
+    let first = written_behind old c.write_told_birth.new.out c.write_fronts.new.out ((told birth).spelling e.0) (fronts.spelling e.1.0) c.in_ok-write_told_birth.ensures c.in_ok-write_fronts.ensures in
+    told_behind c.write_held.result old c.write_fronts.new.out c.write_held.new.out _ _ _ (context_spelled e) first c.write_held.ensures

@@ -45,12 +45,12 @@ returns c =
     let v = view_of_parts c.args.parts.now in
     let es = seen view_of_lifted c.entries-names.result.now in
     let ps = seen view_of_acks c.entries-processes.result.now in
-    let old = c.args.out.now.items in
-    let mark : c.extend_from_slice.new.self.items ≡ old ++ magic = search rules in
-    let number : c.write_u16.new.out.items ≡ c.extend_from_slice.new.self.items ++ to_be_bytes w16 (length es) = rw (length_seen view_of_lifted c.entries-names.result.now) (search rules) in
-    let names : c.write_entries.new.out.items ≡ c.write_u16.new.out.items ++ entries_spelled name (lifted Two) es = search rules in
-    let many : c.write_u8.new.out.items ≡ c.write_entries.new.out.items ++ length ps ∷ [] = rw (length_seen view_of_acks c.entries-processes.result.now) (search rules) in
-    let one = written_behind old c.extend_from_slice.new.self.items c.write_u16.new.out.items magic (to_be_bytes w16 (length es)) mark number in
-    let two = written_behind old c.write_u16.new.out.items c.write_entries.new.out.items (magic ++ to_be_bytes w16 (length es)) (entries_spelled name (lifted Two) es) one names in
-    let first = written_behind old c.write_entries.new.out.items c.write_u8.new.out.items (names_part v es ps) (length ps ∷ []) two many in
-    told_behind c.write_entries-2.result old c.write_u8.new.out.items c.write_entries-2.new.out.items _ _ _ (frame_spelled v es ps c.entries-names.ensures.entries c.entries-processes.ensures.entries) first (search rules)
+    let old = c.args.out.now in
+    let mark : c.extend_from_slice.new.self ≡ old ++ magic = search rules in
+    let number : c.write_u16.new.out ≡ c.extend_from_slice.new.self ++ to_be_bytes w16 (length es) = rw (length_seen view_of_lifted c.entries-names.result.now) (search rules) in
+    let names : c.write_entries.new.out ≡ c.write_u16.new.out ++ entries_spelled name (lifted Two) es = search rules in
+    let many : c.write_u8.new.out ≡ c.write_entries.new.out ++ length ps ∷ [] = rw (length_seen view_of_acks c.entries-processes.result.now) (search rules) in
+    let one = written_behind old c.extend_from_slice.new.self c.write_u16.new.out magic (to_be_bytes w16 (length es)) mark number in
+    let two = written_behind old c.write_u16.new.out c.write_entries.new.out (magic ++ to_be_bytes w16 (length es)) (entries_spelled name (lifted Two) es) one names in
+    let first = written_behind old c.write_entries.new.out c.write_u8.new.out (names_part v es ps) (length ps ∷ []) two many in
+    told_behind c.write_entries-2.result old c.write_u8.new.out c.write_entries-2.new.out _ _ _ (frame_spelled v es ps c.entries-names.ensures.entries c.entries-processes.ensures.entries) first (search rules)

@@ -22,9 +22,9 @@ write_entries-requires c = ap (both_pass call.fits (call_posts Two).fits) c.entr
 pub returns : goal.returns
 returns c =
     let t = view_of_calls c.args.held.now in
-    let old = c.args.out.now.items in
+    let old = c.args.out.now in
     let long = sym (length_seen view_of_call c.entries-entries.result.now) ∙ ap length c.entries-entries.ensures.entries in
-    let dropped : c.write_u32.new.out.items ≡ old ++ to_be_bytes w32 t.dropped = rw c.dropped.ensures at c.in_ok-write_u32.ensures in
-    let number : c.write_u32-2.new.out.items ≡ c.write_u32.new.out.items ++ to_be_bytes w32 (length (entries t.calls)) = rw long at c.in_ok-write_u32-2.ensures in
-    let first = written_behind old c.write_u32.new.out.items c.write_u32-2.new.out.items (to_be_bytes w32 t.dropped) (to_be_bytes w32 (length (entries t.calls))) dropped number in
-    told_behind c.write_entries.result old c.write_u32-2.new.out.items c.write_entries.new.out.items _ _ _ (held_spelled t) first (rw c.entries-entries.ensures.entries at c.write_entries.ensures)
+    let dropped : c.write_u32.new.out ≡ old ++ to_be_bytes w32 t.dropped = rw c.dropped.ensures at c.in_ok-write_u32.ensures in
+    let number : c.write_u32-2.new.out ≡ c.write_u32.new.out ++ to_be_bytes w32 (length (entries t.calls)) = rw long at c.in_ok-write_u32-2.ensures in
+    let first = written_behind old c.write_u32.new.out c.write_u32-2.new.out (to_be_bytes w32 t.dropped) (to_be_bytes w32 (length (entries t.calls))) dropped number in
+    told_behind c.write_entries.result old c.write_u32-2.new.out c.write_entries.new.out _ _ _ (held_spelled t) first (rw c.entries-entries.ensures.entries at c.write_entries.ensures)

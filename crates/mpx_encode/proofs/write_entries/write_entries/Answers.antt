@@ -34,5 +34,5 @@ loop-entry-preserved g c =
     let i = c.loop-entry.entry-index in
     let e = c.entry-item.result in
     let lt : i < length (seen view es) = omega (arith, length_seen view es, c.loop-entry-test.true) in
-    let added : c.write_entry.new.out.items ≡ c.loop-entry.out.items ++ s (e.0, view e.1) = search rules in
-    written_more s (seen view es) i (e.0, view e.1) c.args.out.now.items c.loop-entry.out.items c.write_entry.new.out.items lt (seen_at view es i e c.loop-entry-test.true c.entry-item.is) c.loop-entry.invariant added
+    let added : c.write_entry.new.out ≡ c.loop-entry.out ++ s (e.0, view e.1) = search rules in
+    written_more s (seen view es) i (e.0, view e.1) c.args.out.now c.loop-entry.out c.write_entry.new.out lt (seen_at view es i e c.loop-entry-test.true c.entry-item.is) c.loop-entry.invariant added

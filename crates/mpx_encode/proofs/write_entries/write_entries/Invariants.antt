@@ -4,4 +4,4 @@ use Rattle.mpx_encode.specs.Entries.{entries_spelled}
 use Rattle.mpx_encode.proofs.write_entries.write_entries.Given as goal
 
 abbrev pub invariant-loop-entry : goal.invariant-loop-entry
-invariant-loop-entry g l = l.out.items ≡ l.fn.out.items ++ entries_spelled g.K.WriteKey.format g.J.WriteValue.format (take l.entry-index (seen g.J.WriteValue.seen l.entries))
+invariant-loop-entry g l = l.out ≡ l.fn.out ++ entries_spelled g.K.WriteKey.format g.J.WriteValue.format (take l.entry-index (seen g.J.WriteValue.seen l.entries))

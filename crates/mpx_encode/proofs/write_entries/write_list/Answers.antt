@@ -8,5 +8,5 @@ write-requires g c = holds_at g.K.WriteKey.format.fits c.args.list.now c.loop-ke
 pub loop-key-preserved : goal.loop-key-preserved
 loop-key-preserved g c =
     let s = g.K.WriteKey.format.spelling in
-    let added : c.write.new.out.items ≡ c.loop-key.out.items ++ s c.key-item.result = search rules in
-    written_more s c.args.list.now c.loop-key.key-index c.key-item.result c.args.out.now.items c.loop-key.out.items c.write.new.out.items c.loop-key-test.true c.key-item.is c.loop-key.invariant added
+    let added : c.write.new.out ≡ c.loop-key.out ++ s c.key-item.result = search rules in
+    written_more s c.args.list.now c.loop-key.key-index c.key-item.result c.args.out.now c.loop-key.out c.write.new.out c.loop-key-test.true c.key-item.is c.loop-key.invariant added

@@ -3,4 +3,4 @@ use Rattle.std.specs.List.{flat_map}
 use Rattle.mpx_encode.proofs.write_entries.write_list.Given as goal
 
 abbrev pub invariant-loop-key : goal.invariant-loop-key
-invariant-loop-key g l = l.out.items ≡ l.fn.out.items ++ flat_map g.K.WriteKey.format.spelling (take l.key-index l.list)
+invariant-loop-key g l = l.out ≡ l.fn.out ++ flat_map g.K.WriteKey.format.spelling (take l.key-index l.list)

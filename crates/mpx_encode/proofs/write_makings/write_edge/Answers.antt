@@ -6,7 +6,7 @@ use Rattle.mpx_encode.proofs.write_makings.write_edge.Goals as goal
 pub returns : goal.returns
 returns c =
     let e = c.args.edge.now in
-    let source : c.write_u8.new.out.items ≡ c.args.out.now.items ++ e.source ∷ [] = search rules in
-    let destination : c.write_u8-2.new.out.items ≡ c.write_u8.new.out.items ++ e.destination ∷ [] = search rules in
-    let first = written_behind c.args.out.now.items c.write_u8.new.out.items c.write_u8-2.new.out.items (e.source ∷ []) (e.destination ∷ []) source destination in
-    told_behind c.write_weight.result c.args.out.now.items c.write_u8-2.new.out.items c.write_weight.new.out.items _ _ _ (edge_spelled c.args.weighted e) first (search rules)
+    let source : c.write_u8.new.out ≡ c.args.out.now ++ e.source ∷ [] = search rules in
+    let destination : c.write_u8-2.new.out ≡ c.write_u8.new.out ++ e.destination ∷ [] = search rules in
+    let first = written_behind c.args.out.now c.write_u8.new.out c.write_u8-2.new.out (e.source ∷ []) (e.destination ∷ []) source destination in
+    told_behind c.write_weight.result c.args.out.now c.write_u8-2.new.out c.write_weight.new.out _ _ _ (edge_spelled c.args.weighted e) first (search rules)

@@ -15,4 +15,4 @@ pub returns-in-Group : goal.returns-in-Group
 returns-in-Group c =
     let g = c.args.given.now in
     let is : g.making ≡ Group c.in-Group.ranks = search rules in
-    told_as c.write_ranks.result c.args.out.now.items c.write_ranks.new.out.items _ _ (sym (group_spelled (fields_of g.kind).makes g.making c.in-Group.ranks is c.limits.ensures.post.making.sort)) c.write_ranks.ensures
+    told_as c.write_ranks.result c.args.out.now c.write_ranks.new.out _ _ (sym (group_spelled (fields_of g.kind).makes g.making c.in-Group.ranks is c.limits.ensures.post.making.sort)) c.write_ranks.ensures

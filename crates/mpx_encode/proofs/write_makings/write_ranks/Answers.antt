@@ -9,7 +9,7 @@ overflow_cast-list c = omega (arith, ap length c.as_slice-list.ensures.value, ra
 pub returns : goal.returns
 returns c =
     let rs = c.args.ranks.now in
-    let first : c.write_u8.new.out.items ≡ c.args.out.now.items ++ length rs ∷ [] = rw c.as_slice-list.ensures.value at c.in_ok-write_u8.ensures in
-    let added : c.extend_from_slice.new.self.items ≡ c.write_u8.new.out.items ++ c.as_slice-list.result.now = search rules in
-    let second : c.extend_from_slice.new.self.items ≡ c.write_u8.new.out.items ++ rs = rw c.as_slice-list.ensures.value at added in
-    written_behind c.args.out.now.items c.write_u8.new.out.items c.extend_from_slice.new.self.items (length rs ∷ []) rs first second ∙ ap (λ l. c.args.out.now.items ++ l) (sym (ranks_spelled rs))
+    let first : c.write_u8.new.out ≡ c.args.out.now ++ length rs ∷ [] = rw c.as_slice-list.ensures.value at c.in_ok-write_u8.ensures in
+    let added : c.extend_from_slice.new.self ≡ c.write_u8.new.out ++ c.as_slice-list.result.now = search rules in
+    let second : c.extend_from_slice.new.self ≡ c.write_u8.new.out ++ rs = rw c.as_slice-list.ensures.value at added in
+    written_behind c.args.out.now c.write_u8.new.out c.extend_from_slice.new.self (length rs ∷ []) rs first second ∙ ap (λ l. c.args.out.now ++ l) (sym (ranks_spelled rs))

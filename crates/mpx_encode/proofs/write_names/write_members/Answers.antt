@@ -11,5 +11,5 @@ write_list-requires c = members_pass c.args.members.now c.requires
 
 pub returns : goal.returns
 returns c =
-    let first : c.write_u8.new.out.items ≡ c.args.out.now.items ++ length c.args.members.now ∷ [] = search rules in
-    told_behind c.write_list.result c.args.out.now.items c.write_u8.new.out.items c.write_list.new.out.items _ _ _ (members_spelled c.args.members.now) first (search rules)
+    let first : c.write_u8.new.out ≡ c.args.out.now ++ length c.args.members.now ∷ [] = search rules in
+    told_behind c.write_list.result c.args.out.now c.write_u8.new.out c.write_list.new.out _ _ _ (members_spelled c.args.members.now) first (search rules)

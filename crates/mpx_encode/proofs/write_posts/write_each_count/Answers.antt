@@ -8,5 +8,5 @@ pub loop-count-preserved : goal.loop-count-preserved
 unfolding count
 loop-count-preserved c =
     let x = get_or c.args.counts.now c.loop-count.count-index 0 in
-    let added : c.write_u16.new.out.items ≡ c.loop-count.out.items ++ to_be_bytes w16 x = search rules in
-    written_at count.spelling c.args.counts.now c.loop-count.count-index x 0 c.args.out.now.items c.loop-count.out.items c.write_u16.new.out.items c.loop-count-test.true refl c.loop-count.invariant added
+    let added : c.write_u16.new.out ≡ c.loop-count.out ++ to_be_bytes w16 x = search rules in
+    written_at count.spelling c.args.counts.now c.loop-count.count-index x 0 c.args.out.now c.loop-count.out c.write_u16.new.out c.loop-count-test.true refl c.loop-count.invariant added

@@ -25,4 +25,4 @@ returns-in-Some c =
     let g = c.args.given.now in
     let had = (fields_of g.kind).op in
     let code = ap (λ n. n ∷ []) c.code_of_operation.ensures in
-    told_as c.write_u8.result c.args.out.now.items c.write_u8.new.out.items _ _ (code ∙ sym (ap (when had (operation Two)).spelling (sym c.in-Some.ensures.value) ∙ when_some had (operation Two) c.in-Some.op c.in-Some.ensures.there)) c.write_u8.ensures
+    told_as c.write_u8.result c.args.out.now c.write_u8.new.out _ _ (code ∙ sym (ap (when had (operation Two)).spelling (sym c.in-Some.ensures.value) ∙ when_some had (operation Two) c.in-Some.op c.in-Some.ensures.there)) c.write_u8.ensures

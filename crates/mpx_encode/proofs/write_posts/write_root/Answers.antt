@@ -11,4 +11,4 @@ unfolding process
 returns-in-Some c =
     let g = c.args.given.now in
     let had = (fields_of g.kind).root in
-    told_as c.write_u8.result c.args.out.now.items c.write_u8.new.out.items _ _ (sym (ap (when had process).spelling (sym c.in-Some.ensures.value) ∙ when_some had process c.in-Some.root c.in-Some.ensures.there)) c.write_u8.ensures
+    told_as c.write_u8.result c.args.out.now c.write_u8.new.out _ _ (sym (ap (when had process).spelling (sym c.in-Some.ensures.value) ∙ when_some had process c.in-Some.root c.in-Some.ensures.there)) c.write_u8.ensures

@@ -15,6 +15,6 @@ returns-in-Some c =
     let had = (fields_of g.kind).items in
     let i = c.in-Some.items.now in
     let code = ap (λ n. n ∷ []) (c.code.ensures ∙ ap code_of_type c.ty.ensures) in
-    told_as c.write_u8.result c.args.out.now.items c.write_u8.new.out.items _ _
+    told_as c.write_u8.result c.args.out.now c.write_u8.new.out _ _
     (code ∙ sym (ap (λ o. (when had (type_for g.op)).spelling (option_map (λ (x : ItemList). x.ty) o)) (sym c.in-Some.ensures.value) ∙ when_some had (type_for g.op) i.ty c.in-Some.ensures.there ∙ type_spelled g.op i.ty))
     c.write_u8.ensures

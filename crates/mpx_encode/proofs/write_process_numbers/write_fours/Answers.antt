@@ -21,4 +21,4 @@ loop-four-preserved c =
     sym (flat_map-append s (seen says (take 4 rest)) (seen says (drop 4 rest)))
     ∙ ap (entries_spelled process some_calls) (sym (map-append (λ (e : ℕ × Max). (e.0, says e.1)) (take 4 rest) (drop 4 rest)) ∙ ap (seen says) (take-append-drop 4 rest)) in
     let split = c.in-Some.ensures.cases in
-    rw (c.in_ok-extend_from_slice.ensures.items, c.four_bytes.ensures, split.0, split.1) (append_assoc c.loop-four.out.items front back ∙ ap (λ l. c.loop-four.out.items ++ l) both ∙ c.loop-four.invariant)
+    rw (c.in_ok-extend_from_slice.ensures.ok, c.four_bytes.ensures, split.0, split.1) (append_assoc c.loop-four.out front back ∙ ap (λ l. c.loop-four.out ++ l) both ∙ c.loop-four.invariant)

@@ -18,13 +18,13 @@ loop-row-preserved c =
     let i = c.loop-row.row-index in
     let e = c.row-item.result in
     let lt : i < length (seen says es) = omega (arith, length_seen says es, c.loop-row-test.true) in
-    let added : c.extend_from_slice.new.self.items ≡ c.loop-row.out.items ++ s (e.0, says e.1) = search rules in
-    written_more s (seen says es) i (e.0, says e.1) c.write_fours.new.out.items c.loop-row.out.items c.extend_from_slice.new.self.items lt (seen_at says es i e c.loop-row-test.true c.row-item.is) c.loop-row.invariant added
+    let added : c.extend_from_slice.new.self ≡ c.loop-row.out ++ s (e.0, says e.1) = search rules in
+    written_more s (seen says es) i (e.0, says e.1) c.write_fours.new.out c.loop-row.out c.extend_from_slice.new.self lt (seen_at says es i e c.loop-row-test.true c.row-item.is) c.loop-row.invariant added
 
 pub returns : goal.returns
 returns c =
     let es = c.in_ok-rest.rest.now in
     let all : length (seen says es) ≤ c.loop-row.row-index = omega (arith, length_seen says es, c.loop-row-test.false) in
     c.loop-row.invariant
-    ∙ ap (λ l. c.write_fours.new.out.items ++ entries_spelled process some_calls l) (take_all c.loop-row.row-index (seen says es) all)
+    ∙ ap (λ l. c.write_fours.new.out ++ entries_spelled process some_calls l) (take_all c.loop-row.row-index (seen says es) all)
     ∙ c.in_ok-rest.ensures

@@ -6,4 +6,4 @@ use Rattle.mpx_encode.proofs.write_process_numbers.write_rows.Given as goal
 
 -- behind the fours
 abbrev pub invariant-loop-row : goal.invariant-loop-row
-invariant-loop-row l = l.out.items ≡ l.initial.out.items ++ entries_spelled process some_calls (take l.row-index (seen (λ n. n.0) l.rest))
+invariant-loop-row l = l.out ≡ l.initial.out ++ entries_spelled process some_calls (take l.row-index (seen (λ n. n.0) l.rest))

@@ -5,4 +5,4 @@ use Rattle.mpx_sim.proofs.frames.frames_with.Given as goal
 
 -- the frames so far show what these bytes do
 abbrev pub invariant-loop-bytes : goal.invariant-loop-bytes
-invariant-loop-bytes l = map part_of l.made.items ≡ map (λ bytes. shown (decoded bytes.items)) l.yielded
+invariant-loop-bytes l = map part_of l.made.items ≡ map (λ bytes. shown (decoded bytes)) l.yielded

@@ -14,7 +14,7 @@ loop-i-preserved c =
     let frames = c.loop-i.network.frames.items in
     let within : c.loop-i.i < length frames = search rules in
     record {
-      parts = kept part_of frames c.loop-i.i c.index_mut.result.now c.delay.new.frame within (ap (λ bytes. shown (decoded bytes.items)) c.delay.ensures.bytes ∙ ap part_of c.index_mut.ensures.value) ∙ c.loop-i.invariant.parts;
+      parts = kept part_of frames c.loop-i.i c.index_mut.result.now c.delay.new.frame within (ap (λ bytes. shown (decoded bytes)) c.delay.ensures.bytes ∙ ap part_of c.index_mut.ensures.value) ∙ c.loop-i.invariant.parts;
       words = drawn_then c.args.network.now.schedule.words c.loop-i.network.schedule.words c.delay.new.schedule.words c.loop-i.invariant.words c.delay.ensures.words;
       loss = c.delay.ensures.loss ∙ c.loop-i.invariant.loss;
     }

@@ -4,7 +4,6 @@ use Rattle.std.proofs.lemmas.Iterator.Consumers.{YieldsList-end, YieldsList-turn
 use Rattle.std.proofs.lemmas.List.{map-id, map_push}
 use lib.ListN.{get_or}
 use Rattle.crossbeam_queue.specs.Passes.{view}
-use Rattle.mpx_node.specs.declared.node.Node.{Node}
 use Rattle.mpx_node.specs.Shown.{node_of}
 use Rattle.mpx_bus.proofs.Meets.{learns}
 use Rattle.mpx_bus.proofs.Meetings.{IsMeeting, all_met, meeting_begins, meeting_more, meeting_stands, setups_of}

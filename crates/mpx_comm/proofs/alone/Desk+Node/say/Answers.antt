@@ -1,5 +1,5 @@
 -- The node after storing is the one that the frames were made of.
-use Rattle.std.proofs.Common.{map, sym, subst}
+use Rattle.std.proofs.Common.{sym, subst}
 use Rattle.std.specs.Prelude.{Result, Ok}
 use Rattle.mpx_node.specs.Deltas.{AreLacked, SaysWhatItHas}
 use Rattle.mpx_node.specs.Shown.{node_of}
@@ -27,5 +27,5 @@ returns-clause-own c =
 pub returns-clause-frames : goal.returns-clause-frames
 returns-clause-frames c limit made =
     let lacks = made.lacks in
-    subst (λ n. AreLacked limit n (map (λ frame. frame.items) c.args.made.frames.items)) (sym (c.acknowledge.ensures.gives lacks.after lacks.stores))
+    subst (λ n. AreLacked limit n c.args.made.frames.items) (sym (c.acknowledge.ensures.gives lacks.after lacks.stores))
     (record { parts = made.parts; facts = lacks.facts; fit = lacks.fit; join = lacks.join; few = lacks.few; spelled = made.spelled })

@@ -29,5 +29,5 @@ unfolding acks some_names name_count
 returns c =
     let m = view_of_acks c.args.self.now in
     let es = seen view_of_numbers c.entries-entries.result.now in
-    let first : c.write_u16.new.out.items ≡ c.args.out.now.items ++ to_be_bytes w16 (length es) = rw (length_seen view_of_numbers c.entries-entries.result.now) (search rules) in
-    told_behind c.write_entries.result c.args.out.now.items c.write_u16.new.out.items c.write_entries.new.out.items _ _ _ (keyed_spelling name_cmp some_names name numbers always m es c.entries-entries.ensures.entries) first (search rules)
+    let first : c.write_u16.new.out ≡ c.args.out.now ++ to_be_bytes w16 (length es) = rw (length_seen view_of_numbers c.entries-entries.result.now) (search rules) in
+    told_behind c.write_entries.result c.args.out.now c.write_u16.new.out c.write_entries.new.out _ _ _ (keyed_spelling name_cmp some_names name numbers always m es c.entries-entries.ensures.entries) first (search rules)

@@ -14,16 +14,16 @@ says p = flat_view (λ v. v) p
 
 pub returns-in-Unknown : goal.returns-in-Unknown
 unfolding posted
-returns-in-Unknown c = told_as c.write_u8.result c.args.out.now.items c.write_u8.new.out.items _ _ (ap (λ s. (posted Two).spelling (says s)) (sym c.in-Unknown.is)) c.write_u8.ensures
+returns-in-Unknown c = told_as c.write_u8.result c.args.out.now c.write_u8.new.out _ _ (ap (λ s. (posted Two).spelling (says s)) (sym c.in-Unknown.is)) c.write_u8.ensures
 
 pub write_post-requires : goal.write_post-requires
 write_post-requires c = posted_known c.in-Known.post (ap (λ s. (posted Two).fits (says s)) (sym c.in-Known.is) ∙ c.requires)
 
 pub returns-in_ok-write_u8-in-Known : goal.returns-in_ok-write_u8-in-Known
 returns-in_ok-write_u8-in-Known c =
-    let first : c.write_u8-in-Known.new.out.items ≡ c.args.out.now.items ++ 1 ∷ [] = search rules in
-    told_behind c.write_post.result c.args.out.now.items c.write_u8-in-Known.new.out.items c.write_post.new.out.items _ _ _ (ap (λ s. (posted Two).spelling (says s)) c.in-Known.is ∙ posted_spelled c.in-Known.post) first c.write_post.ensures
+    let first : c.write_u8-in-Known.new.out ≡ c.args.out.now ++ 1 ∷ [] = search rules in
+    told_behind c.write_post.result c.args.out.now c.write_u8-in-Known.new.out c.write_post.new.out _ _ _ (ap (λ s. (posted Two).spelling (says s)) c.in-Known.is ∙ posted_spelled c.in-Known.post) first c.write_post.ensures
 
 pub returns-in-Clash : goal.returns-in-Clash
 unfolding posted
-returns-in-Clash c = told_as c.write_u8-in-Clash.result c.args.out.now.items c.write_u8-in-Clash.new.out.items _ _ (ap (λ s. (posted Two).spelling (says s)) (sym c.in-Clash.is)) c.write_u8-in-Clash.ensures
+returns-in-Clash c = told_as c.write_u8-in-Clash.result c.args.out.now c.write_u8-in-Clash.new.out _ _ (ap (λ s. (posted Two).spelling (says s)) (sym c.in-Clash.is)) c.write_u8-in-Clash.ensures

@@ -11,5 +11,5 @@ write_steps-requires c = ap (list_all step.fits) c.steps-steps.ensures.value ∙
 pub returns : goal.returns
 returns c =
     let n = c.args.self.now in
-    let first : c.write_u8.new.out.items ≡ c.args.out.now.items ++ length (reverse n) ∷ [] = rw c.steps-steps.ensures.value at c.in_ok-write_u8.ensures in
-    told_behind c.write_steps.result c.args.out.now.items c.write_u8.new.out.items c.write_steps.new.out.items _ _ _ (name_spelled n) first (rw c.steps-steps.ensures.value at c.write_steps.ensures)
+    let first : c.write_u8.new.out ≡ c.args.out.now ++ length (reverse n) ∷ [] = rw c.steps-steps.ensures.value at c.in_ok-write_u8.ensures in
+    told_behind c.write_steps.result c.args.out.now c.write_u8.new.out c.write_steps.new.out _ _ _ (name_spelled n) first (rw c.steps-steps.ensures.value at c.write_steps.ensures)

@@ -24,5 +24,5 @@ unfolding numbers some_byte
 returns c =
     let m = keyed_view nat_cmp says c.args.self.now.entries.items in
     let es = seen says c.entries-entries.result.now in
-    let first : c.write_u8.new.out.items ≡ c.args.out.now.items ++ length es ∷ [] = rw (length_seen says c.entries-entries.result.now) (search rules) in
-    told_behind c.write_rows.result c.args.out.now.items c.write_u8.new.out.items c.write_rows.new.out.items _ _ _ (keyed_spelling nat_cmp some_byte process some_calls always m es c.entries-entries.ensures.entries) first (search rules)
+    let first : c.write_u8.new.out ≡ c.args.out.now ++ length es ∷ [] = rw (length_seen says c.entries-entries.result.now) (search rules) in
+    told_behind c.write_rows.result c.args.out.now c.write_u8.new.out c.write_rows.new.out _ _ _ (keyed_spelling nat_cmp some_byte process some_calls always m es c.entries-entries.ensures.entries) first (search rules)

@@ -1,5 +1,5 @@
 -- The node after storing is the one that the frames were made of.
-use Rattle.std.proofs.Common.{map, subst}
+use Rattle.std.proofs.Common.{subst}
 use Rattle.mpx_node.specs.Deltas.{AreLacked, SaysWhatItHas}
 use Rattle.mpx_node.specs.Shown.{node_of}
 use Rattle.mpx_node.proofs.Storing.{stores_lent, stored_there}
@@ -17,5 +17,5 @@ pub returns-clause-frames : goal.returns-clause-frames
 returns-clause-frames c =
     let made = c.in_ok-said.ensures.made in
     let lacks = made.lacks in
-    subst (λ n. AreLacked c.args.limit n (map (λ frame. frame.items) c.in_ok-said.field-0.frames.items)) (stored_there c.in_ok-said.field-0.said (node_of c.args.self.now) _ lacks.after _ c.in_ok-said.ensures.node lacks.stores c.acknowledge.ensures.gives)
+    subst (λ n. AreLacked c.args.limit n c.in_ok-said.field-0.frames.items) (stored_there c.in_ok-said.field-0.said (node_of c.args.self.now) _ lacks.after _ c.in_ok-said.ensures.node lacks.stores c.acknowledge.ensures.gives)
     (record { parts = made.parts; facts = lacks.facts; fit = lacks.fit; join = lacks.join; few = lacks.few; spelled = made.spelled })

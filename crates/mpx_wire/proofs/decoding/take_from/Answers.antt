@@ -1,7 +1,7 @@
 use Rattle.mpx_board.specs.Looks.{parts_of}
 use Rattle.mpx_decode.specs.Raising.{no_parts}
 use Rattle.mpx_wire.proofs.Taking.{behind_it, front_stands, on_err, parts_stand, spelled_joined, spelled_left, spells_none}
-use Rattle.mpx_wire.proofs.decoding.take_spelled.Goals as goal
+use Rattle.mpx_wire.proofs.decoding.take_from.Goals as goal
 
 pub take_parts-requires : goal.take_parts-requires
 take_parts-requires c = parts_stand c.args.bytes.now c.requires c.in-Ok.version c.in-Ok.rest.now c.in-Ok.ensures.gives
