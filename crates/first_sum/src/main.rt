@@ -23,31 +23,55 @@ impl Program for FirstSum {
         ops: &Ops,
     ) -> Option<String> {
         let mine = i128::from(world.rank()) + 1;
-        let added = desk
-            .allreduce(
-                alloc,
-                world,
-                Op::Sum,
-                Ty::I64,
-                Numbers::one(mine),
-                TURNS,
-                ops,
-            )
-            .ok()?;
-        let split = desk
-            .split(alloc, world, Some(mine % 2), 0, TURNS, ops)
-            .ok()?;
-        let half = Comm::of(alloc, &split).ok()??;
-        let gathered = desk
-            .gather(alloc, &half, 0, Ty::I64, Numbers::one(mine), TURNS, ops)
-            .ok()?;
-        let (sum, all) = (numbers_of(&added).ok()?, numbers_of(&gathered).ok()?);
+        let sum = sum_of(alloc, desk, world, mine, ops)?;
+        let half = half_of(alloc, desk, world, mine % 2, ops)?;
+        let all = gathered(alloc, desk, &half, mine, ops)?;
         format!(in alloc; "{sum:?}, {} of {}, {all:?}", half.rank(), half.size()).ok()
     }
 
     fn gives_up(&self, answer: &Option<String>) -> bool {
         answer.is_none()
     }
+}
+
+// The sum of what all ranks give.
+fn sum_of<H: Host>(
+    alloc: Global,
+    desk: &mut Desk<H>,
+    world: &Comm,
+    mine: i128,
+    ops: &Ops,
+) -> Option<Vec<i128>> {
+    let mine = Numbers::one(mine);
+    let sum = desk
+        .allreduce(alloc, world, Op::Sum, Ty::I64, mine, TURNS, ops)
+        .ok()?;
+    Vec::from_slice(alloc, numbers_of(&sum).ok()?).ok()
+}
+
+// The communicator of all ranks that give this colour.
+fn half_of<H: Host>(
+    alloc: Global,
+    desk: &mut Desk<H>,
+    world: &Comm,
+    colour: i128,
+    ops: &Ops,
+) -> Option<Comm> {
+    let split = desk.split(alloc, world, Some(colour), 0, TURNS, ops).ok()?;
+    Comm::of(alloc, &split).ok()?
+}
+
+// What the ranks of the communicator give, at its rank 0; nothing at the others.
+fn gathered<H: Host>(
+    alloc: Global,
+    desk: &mut Desk<H>,
+    half: &Comm,
+    mine: i128,
+    ops: &Ops,
+) -> Option<Vec<i128>> {
+    let mine = Numbers::one(mine);
+    let all = desk.gather(alloc, half, 0, Ty::I64, mine, TURNS, ops).ok()?;
+    Vec::from_slice(alloc, numbers_of(&all).ok()?).ok()
 }
 
 fn main(rt: HostRuntime) -> Result<ExitCode, RanksError> {

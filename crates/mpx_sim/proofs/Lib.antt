@@ -9,4 +9,5 @@ pub mod Starting
 pub mod Resting
 pub mod Results
 pub mod SideBySide
+pub mod BothShares
 pub mod Ends

@@ -16,6 +16,7 @@ mod process;
 mod report;
 mod schedule;
 mod sender;
+mod shares;
 mod side_by_side;
 mod start;
 mod turns;

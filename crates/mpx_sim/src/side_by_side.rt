@@ -7,10 +7,11 @@ ghost use Rattle.mpx_sim.specs.SideBySide.{AllGoOn, AllMake, AreReady, GoesOn, I
 use crate::frame_under_way::FrameUnderWay;
 use crate::process::Process;
 use crate::schedule::Schedule;
+use crate::shares::for_each_share;
 use join_core::OutOfMemory;
 use mpx_num::{Listing, Ops};
 use std::alloc::Global;
-use std::thread::{Threads, for_each_mut};
+use std::thread::Threads;
 
 // The job's own operations, lent to threads: that they may share these is plain of this type alone, whatever else they see.
 #[derive(Drop)]
@@ -39,7 +40,7 @@ pub(crate) fn go_on_all<R: Threads + Sync>(
     let work = |place: usize, process: &mut Process<'_>|
         ensures { process.exit.now.notes.failed ≡ false → GoesOn (map (λ b. operation_of (word_bytes (b.vtable, b.value)) (fits_type (b.vtable, b.value)) (combination (b.vtable, b.value))) lent.entry.now.ops.now.list.items) ranks place (taken place turn frames.entry.now (process_of process.entry.now)) (process_of process.exit.now) × IsReady process.exit.now }
     { process.take_and_go_on(alloc, place, ranks, frames, turn, next, lent.ops) };
-    for_each_mut(rt, processes, threads, &work);
+    for_each_share(rt, processes, threads, &work);
     none_failed(processes)?;
     Ok(one_changed(processes))
 }

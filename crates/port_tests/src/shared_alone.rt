@@ -11,7 +11,7 @@ use mpx_name::Name;
 use mpx_node::Finished;
 use mpx_num::{Listing, Ops};
 use mpx_post::PostError;
-use mpx_shared::{PortLock, Poster, Pull, SharedPort, TicketTested};
+use mpx_shared::{PortLock, Poster, Pull, SharedPort, Ticket, TicketTested};
 use mpx_value::Outcome;
 use std::alloc::Global;
 use std::marker::Brand;
@@ -93,7 +93,17 @@ fn gathers<L: PortLock, R: Wait>(
     let drafted = draft(alloc, &just(kinds::CREATE_GROUP))?;
     let ticket = post(rt, alloc, port, poster, gathering, drafted, ops)?;
     port.pull(rt, alloc, bus, ops);
-    match port.test(rt, alloc, &ticket)? {
+    gives_one(rt, alloc, port, &ticket)
+}
+
+// Whether the ticket's call gave a communicator of the rank alone.
+fn gives_one<L: PortLock, R: Wait>(
+    rt: &R,
+    alloc: Global,
+    port: &SharedPort<L>,
+    ticket: &Ticket,
+) -> Result<bool, Fail> {
+    match port.test(rt, alloc, ticket)? {
         TicketTested::Done(finished) => Ok(is_alone(&finished)),
         _ => Ok(false),
     }

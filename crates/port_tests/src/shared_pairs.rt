@@ -106,17 +106,17 @@ fn sum_up<M: PortLock, N: PortLock, R: Wait>(
     rt: &R,
     alloc: Global,
     bus: &Bus,
-    mut first: Shared<M>,
-    mut second: Shared<N>,
+    first: &mut Shared<M>,
+    second: &mut Shared<N>,
     ops: &Ops,
 ) -> Result<(bool, bool), Fail>
     requires list { (⟦<Ops as Listing>⟧.operations ops.now ≡ M.setup.operations) × (⟦<Ops as Listing>⟧.operations ops.now ≡ N.setup.operations) }
     requires first { ((M.all ≡ M.parts) × (0 < M.parts)) × ((M.setup.planned ≡ false) × (table_of bus.now ≡ M.table)) }
     requires second { ((N.all ≡ N.parts) × (0 < N.parts)) × ((N.setup.planned ≡ false) × (table_of bus.now ≡ N.table)) }
 {
-    let one = post_sum(rt, alloc, &mut first, 7, ops)?;
+    let one = post_sum(rt, alloc, first, 7, ops)?;
     let unposted = is_strange(rt, alloc, &second.port, &one)?;
-    let two = post_sum(rt, alloc, &mut second, 8, ops)?;
+    let two = post_sum(rt, alloc, second, 8, ops)?;
     let posted = is_strange(rt, alloc, &second.port, &one)?;
     let summed = gossip_on(
         rt,
@@ -146,9 +146,9 @@ fn share_two<M: PortLock, N: PortLock, R: Wait>(
     requires second_port { (1 ≡ N.me) × (IsLawful N.table N.setup N.me second.0 × ((second.0.journal ≡ N.opening) × (length (made_in second.0) ≡ N.before))) }
     requires second_bus { (N.setup.planned ≡ false) × (table_of bus.now ≡ N.table) }
 {
-    let first = share::<M>(alloc, first.0, 0, first.1);
-    let second = share::<N>(alloc, second.0, 1, second.1);
-    sum_up(rt, alloc, bus, first, second, ops)
+    let mut first = share::<M>(alloc, first.0, 0, first.1);
+    let mut second = share::<N>(alloc, second.0, 1, second.1);
+    sum_up(rt, alloc, bus, &mut first, &mut second, ops)
 }
 
 // Whether a ticket is strange to the other port, and whether both are told the sum.
