@@ -68,7 +68,31 @@ fn harvest_both(
     Ok(one && two && sums == (Some(3), Some(3)))
 }
 
-// Both ports post a number and exchange their frames. How many instances both have finished.
+// Both ports post a number, exchange their frames, and harvest, where that is asked. Whether all of that was done.
+fn all_done<R: Wait>(
+    rt: &R,
+    alloc: Global,
+    bus: &Bus,
+    first: &mut Port,
+    second: &mut Port,
+    harvest: bool,
+    ops: &Ops,
+) -> Result<bool, Fail>
+    requires list { ⟦<Ops as Listing>⟧.operations ops.now ≡ first.old.setup.operations }
+    requires first { (first.old.table ≡ table_of bus.now) × (first.old.setup.planned ≡ false) }
+    requires second { (second.old.table ≡ table_of bus.now) × (second.old.setup.planned ≡ false) }
+    requires setup { second.old.setup ≡ first.old.setup }
+    ensures first { IsSamePort first.old first.new }
+    ensures second { IsSamePort second.old second.new }
+{
+    let one = posts(alloc, first, 1, ops)?;
+    let two = posts(alloc, second, 2, ops)?;
+    let exchanged = exchange(rt, alloc, bus, first, second)?;
+    let done = harvest_both(alloc, first, second, harvest, ops)?;
+    Ok(one && two && exchanged && done)
+}
+
+// How many instances both have finished, once all of that is done.
 fn meet_after<R: Wait>(
     rt: &R,
     alloc: Global,
@@ -83,11 +107,8 @@ fn meet_after<R: Wait>(
     requires second { (second.table ≡ table_of bus.now) × (second.setup.planned ≡ false) }
     requires setup { second.setup ≡ first.setup }
 {
-    let one = posts(alloc, &mut first, 1, ops)?;
-    let two = posts(alloc, &mut second, 2, ops)?;
-    let exchanged = exchange(rt, alloc, bus, &mut first, &mut second)?;
-    let done = harvest_both(alloc, &mut first, &mut second, harvest, ops)?;
-    if !(one && two && exchanged && done) {
+    let done = all_done(rt, alloc, bus, &mut first, &mut second, harvest, ops)?;
+    if !done {
         return Err(Fail::from("not done"));
     }
     Ok(bus.meet(first, second).both)

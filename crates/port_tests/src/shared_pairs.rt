@@ -115,18 +115,47 @@ fn sum_up<M: PortLock, N: PortLock, R: Wait>(
     requires second { ((N.all ≡ N.parts) × (0 < N.parts)) × ((N.setup.planned ≡ false) × (table_of bus.now ≡ N.table)) }
 {
     let one = post_sum(rt, alloc, first, 7, ops)?;
-    let unposted = is_strange(rt, alloc, &second.port, &one)?;
+    let told = with_first(rt, alloc, bus, (&first.port, &one), second, ops);
+    drop(one);
+    told
+}
+
+// The second posts too. Whether the first's ticket is strange to it, before and after that, and whether both are told the sum.
+fn with_first<M: PortLock, N: PortLock, R: Wait>(
+    rt: &R,
+    alloc: Global,
+    bus: &Bus,
+    first: (&SharedPort<M>, &Ticket),
+    second: &mut Shared<N>,
+    ops: &Ops,
+) -> Result<(bool, bool), Fail>
+    requires list { (⟦<Ops as Listing>⟧.operations ops.now ≡ M.setup.operations) × (⟦<Ops as Listing>⟧.operations ops.now ≡ N.setup.operations) }
+    requires first { table_of bus.now ≡ M.table }
+    requires second { ((N.all ≡ N.parts) × (0 < N.parts)) × ((N.setup.planned ≡ false) × (table_of bus.now ≡ N.table)) }
+{
+    let unposted = is_strange(rt, alloc, &second.port, first.1)?;
     let two = post_sum(rt, alloc, second, 8, ops)?;
-    let posted = is_strange(rt, alloc, &second.port, &one)?;
-    let summed = gossip_on(
-        rt,
-        alloc,
-        bus,
-        (&first.port, &one),
-        (&second.port, &two),
-        ops,
-    )?;
+    let told = with_both(rt, alloc, bus, first, (&second.port, &two), ops);
+    drop(two);
+    let (posted, summed) = told?;
     Ok((unposted && posted, summed))
+}
+
+// Whether the first's ticket is strange to the second, and whether both are told the sum.
+fn with_both<M: PortLock, N: PortLock, R: Wait>(
+    rt: &R,
+    alloc: Global,
+    bus: &Bus,
+    first: (&SharedPort<M>, &Ticket),
+    second: (&SharedPort<N>, &Ticket),
+    ops: &Ops,
+) -> Result<(bool, bool), Fail>
+    requires list { (⟦<Ops as Listing>⟧.operations ops.now ≡ M.setup.operations) × (⟦<Ops as Listing>⟧.operations ops.now ≡ N.setup.operations) }
+    requires first { table_of bus.now ≡ M.table }
+    requires second { table_of bus.now ≡ N.table }
+{
+    let posted = is_strange(rt, alloc, second.0, first.1)?;
+    Ok((posted, gossip_on(rt, alloc, bus, first, second, ops)?))
 }
 
 // Shares two new ports: whether a foreign ticket is strange to the second, and whether gossip brings both sums.
