@@ -1,167 +1,176 @@
-//! Who is in the minority at a fault.
+//! Who gives something else at a fault.
 
+use crate::amounts::unmet;
+use crate::aspects::{Aspect, Share, aspect_of, says};
 use join_core::OutOfMemory;
 use mpx_eval::Complaint;
 use mpx_post::Draft;
 use mpx_script::{Posting, Script, Statement};
 use std::alloc::Global;
 
-// What a rank gives to a call in the place where the call's posts don't fit together.
+// So many ranks are all told where none of what they give is given by most.
+const FEW_RANKS: usize = 8;
+
+// What a rank gives, in words.
 #[derive(Drop)]
-struct Share {
+struct Saying {
     rank: u8,
-    root: i128,
-    items: usize,
+    text: String,
 }
 
-/// Which ranks give something else than the most to the call of a fault, where that is a root, or a number of items that all ranks give
-/// alike. It is told of blocking calls on `world` alone, and only where each rank has just one line that tells this fault of one.
+/// Which ranks give something else than the most to the call of a fault, or of which two ranks the one sends another number of items than the
+/// other awaits. It is told of blocking calls on `world` alone, and only where each rank has just one line that tells this fault.
 pub(crate) fn minority(
     alloc: Global,
     script: &Script,
     complaint: &Complaint,
     all: &[Complaint],
 ) -> Result<Option<String>, OutOfMemory> {
-    let text = complaint.text.as_bytes();
-    let by_root = text.starts_with(b"fault Root ");
-    if !by_root && !text.starts_with(b"fault Amount ") {
+    let Some(draft) = posted_on_world(script, complaint) else {
         return Ok(None);
-    }
-    if !is_on_world(script, complaint) || (!by_root && !give_alike(script, complaint)) {
+    };
+    let Some(aspect) = aspect_of(complaint.text.as_bytes(), draft) else {
         return Ok(None);
-    }
+    };
     let shares = shares_of(alloc, script, complaint, all)?;
     if shares.len() != usize::from(script.ranks()) {
         return Ok(None);
     }
-    let Some(usual) = usual(&shares, by_root) else {
+    match aspect {
+        Aspect::Between(exchange) => unmet(alloc, exchange, &shares),
+        _ => by_most(alloc, aspect, &shares),
+    }
+}
+
+// What the ranks give that don't give what most do; what each gives, where few ranks give nothing by most.
+fn by_most(
+    alloc: Global,
+    aspect: Aspect,
+    shares: &[Share<'_>],
+) -> Result<Option<String>, OutOfMemory> {
+    let said = all_said(alloc, aspect, shares)?;
+    let usual = usual(&said);
+    if usual.is_none() && said.len() > FEW_RANKS {
         return Ok(None);
-    };
-    let told = told_of(alloc, &shares, by_root, usual)?;
+    }
+    let told = told_of(alloc, &said, usual)?;
     if told.is_empty() {
         return Ok(None);
     }
     Ok(Some(told))
 }
 
-// What the ranks give that don't give what most do.
-fn told_of(
+fn all_said(
     alloc: Global,
-    shares: &[Share],
-    by_root: bool,
-    usual: i128,
-) -> Result<String, OutOfMemory> {
-    let others = shares
-        .iter()
-        .filter(|share| value(share, by_root) != usual)
-        .count();
-    let mut told = String::new(alloc);
+    aspect: Aspect,
+    shares: &[Share<'_>],
+) -> Result<Vec<Saying>, OutOfMemory> {
+    let mut said = Vec::new(alloc);
     for share in shares {
-        if value(share, by_root) != usual {
-            push_share(alloc, share, by_root, others == 1, &mut told)?;
-        }
+        let text = says(alloc, aspect, share.draft)?;
+        said.push(Saying {
+            rank: share.rank,
+            text,
+        })?;
     }
-    Ok(told)
+    Ok(said)
 }
 
-// Adds what a rank gives, which is alone in that or not.
-fn push_share(
-    alloc: Global,
-    share: &Share,
-    by_root: bool,
-    is_alone: bool,
-    told: &mut String,
-) -> Result<(), OutOfMemory> {
-    let rank = share.rank;
-    let given = value(share, by_root);
-    let between = if told.is_empty() { "" } else { ", " };
-    let alone = if is_alone { " alone" } else { "" };
-    let text = if by_root {
-        format!(in alloc; "{between}rank {rank}{alone} gives root {given}")?
-    } else {
-        let noun = if given == 1 { "item" } else { "items" };
-        format!(in alloc; "{between}rank {rank}{alone} gives {given} {noun}")?
-    };
-    told.push_str(text.as_str())?;
-    Ok(())
-}
-
-fn value(share: &Share, by_root: bool) -> i128 {
-    if by_root {
-        share.root
-    } else {
-        share.items as i128
-    }
-}
-
-// The value that most give; none where two values are given by as many ranks.
-fn usual(shares: &[Share], by_root: bool) -> Option<i128> {
+// What most say; none where two things are said by as many ranks.
+fn usual(said: &[Saying]) -> Option<&str> {
     let mut best = 0usize;
     let mut found = None;
     let mut is_clear = false;
-    for share in shares {
-        let given = value(share, by_root);
-        let count = shares
-            .iter()
-            .filter(|other| value(other, by_root) == given)
-            .count();
+    for saying in said {
+        let text = saying.text.as_str();
+        let count = times(said, text);
         if count > best {
             best = count;
-            found = Some(given);
+            found = Some(text);
             is_clear = true;
-        } else if count == best && found != Some(given) {
+        } else if count == best && found != Some(text) {
             is_clear = false;
         }
     }
     if is_clear { found } else { None }
 }
 
-fn is_on_world(script: &Script, complaint: &Complaint) -> bool {
-    match posted(script, complaint) {
-        Some((on, _)) => on == b"world".as_slice(),
-        None => false,
-    }
+fn times(said: &[Saying], text: &str) -> usize {
+    said.iter()
+        .filter(|saying| saying.text.as_str() == text)
+        .count()
 }
 
-// Whether the call is of a kind to which all ranks give as many items: the kinds that have none of the counts.
-fn give_alike(script: &Script, complaint: &Complaint) -> bool {
-    match posted(script, complaint) {
-        Some((_, draft)) => {
-            draft.scounts.as_slice().is_empty() && draft.rcounts.as_slice().is_empty()
+fn told_of(
+    alloc: Global,
+    said: &[Saying],
+    usual: Option<&str>,
+) -> Result<String, OutOfMemory> {
+    let alike = match usual {
+        Some(text) => times(said, text),
+        None => 0,
+    };
+    let is_alone = said.len().saturating_sub(alike) == 1;
+    let mut told = String::new(alloc);
+    for saying in said {
+        if usual != Some(saying.text.as_str()) {
+            push_saying(alloc, saying, is_alone, &mut told)?;
         }
-        None => false,
     }
+    Ok(told)
+}
+
+// Adds what a rank says, which is alone in that or not.
+fn push_saying(
+    alloc: Global,
+    saying: &Saying,
+    is_alone: bool,
+    told: &mut String,
+) -> Result<(), OutOfMemory> {
+    let rank = saying.rank;
+    let between = if told.is_empty() { "" } else { ", " };
+    let alone = if is_alone { " alone" } else { "" };
+    let text = saying.text.as_str();
+    let text = format!(in alloc; "{between}rank {rank}{alone} {text}")?;
+    told.push_str(text.as_str())?;
+    Ok(())
 }
 
 // What each rank gives to the call on `world`, of which just one line of each rank tells this fault; none where there are more.
-fn shares_of(
+fn shares_of<'s>(
     alloc: Global,
-    script: &Script,
+    script: &'s Script,
     complaint: &Complaint,
     all: &[Complaint],
-) -> Result<Vec<Share>, OutOfMemory> {
-    let mut shares: Vec<Share> = Vec::new(alloc);
+) -> Result<Vec<Share<'s>>, OutOfMemory> {
+    let mut shares: Vec<Share<'s>> = Vec::new(alloc);
     for other in all {
         if other.text != complaint.text {
             continue;
         }
-        let Some((on, draft)) = posted(script, other) else {
+        let Some(draft) = posted_on_world(script, other) else {
             continue;
         };
-        if on != b"world".as_slice() {
-            continue;
-        }
         if shares.iter().any(|share| share.rank == other.rank) {
             shares.clear();
             return Ok(shares);
         }
         shares.push(Share {
             rank: other.rank,
-            root: draft.root,
-            items: draft.items.as_slice().len() / draft.ty.item_len().max(1),
+            draft,
         })?;
     }
     Ok(shares)
+}
+
+// The draft of the statement of a line's blocking call, where that is on `world`.
+fn posted_on_world<'s>(script: &'s Script, complaint: &Complaint) -> Option<&'s Draft> {
+    let (on, draft) = posted(script, complaint)?;
+    if on == b"world".as_slice() {
+        Some(draft)
+    } else {
+        None
+    }
 }
 
 // The communicator's word and the draft of the statement of a line's blocking call. Lines of requests may tell of different calls.

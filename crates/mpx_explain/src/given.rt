@@ -31,6 +31,8 @@ pub(crate) fn given(
     }
 }
 
+// The refusals that a statement tells more of, each by what it gives. (Names that are compared one by one: a match over so many texts is dear to
+// prove.)
 fn of_draft(
     alloc: Global,
     script: &Script,
@@ -39,32 +41,57 @@ fn of_draft(
     draft: &Draft,
     refusal: &[u8],
 ) -> Result<Option<String>, OutOfMemory> {
-    let text = match refusal {
-        b"refused RootOutOfRange" => root(alloc, script, on, draft)?,
-        b"refused ItemsLength" => items(alloc, rank, on, draft)?,
-        b"refused ItemOutOfRange" => number(alloc, draft)?,
-        b"refused CountsLength" => counts(alloc, draft)?,
-        b"refused TooManyItems" => {
-            let given = draft.items.as_slice().len();
-            Some(format!(in alloc;
-                "gave {given} numbers; at most 4096 items are taken, and counts from 0 to 4096"
-            )?)
+    if is(refusal, "refused RootOutOfRange") {
+        return root(alloc, script, on, draft);
+    }
+    if is(refusal, "refused ItemsLength") {
+        return items(alloc, rank, on, draft);
+    }
+    if is(refusal, "refused ItemOutOfRange") {
+        return number(alloc, draft);
+    }
+    if is(refusal, "refused CountsLength") {
+        return counts(alloc, draft);
+    }
+    if is(refusal, "refused TooManyItems") {
+        return too_many(alloc, draft);
+    }
+    by_name(alloc, refusal)
+}
+
+fn is(refusal: &[u8], name: &str) -> bool {
+    refusal == name.as_bytes()
+}
+
+// Refusals whose name alone tells what is wrong, and what that is.
+const MEANINGS: [(&str, &str); 4] = [
+    ("refused OpNotForType", "the operation isn't for this type"),
+    (
+        "refused NoTopology",
+        "the communicator has no topology: dist_graph and dist_graph_adjacent make one",
+    ),
+    ("refused Closed", "this rank has freed the communicator"),
+    (
+        "refused NotMember",
+        "the communicator is null here: its call was refused or a fault, or left this rank out",
+    ),
+];
+
+// What is wrong, where the refusal's name alone tells it.
+fn by_name(alloc: Global, refusal: &[u8]) -> Result<Option<String>, OutOfMemory> {
+    for (name, meaning) in MEANINGS {
+        if is(refusal, name) {
+            return Ok(Some(String::from_str(alloc, meaning)?));
         }
-        b"refused OpNotForType" => {
-            Some(String::from_str(alloc, "the operation isn't for this type")?)
-        }
-        b"refused NoTopology" => Some(String::from_str(
-            alloc,
-            "the communicator has no topology: dist_graph and dist_graph_adjacent make one",
-        )?),
-        b"refused Closed" => Some(String::from_str(alloc, "this rank has freed the communicator")?),
-        b"refused NotMember" => Some(String::from_str(
-            alloc,
-            "the communicator is null here: its call was refused or a fault, or left this rank out",
-        )?),
-        _ => None,
-    };
-    Ok(text)
+    }
+    Ok(None)
+}
+
+fn too_many(alloc: Global, draft: &Draft) -> Result<Option<String>, OutOfMemory> {
+    let given = draft.items.as_slice().len();
+    Ok(Some(format!(in alloc;
+        "gave {given} numbers; at most 4096 items are taken, and counts from 0 to 4096"
+    )?))
 }
 
 fn root(

@@ -6,12 +6,15 @@
 //! tell.
 #![tactic(auto)]
 
+mod amounts;
+mod aspects;
 mod blame;
 mod calls;
 mod faults;
 mod given;
 mod lines;
 mod meant;
+mod naming;
 mod past;
 
 pub use blame::{Blamed, word_to_blame};

@@ -14,7 +14,8 @@ const MOST_LINES: usize = 10;
 const MOST_LETTERS: usize = 64;
 
 /// Adds a line for each refused line of a script, at most ten: its refusal, and the word that is to blame with the one that was
-/// meant, where these can be told. Each but the first is found by leaving out those before it.
+/// meant, where these can be told. Each but the first is found by leaving out those before it. The first, which the program tells anyway, is left
+/// out where no word is to blame.
 pub fn explain_refusals(
     alloc: Global,
     text: &[u8],
@@ -31,7 +32,8 @@ pub fn explain_refusals(
             return Ok(());
         }
         let blamed = word_to_blame(alloc, &rest, refusal, ops)?;
-        if !follows(refusal, blamed.as_ref(), &unbound) {
+        let is_told = nth == 0 && blamed.is_none();
+        if !is_told && !follows(refusal, blamed.as_ref(), &unbound) {
             push_refused(alloc, refusal, blamed.as_ref(), told)?;
         }
         if ends_all(refusal.what) {

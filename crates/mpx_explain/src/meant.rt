@@ -65,6 +65,24 @@ const OTHERS: [&str; 34] = [
     "2int",
 ];
 
+// The types of programs, and those of scripts.
+const TYPES: [(&str, &str); 14] = [
+    ("int", "i32"),
+    ("long", "i64"),
+    ("short", "i16"),
+    ("unsigned", "u32"),
+    ("byte", "u8"),
+    ("char", "i8"),
+    ("int8", "i8"),
+    ("int16", "i16"),
+    ("int32", "i32"),
+    ("int64", "i64"),
+    ("uint8", "u8"),
+    ("uint16", "u16"),
+    ("uint32", "u32"),
+    ("uint64", "u64"),
+];
+
 /// The word that this one was meant to be, perhaps: the same one in small letters and without MPI's prefixes, or one from which one
 /// letter more, less or other, or two letters in another order, tell it apart.
 pub(crate) fn meant(alloc: Global, word: &str) -> Result<Option<String>, OutOfMemory> {
@@ -119,15 +137,13 @@ fn without_prefix(word: &str) -> &str {
 
 // The word of a program's type, or a word of scripts.
 fn known_as(word: &str) -> Option<&'static str> {
-    match word {
-        "int" => Some("i32"),
-        "long" => Some("i64"),
-        "short" => Some("i16"),
-        "unsigned" => Some("u32"),
-        "byte" => Some("u8"),
-        "char" => Some("i8"),
-        _ => among(&BOTH, word).or(among(&OTHERS, word)),
+    let bare = word.strip_suffix("_t").unwrap_or(word);
+    for (name, ty) in TYPES {
+        if name == bare {
+            return Some(ty);
+        }
     }
+    among(&BOTH, word).or(among(&OTHERS, word))
 }
 
 // The word itself, where it is among these, else one that is near.

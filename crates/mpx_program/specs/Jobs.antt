@@ -10,7 +10,7 @@ use Rattle.mpx_run.specs.Texts.{OfRuns, Prints, RunsUngated, TakesInput}
 use Rattle.mpx_run.specs.declared.end.End.{End}
 use Rattle.mpx_run.specs.declared.texts.RunError.{RunError}
 use Rattle.mpx_run.specs.declared.texts.RunError.TheVariants.{GateGaveUp}
-use Rattle.mpx_program.specs.Status.{explanation, message, refusal_status, status}
+use Rattle.mpx_program.specs.Status.{advice, explanation, message, refusal_status, status}
 use Rattle.mpx_program.specs.Strict.{IsStrict}
 use Rattle.mpx_words.specs.Usage.{usage}
 use Rattle.mpx_words.specs.Words.{invocation_in}
@@ -19,7 +19,7 @@ use Rattle.mpx_words.specs.declared.invocation.Invocation.{Invocation}
 -- a job with this answer, whose script has calls to complain of or not, gives the status and what is said
 pub record Exits (answer : Result End RunError) (complains explains : Bool) (more : List ℕ) (code : ℕ) (Says : List ℕ → Type 0) : Type 0 where
   pub status : code ≡ status complains answer
-  pub says : Says (message answer ++ explanation explains answer more)
+  pub says : Says (message answer ++ advice complains explains answer ++ explanation explains answer more)
 
 -- where a job comes to an end, whether the script has calls to complain of is as `--strict` asks
 abbrev pub StrictOn : List Operation → Invocation → (text : List ℕ) → Result End RunError → (complains : Bool) → Type 0
@@ -42,8 +42,8 @@ StrictBy ops call there left (Ok end) complains = (text : List ℕ) × TakesInpu
 StrictBy ops call there left (Err error) complains = Unit {0}
 
 -- a call's job is done with a script by the job's own operations, no gate ends it, and its answer gives the status and what is said. What is asked for
--- beside the job changes nothing of what is printed: by `--strict` the status is 6 where it is 0 or 3 else and the script has calls to complain of, and by
--- `--explain` the standard error is told more
+-- beside the job changes nothing of what is printed: by `--strict` the status is 6 where it is 0 or 3 else and the script has calls to complain of, and the
+-- standard error is told so; by `--explain` it is told more
 pub record DoesJobWith (Is : OfRuns) (ops : List Operation) (call : Invocation) (there left old new : Option (List ℕ)) (code : ℕ) (Says : List ℕ → Type 0) : Type 0 where
   pub answer : Result End RunError
   pub runs : RunsUngated Is ops call.job there left old new answer

@@ -47,6 +47,11 @@ message (Err error) = run_error_text error ++ codes "\n"
 
 -- MORE
 
+-- what is told of a job that has come to an end, whose script has calls to complain of, where no more is asked for
+abbrev pub advice : (complains explains : Bool) → Result End RunError → List ℕ
+advice true false (Ok end) = codes "calls are refused or are faults: --explain names them\n"
+advice complains explains answer = []
+
 -- why ranks wait
 abbrev pub cause_text : Cause → List ℕ
 cause_text InEveryRun = codes "these ranks wait in every run\n"

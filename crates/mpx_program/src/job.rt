@@ -141,6 +141,6 @@ fn exit_of<E: Write>(
 {
     Exit {
         status: status_of(answer, complains),
-        told: write_said(answer, explains, more, err),
+        told: write_said(answer, complains, explains, more, err),
     }
 }

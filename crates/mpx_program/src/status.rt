@@ -1,8 +1,8 @@
 //! What the program says on the standard error, and its exit status.
-ghost use Rattle.std.specs.Prelude.{◌≡◌, ◌++◌, OnOk, codes};
+ghost use Rattle.std.specs.Prelude.{◌≡◌, ◌++◌, OnOk, codes, false};
 ghost use Rattle.std.specs.Io.KnownBytes.{Appends};
 ghost use Rattle.clap.specs.Words.{kind_of};
-ghost use Rattle.mpx_program.specs.Status.{cause_text, explanation, message, refusal_status, status, waiting_text, why};
+ghost use Rattle.mpx_program.specs.Status.{advice, cause_text, explanation, message, refusal_status, status, waiting_text, why};
 
 use clap::error::ErrorKind;
 use mpx_run::{Cause, End, RunError};
@@ -47,21 +47,38 @@ pub fn write_message<W: Write>(answer: &Result<End, RunError>, writer: &mut W) -
     }
 }
 
-/// Writes the message of a job, and where more is asked for, why it ended, and more.
+/// Writes the message of a job, and that its script has calls to complain of; where more is asked for, why it ended, and more.
 pub(crate) fn write_said<W: Write>(
     answer: &Result<End, RunError>,
+    complains: bool,
     explains: bool,
     more: &[u8],
     writer: &mut W,
 ) -> io::Result<()>
-    ensures { OnOk result (Appends (W.contents writer.old) (W.contents writer.new) (message answer.now ++ explanation explains answer.now more.now)) }
+    ensures { OnOk result (Appends (W.contents writer.old) (W.contents writer.new) (message answer.now ++ advice complains explains answer.now ++ explanation explains answer.now more.now)) }
 {
     write_message(answer, writer)?;
-    if explains {
-        write_why(answer, writer)?;
-        writer.write_all(more)?;
+    if !explains {
+        return write_advice(answer, complains, writer);
     }
-    Ok(())
+    write_why(answer, writer)?;
+    writer.write_all(more)
+}
+
+// Writes how to hear of the calls to complain of, where there are some and the job has come to an end.
+fn write_advice<W: Write>(
+    answer: &Result<End, RunError>,
+    complains: bool,
+    writer: &mut W,
+) -> io::Result<()>
+    ensures { OnOk result (Appends (W.contents writer.old) (W.contents writer.new) (advice complains false answer.now)) }
+{
+    match answer {
+        Ok(_) if complains => {
+            writer.write_all(b"calls are refused or are faults: --explain names them\n")
+        }
+        _ => Ok(()),
+    }
 }
 
 // Writes why ranks wait, where some do.

@@ -7,9 +7,9 @@ ghost use Rattle.mpx_sim.specs.Shares.{AcceptsFrom, ChangesFrom};
 use std::marker::{Send, Sync};
 use std::thread::{Threads, join_mut};
 
-/// Does the work at each place, in at most so many threads, each of which has places next to each other. The calling thread begins all others,
-/// one after the other, since halves of halves, as `for_each_mut` makes them, begin later. It does the last share itself, which is greater,
-/// since it has no thread to wait for.
+/// Does the work at each place, in at most so many threads, each of which has places next to each other, and no more threads than places. The
+/// calling thread begins all others, one after the other, since halves of halves, as `for_each_mut` makes them, begin later. It does the last
+/// share itself, which is greater, since it has no thread to wait for.
 pub(crate) fn for_each_share<R: Threads + Sync, T: Send, F: Fn(usize, &mut T) + Sync>(
     rt: &R,
     places: &mut [T],
@@ -19,6 +19,7 @@ pub(crate) fn for_each_share<R: Threads + Sync, T: Send, F: Fn(usize, &mut T) + 
     requires { AcceptsEach F.Fn work.now places.old }
     ensures { ChangesEach F.Fn work.now places.old places.new }
 {
+    let threads = threads.min(places.len());
     share_out(rt, work, 0, threads, places);
 }
 

@@ -1,5 +1,5 @@
 //! What the processes of a run do side by side, each by itself, in threads.
-ghost use Rattle.std.specs.Prelude.{◌≡◌, ◌<◌, All, OnOk, false, map};
+ghost use Rattle.std.specs.Prelude.{◌≡◌, All, OnOk, false, map};
 ghost use Rattle.mpx_num.specs.Own.{operation_of};
 ghost use Rattle.mpx_sim.specs.Shown.{process_of};
 ghost use Rattle.mpx_sim.specs.SideBySide.{AllGoOn, AllMake, AreReady, GoesOn, IsReady, taken};
@@ -32,7 +32,6 @@ pub(crate) fn go_on_all<R: Threads + Sync>(
     next: Option<u64>,
     ops: &Ops,
 ) -> Result<bool, OutOfMemory>
-    requires { 0 < threads }
     ensures goes { OnOk result (AllGoOn (⟦<Ops as Listing>⟧.operations ops.now) ranks turn frames.now (map process_of processes.old) (map process_of processes.new)) }
     ensures ready { OnOk result (AreReady processes.new) }
 {

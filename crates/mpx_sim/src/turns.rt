@@ -127,7 +127,6 @@ fn first<R: Threads + Sync>(
     observer: &mut dyn Observer,
     ops: &Ops,
 ) -> Result<bool, OutOfMemory>
-    requires workers { 0 < plan.now.workers }
     requires count { plan.now.ranks ≤ length processes.old }
     ensures run { OnOk result ((script : Statements) (ranks size : ℕ) (begun : Moment) (frames : List Look) → plan.now.ranks ≤ ranks → IsUnderWay (⟦<Ops as Listing>⟧.operations ops.now) script ranks size begun Alone (map process_of processes.old) frames
         → IsUnderWay (⟦<Ops as Listing>⟧.operations ops.now) script ranks size begun Alone (map process_of processes.new) frames) }
@@ -178,7 +177,6 @@ fn go_further<R: Threads + Sync>(
     observer: &mut dyn Observer,
     ops: &Ops,
 ) -> Result<bool, OutOfMemory>
-    requires workers { 0 < plan.now.workers }
     requires count { plan.now.ranks ≤ length processes.old }
     ensures run { OnOk result ((script : Statements) (ranks size : ℕ) (begun : Moment) → plan.now.ranks ≤ ranks
         → IsUnderWay (⟦<Ops as Listing>⟧.operations ops.now) script ranks size begun (Coming (schedule_of network.old.schedule)) (map process_of processes.old) (map part_of network.old.frames.items)

@@ -11,13 +11,10 @@ use std::alloc::{AllocError, Global};
 pub(crate) fn program<'a>(alloc: Global) -> Result<Command<'a>, AllocError>
     ensures { IfOk result (λ c. app_of c ≡ usage) }
 {
-    let run = run(alloc)?;
-    let eval = plain(alloc, "eval", EVAL)?;
-    let check = plain(alloc, "check", CHECK)?;
     bare_program(alloc)?
-        .subcommand(run)?
-        .subcommand(eval)?
-        .subcommand(check)
+        .subcommand(run(alloc)?)?
+        .subcommand(plain(alloc, "eval", EVAL, STRICT)?)?
+        .subcommand(plain(alloc, "check", CHECK, CERTAIN)?)
 }
 
 /// The command of that name by itself, for its usage; the whole program, where there is none.
@@ -26,10 +23,10 @@ pub(crate) fn named<'a>(alloc: Global, name: &[u8]) -> Result<Command<'a>, Alloc
         return run(alloc)?.bin_name("gossipmpi run");
     }
     if name == b"eval".as_slice() {
-        return plain(alloc, "eval", EVAL)?.bin_name("gossipmpi eval");
+        return plain(alloc, "eval", EVAL, STRICT)?.bin_name("gossipmpi eval");
     }
     if name == b"check".as_slice() {
-        return plain(alloc, "check", CHECK)?.bin_name("gossipmpi check");
+        return plain(alloc, "check", CHECK, CERTAIN)?.bin_name("gossipmpi check");
     }
     program(alloc)
 }
@@ -81,6 +78,7 @@ fn with_run_flags<'a>(alloc: Global) -> Result<Command<'a>, AllocError>
         alloc,
         "run",
         "Run the script on the standard input (gossipmpi run < SCRIPT) and print what each rank gets",
+        STRICT,
     )?
     .after_help(
         "An option that has a number is followed by it: --seed 7, or --seed=7. The script says how many ranks there are.",
@@ -91,19 +89,26 @@ fn with_run_flags<'a>(alloc: Global) -> Result<Command<'a>, AllocError>
 }
 
 // A command that has no options but those of each command.
-fn plain<'a>(alloc: Global, name: &'a str, about: &'a str) -> Result<Command<'a>, AllocError>
+fn plain<'a>(
+    alloc: Global,
+    name: &'a str,
+    about: &'a str,
+    strict: &'a str,
+) -> Result<Command<'a>, AllocError>
     ensures shape { IfOk result (λ c. shape_of c ≡ plain name.entry.now) }
     ensures local { IfOk result (λ c. (fields_of c).has_globals ≡ false) }
 {
     bare(alloc, name, about)
-        .arg(flag(alloc, "strict", STRICT))?
+        .arg(flag(alloc, "strict", strict))?
         .arg(flag(alloc, "explain", EXPLAIN))
 }
 
 const STRICT: &str = "Exit with status 6 where the script has a call that is refused or is a fault";
 
+const CERTAIN: &str = "Exit with status 6 where a call on world is refused for certain";
+
 const EXPLAIN: &str =
-    "Tell more on the standard error: why a run ended, and what is wrong with the script";
+    "Tell more on the standard error: what is wrong with the script, and why a run ended";
 
 const TRACE: &str =
     "Tell each event on the standard error: what is sent, lost and taken, and what ranks get; not with --threads";
