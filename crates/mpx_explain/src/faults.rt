@@ -101,11 +101,7 @@ fn times(said: &[Saying], text: &str) -> usize {
         .count()
 }
 
-fn told_of(
-    alloc: Global,
-    said: &[Saying],
-    usual: Option<&str>,
-) -> Result<String, OutOfMemory> {
+fn told_of(alloc: Global, said: &[Saying], usual: Option<&str>) -> Result<String, OutOfMemory> {
     let alike = match usual {
         Some(text) => times(said, text),
         None => 0,
