@@ -36,13 +36,15 @@ static void note_signal(int number, siginfo_t *cause, void *unused)
     if (cause->si_code <= 0) raise(number);
 }
 
-/* An MPI and what it stands on may have handlers that print where a program died: those go on. */
-static int is_of_mpi(const struct sigaction *action)
+/* Whether code is of an MPI or of what it stands on. */
+static int is_of_mpi(void *code)
 {
-    static const char *const libraries[] = {"libucs", "libmpi", "libopen-", "libpmix", "libfabric", "libpsm"};
+    static const char *const libraries[] = {"libucs", "libmpi", "libopen-", "libpmix", "libfabric", "libpsm", "mca_"};
     Dl_info module;
-    if (!dladdr((void *)action->sa_sigaction, &module) || !module.dli_fname) return 0;
-    for (size_t i = 0; i < sizeof libraries / sizeof *libraries; i++) if (strstr(module.dli_fname, libraries[i])) return 1;
+    if (!dladdr(code, &module) || !module.dli_fname) return 0;
+    const char *name = strrchr(module.dli_fname, '/');
+    name = name ? name + 1 : module.dli_fname;
+    for (size_t i = 0; i < sizeof libraries / sizeof *libraries; i++) if (!strncmp(name, libraries[i], strlen(libraries[i]))) return 1;
     return 0;
 }
 
@@ -52,7 +54,7 @@ void note_signals(void)
     for (int i = 0; i < SIGNALS; i++) {
         struct sigaction now;
         if (set_action(deadly[i], 0, &now)) continue;
-        is_free[i] = (!(now.sa_flags & SA_SIGINFO) && now.sa_handler == SIG_DFL) || is_of_mpi(&now);
+        is_free[i] = (!(now.sa_flags & SA_SIGINFO) && now.sa_handler == SIG_DFL) || is_of_mpi((void *)now.sa_sigaction);     /* which prints where a program died */
     }
 }
 
@@ -65,22 +67,22 @@ void watch_signals(void)
     for (int i = 0; i < SIGNALS; i++) if (is_free[i]) set_action(deadly[i], &noting, &before[i]);
 }
 
-static void note_exit(int code)
+static void note_exit(int code, int is_mpi)
 {
     char line[32] = "exit ", *at = line + 5;
     unsigned number = code & 255;
     if (number >= 100) *at++ = '0' + number / 100;
     if (number >= 10) *at++ = '0' + number / 10 % 10;
     *at++ = '0' + number % 10;
-    if (inside) { memcpy(at, " inside", 7); at += 7; }
+    if (is_mpi) { memcpy(at, " inside", 7); at += 7; }
     *at++ = '\n';
     write_last(line, at - line);
 }
 
-/* An MPI may end the process so. */
+/* An MPI may end the process so, also from a thread of its own. */
 void _exit(int code)
 {
-    note_exit(code);
+    note_exit(code, inside || is_of_mpi(SITE));
     for (;;) syscall(SYS_exit_group, code);
 }
 
@@ -93,4 +95,4 @@ static void keep_code(int code, void *unused)
 }
 
 void watch_exit(void) { on_exit(keep_code, 0); }
-__attribute__((destructor)) static void note_ordinary_exit(void) { note_exit(ordinary_code); }
+__attribute__((destructor)) static void note_ordinary_exit(void) { note_exit(ordinary_code, inside); }

@@ -1,15 +1,35 @@
-/* RECORD_HANG=SECONDS: a run in which no rank makes a call for so long is ended. Rank 0 looks at all files; every rank marks its own. */
+/* RECORD_HANG=SECONDS: a run in which no rank makes a call for so long is ended. One rank looks at all files; every rank marks its own. */
 #include "record.h"
+#include <errno.h>
+#include <fcntl.h>
 #include <pthread.h>
 #include <signal.h>
 #include <stdio.h>
 #include <stdlib.h>
+#include <sys/file.h>
 #include <sys/stat.h>
 #include <sys/syscall.h>
 #include <unistd.h>
 
-static int seconds, own_rank, all_ranks;
+static int seconds, own_rank, all_ranks, locked = -1;
 static char folder[3072];
+
+/* Whether this rank is the one that looks: it has the lock on rank 0's file, which another gets when it has finished or died. */
+static int is_looking(void)
+{
+    char path[4096];
+    snprintf(path, sizeof path, "%s/rank.0", folder);
+    if (locked < 0) locked = open(path, O_RDWR | O_CLOEXEC);
+    if (locked >= 0 && !flock(locked, LOCK_EX | LOCK_NB)) return 1;
+    return errno != EWOULDBLOCK && !own_rank;           /* where files have no locks */
+}
+
+static void stop_looking(void)
+{
+    if (locked < 0) return;
+    flock(locked, LOCK_UN);
+    close(locked);
+}
 
 /* A number that changes when a file does. */
 static uint64_t state_of_files(void)
@@ -41,22 +61,34 @@ static void *watch(void *unused)
     while (is_recording()) {
         usleep(250000);
         touch_record();
-        if (own_rank) continue;
+        if (!is_looking()) continue;
         uint64_t now = state_of_files();
         still = now == last ? still + 1 : 0;
         last = now;
         if (still >= 4 * seconds && is_recording()) end_run();
     }
+    stop_looking();
     return unused;
+}
+
+/* 0 is off, and so is what is no number, which is told. */
+static int seconds_asked(int rank)
+{
+    const char *words = getenv("RECORD_HANG");
+    char *end;
+    if (!words || !*words) return 0;
+    long number = strtol(words, &end, 10);
+    if (!*end && number >= 0 && number <= 1000000) return number;
+    if (!rank) fprintf(stderr, "record: RECORD_HANG=%s is no whole number of seconds: no hang is ended\n", words);
+    return 0;
 }
 
 void watch_hang(const char *at, int rank, int ranks)
 {
-    const char *words = getenv("RECORD_HANG");
     pthread_t thread;
     sigset_t all, old;
-    seconds = words ? atoi(words) : 0;
-    if (seconds <= 0) return;
+    seconds = seconds_asked(rank);
+    if (!seconds) return;
     snprintf(folder, sizeof folder, "%s", at);
     own_rank = rank;
     all_ranks = ranks;

@@ -249,19 +249,32 @@ static void open_own_communicator(void)
     PMPI_Comm_set_errhandler(own, MPI_ERRORS_RETURN);
 }
 
+/* The folder, and those above it. */
+static void make_folder(const char *folder)
+{
+    char path[4096];
+    snprintf(path, sizeof path, "%s", folder);
+    for (char *at = strchr(path + 1, '/'); at; at = strchr(at + 1, '/')) {
+        *at = 0;
+        mkdir(path, 0777);
+        *at = '/';
+    }
+    mkdir(path, 0777);
+}
+
 static void open_record(void)
 {
     const char *folder = getenv("RECORD_FOLDER"), *items = getenv("RECORD_ITEMS"), *buffer = getenv("RECORD_BUFFER");
     const char *messages = getenv("RECORD_MESSAGES");
     char path[4096], version[MPI_MAX_LIBRARY_VERSION_STRING + 1];
     int rank, ranks, size = 0;
-    if (!folder) folder = "recorded";
+    if (!folder || !*folder) folder = "recorded";
     if (items) most_items = atol(items);
     is_buffered = buffer && *buffer == '1';
     notes_messages = messages && *messages == '1';
     PMPI_Comm_rank(MPI_COMM_WORLD, &rank);
     PMPI_Comm_size(MPI_COMM_WORLD, &ranks);
-    mkdir(folder, 0777);
+    make_folder(folder);
     snprintf(path, sizeof path, "%s/rank.%d", folder, rank);
     file = open(path, O_RDWR | O_CREAT | O_TRUNC | O_CLOEXEC, 0666);
     if (file < 0) { fprintf(stderr, "record: %s: %s; nothing is recorded\n", path, strerror(errno)); return; }
