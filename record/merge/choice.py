@@ -16,12 +16,12 @@ CUT = dict(bcast=(0, 0), reduce=(0, 0), allreduce=(0, 0), scan=(0, 0), exscan=(0
 class Choice:
     """`taken` has the keys of the calls for scripts; `blocks` those that are cut, with their length; `bounded` and `left` count the others by
     what is said of them, and `held` has the keys of the first, of whose numbers so many are `unjudged`. `reports` has calls of which something
-    is told already: key, title, and parts with more lines."""
+    is told already: key, title, and parts with more lines; `amounts` those of which two ranks' don't fit, with the words for it."""
 
     def __init__(self, calls, without_idup=False):
         self.calls, self.gone, self.without_idup = calls, set(), without_idup
         self.taken, self.blocks, self.left, self.reports = set(), {}, collections.Counter(), []
-        self.bounded, self.held, self.unjudged = collections.Counter(), set(), 0
+        self.bounded, self.held, self.unjudged, self.amounts = collections.Counter(), set(), 0, {}
         for key in sorted(calls.rows, key=lambda key: (len(key[0]), key[1])):
             reason = self.reason_for(key, calls.rows[key])
             if reason: self.leave(key, reason)
@@ -64,6 +64,7 @@ class Choice:
         if kinds & set(FOLDS) and not folds.is_plain(row):
             reason = self.reason_of_fold(key, row)
             if reason or key in self.held: return reason
+        self.compare_those_that_came(key, row)
         make_one_type(self.calls, row)
         if self.has_topology(row) and not self.graph_fits(key, row): self.leave_graph(key, row)
         if part.kind.startswith('neighbor'):
@@ -73,13 +74,33 @@ class Choice:
 
     # ---- parts that don't fit ----
 
+    def mismatch(self, key): return types.mismatch(self.calls.rows[key], self.calls.order[key[0]], lambda: self.neighbours_of(key[0]))
+
     def compare_types(self, key, row):
         """Parts whose basic types don't match; of those that are no part of a script also their amounts."""
-        found = types.mismatch(row, self.calls.order[key[0]], lambda: self.neighbours_of(key[0]))
+        if all(part.sent is None for part in row.values()): return
+        found = self.mismatch(key)
         if found is None: return
         is_left = any(part.tag != 'call' for part in row.values())
         if found[0] == 'types': self.tell(key, 'has types that don\'t match: ' + found[1])
         elif is_left: self.tell(key, 'doesn\'t fit together: ' + found[1])
+        else: self.amounts[key] = found[1]
+
+    def compare_those_that_came(self, key, row):
+        """Of a call that a rank is missing in, scripts say no more than who waits: whether the others' parts fit."""
+        if set(row) >= self.calls.members[key[0]] or self.is_told(key): return
+        name = difference_of_words([row[rank] for rank in sorted(row)])
+        found = None if name else self.mismatch(key)
+        what = 'its parts differ in the ' + name if name else found and found[1]
+        if what: self.tell(key, 'doesn\'t fit together, of the ranks that came: ' + what)
+
+    def is_told(self, key): return any(key == told for told, _, _ in self.reports[-1:])
+
+    def amounts_of(self, key):
+        """Both ends of amounts that don't fit, in words, or None. Parts with lines `types` may have changed since: theirs were kept."""
+        if key in self.amounts: return self.amounts[key]
+        found = None if any(part.sent is not None for part in self.calls.rows[key].values()) else self.mismatch(key)
+        return found[1] if found and found[0] == 'amounts' else None
 
     def reason_recorded(self, key, row):
         """What the recorder left out. Its kind, mode, root and operation are compared by themselves."""
@@ -90,14 +111,8 @@ class Choice:
         return 'a reduction of ' + part.type if reason == 'type' and part.type != '-' else REASONS.get(reason, reason)
 
     def compare_left(self, key, row):
-        parts = [row[rank] for rank in sorted(row) if row[rank].tag != 'begun']
-        for part in parts:
-            first = parts[0]
-            for name, here, there in (('kind', part.kind, first.kind), ('mode', part.nonblocking, first.nonblocking),
-                                      ('root', part.root, first.root), ('operation', part.operation, first.operation)):
-                if here == there or name in ('root', 'operation') and '-' in (here, there): continue
-                self.tell(key, 'is left out, but its parts differ in the %s' % name)
-                return
+        name = difference_of_words([row[rank] for rank in sorted(row) if row[rank].tag != 'begun'])
+        if name: self.tell(key, 'is left out, but its parts differ in the %s' % name)
 
     # ---- reductions that scripts don't have ----
 
@@ -193,6 +208,16 @@ class Choice:
         if any(part.graph is None for part in parts): return 'its grid or graph has an edge that is none at its other end'
         is_twice = any(len(set(words)) < len(words) for words in (graph_words(part.graph[0]) for part in parts))
         return 'a neighbour that stands twice on its grid' if is_twice and kind.startswith('neighbor_alltoall') else None
+
+
+def difference_of_words(parts):
+    """In which of these words parts of one call differ, or None; `-` is a word that isn't known."""
+    for part in parts:
+        first = parts[0]
+        for name, here, there in (('kind', part.kind, first.kind), ('mode', part.nonblocking, first.nonblocking),
+                                  ('root', part.root, first.root), ('operation', part.operation, first.operation)):
+            if here != there and not (name in ('root', 'operation') and '-' in (here, there)): return name
+    return None
 
 
 def graph_words(words): return [] if words in ('-', '-w') else [word.partition(':')[0] for word in words.split(',')]

@@ -124,7 +124,9 @@ class Comparison:
         self.checked.add(key)
         row, line = self.calls.rows[key], rows[0][2]
         if line.startswith('fault'):
-            self.reports.append((key, 'doesn\'t fit together: %s' % line, self.part_lines([(row[rank], []) for rank in sorted(row)])))
+            amounts = self.choice.amounts_of(key) if line.startswith('fault Amount') else None
+            title = 'doesn\'t fit together: ' + line + (' (%s)' % amounts if amounts else '')
+            self.reports.append((key, title, self.part_lines([(row[rank], []) for rank in sorted(row)])))
             return
         lines = []
         for part, given, line in rows[:TOLD_RANKS]: lines += [self.part_line(part), '    ' + difference(part, given, line)]

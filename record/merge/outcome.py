@@ -70,6 +70,6 @@ class Outcome:
         lines += ['left out: %d %s' % (number, what) for what, number in sorted(self.left.items())]
         unended = [str(rank) for rank in range(record.size) if record.ended[rank] != 'end']
         if unended: lines.append('no MPI_Finalize at rank%s %s' % ('s' * (len(unended) > 1), ' '.join(unended)))
-        if not self.comparison.has_waits:
-            lines.append('the program waits isn\'t at hand: what is said of waiting ranks is from the record alone')
+        if self.waiting and not self.ended and not self.comparison.has_waits:
+            lines.append('the program waits isn\'t at hand: what is said of waiting ranks is from the record alone (bench/look waits builds it)')
         return lines + [self.summary()]

@@ -45,7 +45,7 @@ class Record:
             size = int(lines[0].split()[1])
             if size < 1: raise Unreadable('rank %d: no ranks' % rank)
             return size
-        raise Unreadable('rank 0 has no record: ' + self.missing[0])
+        raise Unreadable('rank 0 has no record: %s; was the program run here, with LD_PRELOAD?' % self.missing[0])
 
     def lines_of(self, rank):
         why = 'its file is empty'

@@ -110,7 +110,6 @@ def meetings(kind, root, sides, neighbours):
 def mismatch(row, order, neighbours):
     """What of two ranks' types doesn't match, as words, or None; `types` or `amounts`. `order` has the communicator's members by place, and
     `neighbours` gives those of each place where the call is one among neighbours."""
-    if all(part.sent is None for part in row.values()): return None
     kinds = {part.kind for part in row.values()}
     roots = {part.root for part in row.values()}
     if len(kinds) > 1 or len(roots) > 1: return None                    # which is told by itself

@@ -6,6 +6,7 @@ from .comparison import ADDRESS
 from .parts import MESSAGES, WAITS
 
 DEADLY = {4: 'SIGILL', 6: 'SIGABRT', 7: 'SIGBUS', 8: 'SIGFPE', 11: 'SIGSEGV'}      # others come from outside, as of mpirun
+GONE = ['195', 'inside']            # how Open MPI ends a rank whose mpirun has gone; a program's own exit has no second word
 
 
 def grouped(ranks):
@@ -28,7 +29,7 @@ class Waiting:
         is_somewhere = self.lines and not record.has_messages and any(self.is_going_on(rank) and self.open[rank] is None for rank in range(record.size))
         if is_somewhere: self.lines.append('with RECORD_MESSAGES=1 a record tells in which message a rank is')
 
-    def is_going_on(self, rank): return self.record.ended[rank] in (None, 'signal', 'hang') and rank not in self.causes
+    def is_going_on(self, rank): return self.record.ended[rank] in (None, 'signal', 'hang', 'exit') and rank not in self.causes
 
     def cause(self, rank):
         """What this rank did to end the run before its time, or None."""
@@ -36,6 +37,7 @@ class Waiting:
         if rank in missing: return 'left no record: %s' % missing[rank]
         if tag == 'abort': return 'called MPI_Abort(%s) at %s' % (words[0], self.record.place_of(self.record.parts[rank][-1]))
         if tag == 'fatal': return 'was ended by this MPI, %s: %s' % (self.where(rank), ADDRESS.sub('..', ' '.join(words[1:])))
+        if tag == 'exit' and words == GONE and self.record.mpi.startswith('Open MPI'): return None
         if tag == 'exit': return '%s, %s' % (('was ended by this MPI, with exit status %s' if words[1:] else 'ended without MPI_Finalize, with status %s')
                                             % words[0], self.where(rank))
         if tag == 'signal' and int(words[0]) in DEADLY: return 'died of %s, %s' % (DEADLY[int(words[0])], self.where(rank))
@@ -49,9 +51,9 @@ class Waiting:
 
     def lines_of_waits(self, comparison):
         record, proved, lines = self.record, {}, []
-        for rank in range(record.size):
-            if record.ended[rank] == 'hang':
-                lines.append('the run was ended since no rank made a call for %s seconds (RECORD_HANG)' % record.last[rank][0])
+        if 'hang' in record.ended:
+            seconds = record.last[record.ended.index('hang')][0]
+            lines.append('the run was ended since no rank made a call for %s seconds (RECORD_HANG)' % seconds)
         for script, part, text in comparison.waiting.values(): proved.setdefault(part.rank, []).append((script, part, text))
         for rank in range(record.size):
             if rank in proved: lines += [self.translate(*entry) for entry in proved[rank]]
