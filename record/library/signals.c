@@ -44,7 +44,8 @@ static int is_of_mpi(void *code)
     if (!dladdr(code, &module) || !module.dli_fname) return 0;
     const char *name = strrchr(module.dli_fname, '/');
     name = name ? name + 1 : module.dli_fname;
-    for (size_t i = 0; i < sizeof libraries / sizeof *libraries; i++) if (!strncmp(name, libraries[i], strlen(libraries[i]))) return 1;
+    for (size_t i = 0; i < sizeof libraries / sizeof *libraries; i++)
+        if (!strncmp(name, libraries[i], strlen(libraries[i]))) return 1;
     return 0;
 }
 

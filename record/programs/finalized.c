@@ -1,4 +1,5 @@
-/* rank 0 is in MPI_Finalize while the others wait for it; with `root` rank 2 awaits another rank's bcast; with `count` rank 2 gives an item too few */
+/* rank 0 is in MPI_Finalize while the others wait for it; with `root` rank 2 awaits a bcast from another root;
+   with `count` rank 2 gives an item too few */
 #include <mpi.h>
 int main(int argc, char **argv)
 {
