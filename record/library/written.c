@@ -13,6 +13,7 @@
  *   slip ID WORD                    what MPI forbids the program: aliased, in_use ID, changed
  *   freed COMMUNICATOR     note TEXT
  *   end     abort ID PLACE CODE     fatal ERROR     signal NUMBER     exit CODE [inside]     hang SECONDS     the last line
+ *                                   (inside: by the MPI's own code)
  *
  * A tag that is followed by /T is of the T-th thread that calls, where it isn't the first. */
 #include "record.h"
