@@ -2,6 +2,7 @@
 
 use crate::amounts::unmet;
 use crate::aspects::{Aspect, Share, aspect_of, says};
+use crate::numbering::numbers_on_world;
 use join_core::OutOfMemory;
 use mpx_eval::Complaint;
 use mpx_post::Draft;
@@ -19,7 +20,8 @@ struct Saying {
 }
 
 /// Which ranks give something else than the most to the call of a fault, or of which two ranks the one sends another number of items than the
-/// other awaits. It is told of blocking calls on `world` alone, and only where each rank has just one line that tells this fault.
+/// other awaits. It is told of blocking calls on `world` alone, and only where each rank has a line that tells this fault of its
+/// call with the same number there.
 pub(crate) fn minority(
     alloc: Global,
     script: &Script,
@@ -132,31 +134,38 @@ fn push_saying(
     Ok(())
 }
 
-// What each rank gives to the call on `world`, of which just one line of each rank tells this fault; none where there are more.
+// What each rank gives to the complaint's call on `world`, where a line of it tells the same fault of the call with the same number.
 fn shares_of<'s>(
     alloc: Global,
     script: &'s Script,
     complaint: &Complaint,
     all: &[Complaint],
 ) -> Result<Vec<Share<'s>>, OutOfMemory> {
+    let numbers = numbers_on_world(alloc, script, all)?;
+    let wanted = number_of(complaint, all, &numbers);
     let mut shares: Vec<Share<'s>> = Vec::new(alloc);
-    for other in all {
-        if other.text != complaint.text {
+    for (other, number) in all.iter().zip(&numbers) {
+        if Some(*number) != wanted || other.text != complaint.text {
             continue;
         }
-        let Some(draft) = posted_on_world(script, other) else {
-            continue;
-        };
-        if shares.iter().any(|share| share.rank == other.rank) {
-            shares.clear();
-            return Ok(shares);
+        if let Some(draft) = posted_on_world(script, other) {
+            shares.push(Share {
+                rank: other.rank,
+                draft,
+            })?;
         }
-        shares.push(Share {
-            rank: other.rank,
-            draft,
-        })?;
     }
     Ok(shares)
+}
+
+// The complaint's number among these.
+fn number_of(complaint: &Complaint, all: &[Complaint], numbers: &[usize]) -> Option<usize> {
+    for (other, number) in all.iter().zip(numbers) {
+        if other.rank == complaint.rank && other.statement == complaint.statement {
+            return Some(*number);
+        }
+    }
+    None
 }
 
 // The draft of the statement of a line's blocking call, where that is on `world`.

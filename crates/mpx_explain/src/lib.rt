@@ -15,6 +15,7 @@ mod given;
 mod lines;
 mod meant;
 mod naming;
+mod numbering;
 mod past;
 
 pub use blame::{Blamed, word_to_blame};
