@@ -14,3 +14,4 @@ mod JoinedParts
 mod FrontPosts
 pub mod NoParts
 pub mod NameFront
+pub mod KeptRows

@@ -48,13 +48,13 @@ module _ {K J V : Type 0} {R : K → K → Ordering} (o : IsTotalOrder R) (exact
       is_put : set es i (e.0, w) ≡ put R e.0 w es
       is_put = set_is_put o exact e.0 w es i (holds _ h) (is_at es i e lt is)
 
-      found : find R e.0 (seen view es) ≡ Some (view e.1)
+      pub found : find R e.0 (seen view es) ≡ Some (view e.1)
       found = find_seen R view e.0 es ∙ ap (option_map view) (find_at o e.0 es i e (holds _ h) lt ((is_at es i e lt is).has_key e) ∙ ap (λ (x : K × J). Some x.1) (sym is))
 
       pub sorted_at : is_sorted R (set es i (e.0, w)) ≡ true
       sorted_at = ap (is_sorted R) is_put ∙ put_keeps_order o e.0 w es h
 
-      now_found : (q : K) → find R q (seen view (set es i (e.0, w))) ≡ cond (eq_by_cmp R q e.0) (Some (view w)) (find R q (seen view es))
+      pub now_found : (q : K) → find R q (seen view (set es i (e.0, w))) ≡ cond (eq_by_cmp R q e.0) (Some (view w)) (find R q (seen view es))
       now_found q = ap (λ (l : List (K × J)). find R q (seen view l)) is_put ∙ find_put_seen q e.0 w es
 
       pub joined_at : (j : Joining V) (v : V) → view w ≡ j.join (view e.1) v → IsJoinedAt R view es (set es i (e.0, w)) j e.0 v

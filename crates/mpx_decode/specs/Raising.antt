@@ -1,5 +1,6 @@
 -- What is joined in as its bytes are read.
-use Rattle.std.specs.Prelude.{◌≡◌, ℕ, zero, suc, nat_le, Bool, true, List, Some, None, Ok}
+use Rattle.std.specs.Prelude.{◌≡◌, ◌⊎◌, ◌+◌, ◌≤◌, ℕ, zero, suc, nat_le, Bool, true, List, length, set, Some, None, Ok}
+use Rattle.std.specs.List.{insert as put_in}
 use Rattle.std.proofs.Common.{cond}
 use Rattle.std.specs.declared.cmp.Ordering.{Ordering}
 use Rattle.std.specs.Ordering.{eq_by_cmp, nat_cmp}
@@ -74,6 +75,14 @@ pub record StopsRow {K J V : Type 0} (R : K → K → Ordering) (view : J → V)
   pub rest : List ℕ
   pub read : f.read bytes ≡ Ok ((key, value), rest)
   pub left : IsLeftAt R view old new between key value
+
+-- the entry before this place was changed, or put in there
+pub record IsChangedAt {A : Type 0} (after : ℕ) (old new : List A) : Type 0 where
+  pub at : ℕ
+  pub entry : A
+  pub next : after ≡ at + 1
+  pub within : at ≤ length old
+  pub made : (new ≡ set old at entry) ⊎ (new ≡ put_in old at entry)
 
 -- so many rows at the front were joined in, one after the other
 abbrev pub RaisesRows : {K J V : Type 0} (R : K → K → Ordering) (view : J → V) (f : Format (K × V)) (j : Joining V) → ℕ → (bytes rest : List ℕ) → (old new : List (K × J)) → Type 0

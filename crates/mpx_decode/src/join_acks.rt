@@ -240,26 +240,3 @@ impl WireJoin for Acks {
 
     ghost between_laws = { acks_between_laws };
 }
-
-// What all processes acknowledge.
-pub fn raise_all_acks<'a>(
-    version: Version,
-    source: Source<'_>,
-    all: &mut Keyed<Proc, Acks>,
-    bytes: &'a [u8],
-) -> Result<&'a [u8], OutOfMemory>
-    requires { StandsInFront all_acks bytes.now }
-    ensures ok { IfOk result (λ rest. JoinsFront all_acks (keyed_joining acks_joining) bytes.now rest.now (view_of_all_acks all.old) (view_of_all_acks all.new)) }
-    ensures err { OnErr result (StopsBetween all_acks (keyed_between acks_between) bytes.now (view_of_all_acks all.old) (view_of_all_acks all.new)) }
-    ensures some { OnErr result ((rest : List ℕ) → byte.read bytes.now ≢ Ok (0, rest)) }
-{
-    match read_u8(bytes) {
-        Err(_) => unreachable!(),
-        Ok((count, rest)) => {
-            let mut entries = mem::replace(all, Keyed::new(source.alloc())).into_entries();
-            let raised = raise_entries(version, source, &mut entries, count as usize, rest);
-            *all = Keyed::from_rising(entries);
-            raised
-        }
-    }
-}

@@ -7,7 +7,7 @@ ghost use Rattle.join_nest.specs.Between.{keyed_between};
 ghost use Rattle.join_nest.specs.Seen.{keyed_view};
 ghost use Rattle.mpx_format.specs.declared.versions.Version.{Version};
 ghost use Rattle.mpx_format.specs.Format.{Format, Gives};
-ghost use Rattle.mpx_decode.specs.Raising.{JoinsFront, RaisesRow, StandsInFront, StopsBetween, StopsRow, row, rows};
+ghost use Rattle.mpx_decode.specs.Raising.{IsChangedAt, JoinsFront, RaisesRow, StandsInFront, StopsBetween, StopsRow, row, rows};
 
 use crate::entries::WireKey;
 use join_core::{Key, OutOfMemory};
@@ -99,6 +99,7 @@ pub fn raise_entry<'a, K: Key + FrontKey, J: WireJoin>(
     ensures ok { IfOk result (λ x. RaisesRow K.cmp J.view (row K.format (J.wire version)) J.joining bytes.now x.1.now entries.old.items entries.new.items) }
     ensures err { OnErr result (StopsRow K.cmp J.view (row K.format (J.wire version)) J.between bytes.now entries.old.items entries.new.items) }
     ensures rising { IsTrue (is_sorted K.cmp entries.new.items) }
+    ensures changed { IfOk result (λ x. IsChangedAt x.0 entries.old.items entries.new.items) }
 {
     if next < entries.len() {
         if let Some(after) = entries[next].0.behind(bytes) {
@@ -110,7 +111,7 @@ pub fn raise_entry<'a, K: Key + FrontKey, J: WireJoin>(
 }
 
 // Joins the entry at the front to the one with its key, found by a search, or puts it in. Tells the place after it.
-fn raise_placed<'a, K: Key + FrontKey, J: WireJoin>(
+pub fn raise_placed<'a, K: Key + FrontKey, J: WireJoin>(
     version: Version,
     source: Source<'_>,
     entries: &mut Vec<(K, J)>,
@@ -121,6 +122,7 @@ fn raise_placed<'a, K: Key + FrontKey, J: WireJoin>(
     ensures ok { IfOk result (λ x. RaisesRow K.cmp J.view (row K.format (J.wire version)) J.joining bytes.now x.1.now entries.old.items entries.new.items) }
     ensures err { OnErr result (StopsRow K.cmp J.view (row K.format (J.wire version)) J.between bytes.now entries.old.items entries.new.items) }
     ensures rising { IsTrue (is_sorted K.cmp entries.new.items) }
+    ensures changed { IfOk result (λ x. IsChangedAt x.0 entries.old.items entries.new.items) }
 {
     let Ok((key, rest)) = K::read(source.alloc(), bytes) else {
         return Err(OutOfMemory);

@@ -16,6 +16,7 @@ mod front_posts;
 mod items;
 mod join_acks;
 mod join_contexts;
+mod join_kept;
 mod join_numbers;
 mod join_rows;
 mod lists;

@@ -19,3 +19,4 @@ pub mod Gaps
 pub mod Saying
 pub mod Telling
 pub mod Framing
+pub mod Keeping

@@ -6,6 +6,7 @@ ghost use Rattle.mpx_board.specs.Views.{view_of_acks};
 ghost use Rattle.mpx_format.specs.declared.versions.Version.TheVariants.{Two};
 ghost use Rattle.mpx_format.specs.Decoding.{Spells};
 ghost use Rattle.mpx_format.specs.Encoding.{length_told};
+ghost use Rattle.mpx_format.specs.Kept.{AreKept};
 ghost use Rattle.mpx_delta.specs.Digests.{common_on, numbers_acked, without};
 ghost use Rattle.mpx_delta.specs.Lacking.{AreFramesOf, AreLacking, AreSpelled};
 
@@ -16,7 +17,8 @@ use crate::posted::common_of_posts;
 use join_core::{OutOfMemory, Pair};
 use join_nest::Keyed;
 use mpx_board::{Acks, Board, Raised};
-use mpx_encode::{EncodeError, encode_over, encode_rope};
+use mpx_encode::{EncodeError, encode_over, encode_rope, keep};
+use mpx_format::Kept;
 use mpx_group::Proc;
 use mpx_rope::Rope;
 use std::alloc::Global;
@@ -30,7 +32,8 @@ pub struct NewFrames {
 
 /// Makes what [`new_list`](crate::new_list) makes, with frames of at most `limit` bytes in place of the parts. What all processes say
 /// isn't copied for that: the board lends it, and stays as it is, also where memory is refused. A frame is written over the last of the
-/// `spare` ones, where there are such: the room of its own bytes serves it in place of memory.
+/// `spare` ones, where there are such: the room of its own bytes serves it in place of memory. What the others say is kept as it is
+/// spelled, where that is much.
 pub fn new_frames(
     alloc: Global,
     board: &mut Board,
@@ -38,18 +41,23 @@ pub fn new_frames(
     processes: u8,
     limit: usize,
     spare: &mut Vec<Rope>,
+    kept: &mut Kept,
 ) -> Result<NewFrames, OutOfMemory>
     requires some { 0 < processes }
     requires few { processes ≤ 64 }
     requires least { 524288 ≤ limit }
     requires most { limit ≤ 1048576 }
+    requires kept { AreKept kept.old.of.items (parts_of board.old).1 }
     ensures board { look board.new ≡ look board.old }
+    ensures kept { AreKept kept.new.of.items (parts_of board.new).1 }
     ensures made { IfOk result (λ made. AreLacking me processes limit (look board.old) made.said made.frames.items) }
 {
     let digest = digest_of(alloc, board)?;
     let before = board.say(alloc, me, &digest)?;
-    let made = lean_frames(alloc, board, processes, limit, spare);
+    kept.forget_said(&before);
+    let made = kept_frames(alloc, board, me, processes, limit, spare, kept);
     let said = board.exchange(before);
+    kept.forget_said(&said);
     match made {
         Ok(frames) => Ok(NewFrames { said, frames }),
         Err(e) => {
@@ -57,6 +65,29 @@ pub fn new_frames(
             Err(e)
         }
     }
+}
+
+// What `lean_frames` makes, once what the others say is kept as it is spelled.
+fn kept_frames(
+    alloc: Global,
+    board: &mut Board,
+    me: Proc,
+    processes: u8,
+    limit: usize,
+    spare: &mut Vec<Rope>,
+    kept: &mut Kept,
+) -> Result<Vec<Rope>, OutOfMemory>
+    requires some { 0 < processes }
+    requires few { processes ≤ 64 }
+    requires least { 524288 ≤ limit }
+    requires most { limit ≤ 1048576 }
+    requires kept { AreKept kept.old.of.items (parts_of board.old).1 }
+    ensures board { parts_of board.new ≡ parts_of board.old }
+    ensures kept { AreKept kept.new.of.items (parts_of board.new).1 }
+    ensures frames { IfOk result (λ made. AreFramesOf limit (without (common_on processes (look board.old)) (look board.old)) made.items) }
+{
+    keep(alloc, board, kept, me)?;
+    lean_frames(alloc, board, processes, limit, spare, kept)
 }
 
 // The frames of the board without the posts that all of so many processes say that they have, in parts: of the board itself, where it has
@@ -67,21 +98,23 @@ fn lean_frames(
     processes: u8,
     limit: usize,
     spare: &mut Vec<Rope>,
+    kept: &Kept,
 ) -> Result<Vec<Rope>, OutOfMemory>
     requires some { 0 < processes }
     requires few { processes ≤ 64 }
     requires least { 524288 ≤ limit }
     requires most { limit ≤ 1048576 }
+    requires kept { AreKept kept.now.of.items (parts_of board.old).1 }
     ensures board { parts_of board.new ≡ parts_of board.old }
     ensures frames { IfOk result (λ made. AreFramesOf limit (without (common_on processes (look board.old)) (look board.old)) made.items) }
 {
     let shared = common_of_posts(alloc, board, board, processes)?;
     if shared.is_empty() {
-        return frames_of(alloc, board, limit, spare);
+        return frames_of(alloc, board, limit, spare, kept);
     }
     let mut lean = lean_of(alloc, board, &shared)?;
     board.swap_acks(&mut lean);
-    let made = frames_of(alloc, &lean, limit, spare);
+    let made = frames_of(alloc, &lean, limit, spare, kept);
     board.swap_acks(&mut lean);
     drop(lean);
     made
@@ -102,12 +135,14 @@ fn frames_of(
     board: &Board,
     limit: usize,
     spare: &mut Vec<Rope>,
+    kept: &Kept,
 ) -> Result<Vec<Rope>, OutOfMemory>
     requires least { 524288 ≤ limit }
     requires most { limit ≤ 1048576 }
+    requires kept { AreKept kept.now.of.items (parts_of board.now).1 }
     ensures { IfOk result (λ made. AreFramesOf limit (look board.now) made.items) }
 {
-    let Some(frame) = whole_frame(alloc, board, limit, spare)? else {
+    let Some(frame) = whole_frame(alloc, board, limit, spare, kept)? else {
         let parts = parts(alloc, board, limit)?;
         return all_frames(alloc, &parts);
     };
@@ -130,11 +165,13 @@ fn whole_frame(
     board: &Board,
     limit: usize,
     spare: &mut Vec<Rope>,
+    kept: &Kept,
 ) -> Result<Option<Rope>, OutOfMemory>
+    requires { AreKept kept.now.of.items (parts_of board.now).1 }
     ensures fits { IfOk result (λ made. IfSome made (λ frame. length_told (parts_of board.now) ≤ limit)) }
     ensures spelled { IfOk result (λ made. IfSome made (λ frame. Spells Two frame (parts_of board.now))) }
 {
-    match encode_over(spare_frame(alloc, spare), board) {
+    match encode_over(spare_frame(alloc, spare), board, kept) {
         Ok(frame) => {
             if limit < frame.len() {
                 return Ok(None);

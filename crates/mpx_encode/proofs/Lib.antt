@@ -9,3 +9,4 @@ pub mod Contexts
 pub mod Frames
 pub mod Encoded
 pub mod Fours
+pub mod Keeping

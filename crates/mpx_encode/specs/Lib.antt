@@ -1,2 +1,3 @@
 pub mod Room
 pub mod Entries
+pub mod Keeping

@@ -8,18 +8,18 @@ ghost use Rattle.mpx_board.specs.Views.{view_of_parts};
 ghost use Rattle.mpx_format.specs.declared.versions.Version.TheVariants.{Two};
 ghost use Rattle.mpx_format.specs.Contexts.{frame};
 ghost use Rattle.mpx_format.specs.Decoding.{Spells, most_bytes};
+ghost use Rattle.mpx_format.specs.Kept.{AreKept};
 ghost use Rattle.mpx_format.specs.Encoding.{has_many_names, most_names, is_too_long, length_told};
 ghost use Rattle.mpx_encode.specs.declared.encoding.EncodeError.TheVariants as E;
 
+use crate::room::MOST_BYTES;
 use crate::write_contexts::{room_after_frame, write_frame};
 use join_core::OutOfMemory;
 use mpx_board::{Board, Parts};
+use mpx_format::Kept;
 use mpx_rope::Rope;
 use std::alloc::{AllocError, Global};
 use thiserror::Error;
-
-/// The greatest number of bytes of a frame.
-const MOST_BYTES: usize = 1_048_576;
 
 /// The greatest number of names in one list.
 const MOST_NAMES: usize = 4096;
@@ -95,32 +95,34 @@ pub fn encode_rope(alloc: Global, board: &Board) -> Result<Rope, EncodeError>
     ensures spelled { IfOk result (λ frame. Spells Two frame (parts_of board.now)) }
     ensures too_long { IsErrOf result EncodeError.TooLong ↔ (is_too_long (parts_of board.now) ≡ true) }
 {
-    encode_over(Rope::new(alloc), board)
+    encode_over(Rope::new(alloc), board, &Kept::new(alloc))
 }
 
 /// The frame of the board as [`encode_rope`] makes it, in the place of what this rope is: where its own bytes have the room, only what is
-/// shared may take memory.
+/// shared may take memory. What is kept of acknowledgements as they are spelled is copied.
 ///
 /// # Errors
 /// As of [`encode`]; the rope is let go then.
-pub fn encode_over(rope: Rope, board: &Board) -> Result<Rope, EncodeError>
+pub fn encode_over(rope: Rope, board: &Board, kept: &Kept) -> Result<Rope, EncodeError>
+    requires { AreKept kept.now.of.items (parts_of board.now).1 }
     ensures spelled { IfOk result (λ frame. Spells Two frame (parts_of board.now)) }
     ensures too_long { IsErrOf result EncodeError.TooLong ↔ (is_too_long (parts_of board.now) ≡ true) }
 {
     let parts = board.pair();
-    let Some(left) = frame_room(parts) else {
+    let Some(left) = frame_room(parts, Some(kept)) else {
         return Err(EncodeError::TooLong);
     };
     let mut out = rope;
     out.clear();
     out.reserve((MOST_BYTES - left).min(FIRST_ROOM))?;
-    write_frame(parts, &mut out)?;
+    write_frame(parts, kept, &mut out)?;
     Ok(out)
 }
 
 // What the frame of these parts leaves of the bytes that a frame may have, where it isn't too long.
-fn frame_room(parts: &Parts) -> Option<usize>
-    requires { is_tidy (view_of_parts parts.now) ≡ true }
+fn frame_room(parts: &Parts, kept: Option<&Kept>) -> Option<usize>
+    requires tidy { is_tidy (view_of_parts parts.now) ≡ true }
+    requires kept { IfSome kept (λ k. AreKept k.now.of.items (view_of_parts parts.now).1) }
     ensures value { result ≡ cond (is_too_long (view_of_parts parts.now)) None (Some (most_bytes - length (frame.spelling (Two, view_of_parts parts.now)))) }
     ensures fits { IfSome result (λ left. frame.fits (Two, view_of_parts parts.now) ≡ true) }
     ensures few { IfSome result (λ left. length (frame.spelling (Two, view_of_parts parts.now)) + left ≡ most_bytes) }
@@ -128,14 +130,14 @@ fn frame_room(parts: &Parts) -> Option<usize>
     if has_many_names(parts) {
         return None;
     }
-    room_after_frame(parts, MOST_BYTES)
+    room_after_frame(parts, kept, MOST_BYTES)
 }
 
 /// How many bytes the frame of the board has, 1,048,577 where it is too long. It takes no memory.
 pub fn frame_len(board: &Board) -> usize
     ensures { result ≡ length_told (parts_of board.now) }
 {
-    match frame_room(board.pair()) {
+    match frame_room(board.pair(), None) {
         None => MOST_BYTES + 1,
         Some(left) => MOST_BYTES - left,
     }

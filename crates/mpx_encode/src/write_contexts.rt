@@ -1,8 +1,10 @@
 //! Writing what frames say of contexts, and whole frames.
 ghost use Rattle.std.specs.Prelude.{◌≡◌, ◌≤◌, ◌+◌, ◌++◌, ◌&&◌, false, not, true, IfSome, OnOk, length, nat_le};
 ghost use Rattle.std.specs.FinMap.{len};
+ghost use Rattle.std.specs.List.{list_all};
 ghost use Rattle.join_core.specs.Flat.{FlatView};
 ghost use Rattle.join_core.specs.FlatSeen.{flat_view};
+ghost use Rattle.join_nest.specs.Seen.{seen};
 ghost use Rattle.mpx_board.specs.Parts.{AcksView, CallView, LiftedView, OfProcesses, PartsView};
 ghost use Rattle.mpx_board.specs.Tidy.{all_entries, are_tidy_acks, are_tidy_posts, is_tidy, is_tidy_acks, is_tidy_call, is_tidy_entry, is_tidy_lifted, is_unknown};
 ghost use Rattle.mpx_board.specs.Views.{view_of_acks, view_of_call, view_of_calls, view_of_entry, view_of_lifted, view_of_parts};
@@ -12,12 +14,16 @@ ghost use Rattle.mpx_format.specs.declared.versions.Version.TheVariants.{Two};
 ghost use Rattle.mpx_format.specs.Births.{birth as birth_format};
 ghost use Rattle.mpx_format.specs.Contexts.{call_posts, context, frame, held as held_format, lifted, parts as parts_format, posted, told as told_format};
 ghost use Rattle.mpx_format.specs.Encoding.{has_many_names, most_names};
-ghost use Rattle.mpx_format.specs.Fields.{acks as acks_format};
+ghost use Rattle.mpx_format.specs.Fields.{acks as acks_format, process};
+ghost use Rattle.mpx_format.specs.Kept.{AreKept};
+ghost use Rattle.mpx_encode.specs.Entries.{both_pass, entries_spelled};
+ghost use Rattle.mpx_encode.specs.Keeping.{AreEntriesKept};
 ghost use Rattle.mpx_encode.specs.Room.{room_left};
 
 use crate::room::room_left;
 use crate::write_births::{birth_len, write_birth};
 use crate::write_entries::{WriteValue, room_after_counted, write_entries};
+use crate::write_kept::{room_after_kept, write_kept};
 use crate::write_numbers::{write_u8, write_u16, write_u32};
 use crate::write_posts::{post_len, write_post};
 use crate::write_process_numbers::{room_after_fronts, write_fronts};
@@ -25,6 +31,8 @@ use join_core::{Flat, OutOfMemory};
 use join_nest::{Lift, Trunc};
 use mpx_birth::Birth;
 use mpx_board::{Acks, CallPosts, Entry, Lifted, Parts};
+use mpx_format::Kept;
+use mpx_group::Proc;
 use mpx_post::Post;
 use mpx_rope::Rope;
 
@@ -204,21 +212,36 @@ impl WriteValue for Acks {
 }
 
 // What is left of so much room behind the frame of these parts.
-pub fn room_after_frame(parts: &Parts, room: usize) -> Option<usize>
+pub fn room_after_frame(parts: &Parts, kept: Option<&Kept>, room: usize) -> Option<usize>
     requires tidy { is_tidy (view_of_parts parts.now) ≡ true }
     requires few { has_many_names (view_of_parts parts.now) ≡ false }
+    requires kept { IfSome kept (λ k. AreKept k.now.of.items (view_of_parts parts.now).1) }
     ensures value { result ≡ room_left (length (frame.spelling (Two, view_of_parts parts.now))) room }
     ensures fits { IfSome result (λ left. frame.fits (Two, view_of_parts parts.now) ≡ true) }
 {
     let names = parts.first.entries();
     let processes = parts.second.entries();
     let left = room_after_counted(7, names, room)?;
-    room_after_counted(1, processes, left)
+    room_after_all_acks(processes, kept, left)
+}
+
+// What is left of so much room behind a byte and then what all processes say.
+fn room_after_all_acks(all: &[(Proc, Acks)], kept: Option<&Kept>, room: usize) -> Option<usize>
+    requires ready { list_all (λ e. is_tidy_acks e.1 && nat_le (len e.1) most_names) (seen view_of_acks all.now) ≡ true }
+    requires kept { IfSome kept (λ k. AreEntriesKept k.now.of.items (seen view_of_acks all.now)) }
+    ensures value { result ≡ room_left (1 + length (entries_spelled process acks_format (seen view_of_acks all.now))) room }
+    ensures fits { IfSome result (λ left. both_pass process.fits acks_format.fits (seen view_of_acks all.now) ≡ true) }
+{
+    match kept {
+        None => room_after_counted(1, all, room),
+        Some(kept) => room_after_kept(all, kept, room),
+    }
 }
 
 // Writes the frame of these parts at the end.
-pub fn write_frame(parts: &Parts, out: &mut Rope) -> Result<(), OutOfMemory>
-    requires { frame.fits (Two, view_of_parts parts.now) ≡ true }
+pub fn write_frame(parts: &Parts, kept: &Kept, out: &mut Rope) -> Result<(), OutOfMemory>
+    requires fits { frame.fits (Two, view_of_parts parts.now) ≡ true }
+    requires kept { AreKept kept.now.of.items (view_of_parts parts.now).1 }
     ensures { OnOk result (out.new ≡ out.old ++ frame.spelling (Two, view_of_parts parts.now)) }
 {
     let names = parts.first.entries();
@@ -227,5 +250,5 @@ pub fn write_frame(parts: &Parts, out: &mut Rope) -> Result<(), OutOfMemory>
     write_u16(names.len() as u16, out)?;
     write_entries(names, out)?;
     write_u8(processes.len() as u8, out)?;
-    write_entries(processes, out)
+    write_kept(processes, kept, out)
 }

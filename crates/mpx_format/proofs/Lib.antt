@@ -11,3 +11,4 @@ pub mod Decoded
 pub mod Examples
 pub mod Spelled
 pub mod SpelledPosts
+pub mod Pieces

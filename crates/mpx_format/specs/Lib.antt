@@ -7,3 +7,4 @@ pub mod Posts
 pub mod Contexts
 pub mod Decoding
 pub mod Encoding
+pub mod Kept

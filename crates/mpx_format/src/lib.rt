@@ -6,15 +6,18 @@
 //! `specs/Contexts.antt`; `specs/Decoding.antt` says which bytes spell a board and how a refusal is placed. The code that
 //! reads them is `mpx_decode`, what writes them `mpx_encode`, and what is of both ways `mpx_wire`. There are two versions of
 //! frames ([`Version`]), which differ in what stands behind the name of a context and in the kinds of calls: the formats of whole
-//! contexts, and what these are built of, have the version as a parameter.
+//! contexts, and what these are built of, have the version as a parameter. [`Kept`] is what a process keeps of acknowledgements as
+//! they are spelled (`specs/Kept.antt`).
 #![tactic(auto)]
 
 mod defects;
+mod kept;
 mod laws;
 mod rising;
 mod versions;
 
 pub use defects::{Defect, ReadError, SHORT, WireError, not_canonical, out_of_limits, placed};
+pub use kept::{Kept, KeptAcks, PIECE_ROWS};
 pub use laws::one_spelling;
 pub use rising::may_come;
 pub use versions::Version;

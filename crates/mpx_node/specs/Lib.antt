@@ -5,3 +5,4 @@ pub mod Harvests
 pub mod laws
 pub mod Parts
 pub mod Deltas
+pub mod Keeping

@@ -78,6 +78,7 @@ impl Node {
             self.processes,
             limit,
             spare,
+            &mut self.kept,
         )
     }
 
@@ -87,6 +88,7 @@ impl Node {
         requires made { (new : NodeView) × Stores said (node_of self.old) new }
         ensures gives { (new : NodeView) → Stores said (node_of self.old) new → node_of self.new ≡ new }
     {
+        self.kept.forget_said(&said);
         self.board.store(said);
     }
 

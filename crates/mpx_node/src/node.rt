@@ -2,7 +2,8 @@
 ghost use Rattle.std.specs.Prelude.{◌≡◌, ◌<◌, ◌≤◌, [], None, OnOk, OnErr, IfOk, slice_get, is_some};
 ghost use Rattle.std.specs.Option.{option_copied};
 ghost use Rattle.mpx_post.specs.Drafts.{most_calls, refusal_of};
-ghost use Rattle.mpx_board.specs.Looks.{look};
+ghost use Rattle.mpx_board.specs.Looks.{look, parts_of};
+ghost use Rattle.mpx_node.specs.Keeping.{IsKept, IsKept-prop};
 
 use crate::finished::Finished;
 use crate::opened::Opened;
@@ -12,6 +13,7 @@ use crate::starting::{board_at_start, opened_at_start, prepared_gathering};
 use join_core::OutOfMemory;
 use mpx_birth::Birth;
 use mpx_board::Board;
+use mpx_format::Kept;
 use mpx_group::Proc;
 use mpx_name::Name;
 use mpx_num::{Listing, Ops};
@@ -20,14 +22,17 @@ use std::alloc::Global;
 use std::collections::BTreeMap;
 
 /// One process. The first `ranks` processes are the members of `world`, the others relays, which only carry boards.
+/// What processes acknowledge is also kept as frames spell it.
 #[derive(Debug, Drop)]
 pub struct Node {
     pub(crate) me: Proc,
     pub(crate) processes: u8,
     pub(crate) board: Board,
     pub(crate) opened: BTreeMap<Name, Opened>,
+    pub(crate) kept: Kept,
     ghost some: { 0 < processes },
     ghost few: { processes ≤ 64 },
+    ghost kept_right: { IsKept kept.of.items (parts_of board).1 } by { IsKept-prop kept.of.items (parts_of board).1 },
 }
 
 /// What a harvest came to.
@@ -63,6 +68,7 @@ impl Node {
                 processes,
                 board,
                 opened,
+                kept: Kept::new(alloc),
             }),
             Err(e) => {
                 drop(board);

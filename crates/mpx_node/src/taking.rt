@@ -23,6 +23,7 @@ impl Node {
         ensures err { OnErr result (StopsTaking (look part.now) (node_of self.old) (node_of self.new)) }
         ensures more { OnErr result (¬ (IsBoardBelow (look part.now) (node_of self.old).board)) }
     {
+        self.kept.forget_all();
         self.board.take(alloc, part)
     }
 
@@ -34,6 +35,7 @@ impl Node {
         ensures err { OnErr result (StopsTaking (shown (decoded frame.now)) (node_of self.old) (node_of self.new)) }
         ensures some { OnErr result (shown (decoded frame.now) ≢ empty) }
     {
+        self.kept.forget_all();
         take_spelled(alloc, &mut self.board, frame)
     }
 
@@ -44,6 +46,6 @@ impl Node {
         ensures err { OnErr result (StopsTaking (shown (decoded frame.now)) (node_of self.old) (node_of self.new)) }
         ensures some { OnErr result (shown (decoded frame.now) ≢ empty) }
     {
-        take_rope(alloc, &mut self.board, frame)
+        take_rope(alloc, &mut self.board, &mut self.kept, frame)
     }
 }

@@ -6,6 +6,7 @@ ghost use Rattle.mpx_board.specs.Parts.{PartsView, parts_between, parts_joining}
 ghost use Rattle.mpx_board.specs.Looks.{look, parts_of};
 ghost use Rattle.mpx_format.specs.Format.{Gives, mark_at};
 ghost use Rattle.mpx_format.specs.Contexts.{frame};
+ghost use Rattle.mpx_format.specs.Kept.{AreKept};
 ghost use Rattle.mpx_format.specs.Decoding.{IsSpelled, Decodes, Refuses, decoded};
 ghost use Rattle.mpx_format.specs.declared.versions.Version.{Version};
 ghost use Rattle.mpx_decode.specs.Raising.{no_parts};
@@ -14,7 +15,7 @@ ghost use Rattle.mpx_wire.specs.Reading.{front};
 use join_core::{Exact, OutOfMemory};
 use mpx_board::{Board, Parts};
 use mpx_decode::{read_parts, read_version, take_parts};
-use mpx_format::{Defect, ReadError, SHORT, Version, WireError, placed};
+use mpx_format::{Defect, Kept, ReadError, SHORT, Version, WireError, placed};
 use mpx_rope::{Rope, Source};
 use std::alloc::Global;
 
@@ -114,29 +115,44 @@ pub fn take_spelled(alloc: Global, board: &mut Board, bytes: &[u8]) -> Result<()
     ensures err { OnErr result ((v : PartsView) → IsSpelled bytes.now v → IsBetween (look board.old) (look_of v) (look board.new)) }
     ensures some { OnErr result ((v : PartsView) → IsSpelled bytes.now v → look_of v ≢ empty) }
 {
-    take_from(Source::of(alloc), board, bytes)
+    take_from(Source::of(alloc), board, &mut Kept::new(alloc), bytes)
 }
 
 /// The same of a frame whose items may be shared: what it joins to the board shares them, and copies none. Where pieces are shared, it
-/// joins all bytes in one place first, to read them.
-pub fn take_rope(alloc: Global, board: &mut Board, rope: &Rope) -> Result<(), OutOfMemory>
-    requires { (v : PartsView) × IsSpelled rope.now v }
+/// joins all bytes in one place first, to read them. What is kept of acknowledgements as they are spelled is passed over where its bytes
+/// stand, and stays right.
+pub fn take_rope(
+    alloc: Global,
+    board: &mut Board,
+    kept: &mut Kept,
+    rope: &Rope,
+) -> Result<(), OutOfMemory>
+    requires kept { AreKept kept.old.of.items (parts_of board.old).1 }
+    requires spelled { (v : PartsView) × IsSpelled rope.now v }
+    ensures kept { AreKept kept.new.of.items (parts_of board.new).1 }
     ensures ok { OnOk result ((v : PartsView) → IsSpelled rope.now v → look board.new ≡ join (look board.old) (look_of v)) }
     ensures err { OnErr result ((v : PartsView) → IsSpelled rope.now v → IsBetween (look board.old) (look_of v) (look board.new)) }
     ensures some { OnErr result ((v : PartsView) → IsSpelled rope.now v → look_of v ≢ empty) }
 {
     match rope.in_one_place() {
-        Some(bytes) => take_from(rope.source(alloc), board, bytes),
+        Some(bytes) => take_from(rope.source(alloc), board, kept, bytes),
         None => match rope.joined(alloc) {
             Err(_) => Err(OutOfMemory),
-            Ok(bytes) => take_from(rope.source(alloc), board, &bytes),
+            Ok(bytes) => take_from(rope.source(alloc), board, kept, &bytes),
         },
     }
 }
 
 // What `take_spelled` says, with the items taken from this source.
-fn take_from(source: Source<'_>, board: &mut Board, bytes: &[u8]) -> Result<(), OutOfMemory>
-    requires { (v : PartsView) × IsSpelled bytes.now v }
+fn take_from(
+    source: Source<'_>,
+    board: &mut Board,
+    kept: &mut Kept,
+    bytes: &[u8],
+) -> Result<(), OutOfMemory>
+    requires kept { AreKept kept.old.of.items (parts_of board.old).1 }
+    requires spelled { (v : PartsView) × IsSpelled bytes.now v }
+    ensures kept { AreKept kept.new.of.items (parts_of board.new).1 }
     ensures ok { OnOk result ((v : PartsView) → IsSpelled bytes.now v → look board.new ≡ join (look board.old) (look_of v)) }
     ensures err { OnErr result ((v : PartsView) → IsSpelled bytes.now v → IsBetween (look board.old) (look_of v) (look board.new)) }
     ensures some { OnErr result ((v : PartsView) → IsSpelled bytes.now v → look_of v ≢ empty) }
@@ -144,7 +160,7 @@ fn take_from(source: Source<'_>, board: &mut Board, bytes: &[u8]) -> Result<(), 
     match read_front(bytes) {
         Err(_) => unreachable!(),
         Ok((version, rest)) => {
-            let _after = take_parts(version, source, board, rest)?;
+            let _after = take_parts(version, source, board, kept, rest)?;
             Ok(())
         }
     }

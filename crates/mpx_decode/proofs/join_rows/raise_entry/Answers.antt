@@ -1,4 +1,4 @@
-use Rattle.std.proofs.Common.{◌<◌, length, ap, arith}
+use Rattle.std.proofs.Common.{◌<◌, length, inl, refl, ap, arith}
 use Rattle.join_nest.proofs.Fronts.{on_err}
 use Rattle.join_nest.proofs.JoinsIn.{same_place}
 use Rattle.mpx_decode.proofs.OneRow.{raises_at, sorted_at, stops_at, value_stands}
@@ -28,3 +28,7 @@ returns-in-Some-clause-ok g c =
 pub returns-in-Some-clause-rising : goal.returns-in-Some-clause-rising
 returns-in-Some-clause-rising g c =
     sorted_at g.met.K.Ord.total g.met.K.Key.exact_order g.J.WireJoin.view c.args.entries.now.items c.requires.rising c.args.next c.index_mut.result.now c.raise.new.self (omega arith) c.index_mut.ensures.value
+
+pub returns-in-Some-clause-changed : goal.returns-in-Some-clause-changed
+returns-in-Some-clause-changed g c =
+    record { at = c.args.next; entry = (c.index_mut.result.now.0, c.raise.new.self); next = refl; within = omega arith; made = inl refl }

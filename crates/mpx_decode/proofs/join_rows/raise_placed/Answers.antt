@@ -1,3 +1,4 @@
+use Rattle.std.proofs.Common.{inl, inr, refl, arith}
 use Rattle.join_nest.proofs.Fronts.{on_err}
 use Rattle.mpx_decode.specs.Raising.{row}
 use Rattle.mpx_decode.proofs.OneRow.{key_at, raises_at, raises_in, sorted_at, sorted_in, stops_at, stops_before, value_stands}
@@ -45,3 +46,14 @@ pub returns-clause-rising : goal.returns-clause-rising
 returns-clause-rising g c =
     let gap = rw c.deref.ensures.value at c.in-Err.ensures.absent in
     rw c.in_ok-insert-in-Err.ensures.items (sorted_in g.met.K.Ord.total g.met.K.Key.exact_order g.J.WireJoin.view c.args.entries.now.items c.requires.rising c.in-Err.at c.in-Ok.key c.in-Ok-read_new.value gap)
+
+pub returns-in-Ok-place_of_key-clause-changed : goal.returns-in-Ok-place_of_key-clause-changed
+returns-in-Ok-place_of_key-clause-changed g c =
+    let there = rw c.deref.ensures.value at c.in-Ok-place_of_key.ensures.found in
+    let lt = there.in_range in
+    record { at = c.in-Ok-place_of_key.at; entry = (c.index_mut.result.now.0, c.raise.new.self); next = refl; within = omega (arith, lt); made = inl refl }
+
+pub returns-clause-changed : goal.returns-clause-changed
+returns-clause-changed g c =
+    let gap = rw c.deref.ensures.value at c.in-Err.ensures.absent in
+    record { at = c.in-Err.at; entry = (c.in-Ok.key, c.in-Ok-read_new.value); next = refl; within = gap.in_range; made = inr c.in_ok-insert-in-Err.ensures.items }

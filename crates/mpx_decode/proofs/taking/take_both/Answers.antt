@@ -18,16 +18,16 @@ use Rattle.mpx_decode.proofs.taking.take_both.Goals as goal
 
 pub raise_contexts-requires : goal.raise_contexts-requires
 unfolding parts
-raise_contexts-requires c = first_stands (contexts c.args.version) all_acks c.args.bytes.now c.requires
+raise_contexts-requires c = first_stands (contexts c.args.version) all_acks c.args.bytes.now c.requires.spelled
 
-pub raise_all_acks-requires : goal.raise_all_acks-requires
+pub raise_all_acks-requires-clause-spelled : goal.raise_all_acks-requires-clause-spelled
 unfolding parts
-raise_all_acks-requires c = second_stands (contexts c.args.version) all_acks c.args.bytes.now c.in_ok-rest.rest.now c.in_ok-rest.ensures.ok c.requires
+raise_all_acks-requires-clause-spelled c = second_stands (contexts c.args.version) all_acks c.args.bytes.now c.in_ok-rest.rest.now c.in_ok-rest.ensures.ok c.requires.spelled
 
 pub returns-in_err-rest-clause-err : goal.returns-in_err-rest-clause-err
 unfolding parts
 returns-in_err-rest-clause-err c =
-    on_err c.from_residual.result (first_stops (contexts c.args.version) all_acks c.args.bytes.now (keyed_between_laws nat_cmp_total nat_cmp-IsAntisymmetric acks_laws acks_between_laws) (view_of_all_acks c.args.acks.now) c.requires c.in_err-rest.ensures.err)
+    on_err c.from_residual.result (first_stops (contexts c.args.version) all_acks c.args.bytes.now (keyed_between_laws nat_cmp_total nat_cmp-IsAntisymmetric acks_laws acks_between_laws) (view_of_all_acks c.args.acks.now) c.requires.spelled c.in_err-rest.ensures.err)
 
 pub returns-clause-ok : goal.returns-clause-ok
 unfolding parts

@@ -3,7 +3,7 @@ use Rattle.mpx_decode.proofs.Taken.{parts_tidy}
 use Rattle.mpx_decode.proofs.taking.take_parts.Goals as goal
 
 pub from_tidy-requires : goal.from_tidy-requires
-from_tidy-requires c = parts_tidy c.take_both-taken.result (λ x. x.now) (parts c.args.version) c.args.bytes.now _ _ c.into_pair-first.ensures.tidy c.requires c.take_both-taken.ensures.ok c.take_both-taken.ensures.err
+from_tidy-requires c = parts_tidy c.take_both-taken.result (λ x. x.now) (parts c.args.version) c.args.bytes.now _ _ c.into_pair-first.ensures.tidy c.requires.spelled c.take_both-taken.ensures.ok c.take_both-taken.ensures.err
 
-pub take_both-taken-requires : goal.take_both-taken-requires
-take_both-taken-requires c = (c.requires.0, c.requires.1)
+pub take_both-taken-requires-clause-spelled : goal.take_both-taken-requires-clause-spelled
+take_both-taken-requires-clause-spelled c = (c.requires.spelled.0, c.requires.spelled.1)

@@ -14,8 +14,11 @@ use Rattle.mpx_encode.specs.Room.{room_left}
 use Rattle.mpx_format.specs.declared.versions.Version.TheVariants.{Two}
 use Rattle.mpx_format.specs.Fields.{process, name, acks}
 use Rattle.mpx_format.specs.Contexts.{lifted}
+use Rattle.mpx_format.specs.Kept.{AreKept}
+use Rattle.mpx_encode.specs.Keeping.{AreEntriesKept}
 use Rattle.mpx_encode.specs.Entries.{entries_spelled, both_pass}
 use Rattle.mpx_encode.proofs.Rooms.{room_stops_at, room_behind}
+use Rattle.mpx_encode.proofs.Keeping.{entries_kept, if_some}
 use Rattle.mpx_encode.proofs.Frames.{names_part, length-names, frame_split, frame_fits, both_tests, not_above, either_false}
 use Rattle.mpx_encode.proofs.Maps.{where_left}
 use Rattle.mpx_encode.proofs.write_contexts.room_after_frame.Goals as goal
@@ -25,12 +28,18 @@ room_after_counted-requires c =
     let v = view_of_parts c.args.parts.now in
     ap (list_all (λ e. is_tidy_lifted e.1)) c.entries-names.ensures.entries ∙ first_true (are_tidy_entries v.0) (are_tidy_acks v.1) c.requires.tidy
 
-pub room_after_counted-requires-2 : goal.room_after_counted-requires-2
-room_after_counted-requires-2 c =
+pub room_after_all_acks-requires-clause-ready : goal.room_after_all_acks-requires-clause-ready
+room_after_all_acks-requires-clause-ready c =
     let v = view_of_parts c.args.parts.now in
     let few = either_false (nat_lt most_names (len v.0)) (list_any (λ e. nat_lt most_names (len e.1)) (entries v.1)) c.requires.few in
     ap (list_all (λ e. is_tidy_acks e.1 && nat_le (len e.1) most_names)) c.entries-processes.ensures.entries
     ∙ both_tests (λ e. is_tidy_acks e.1) (λ e. nat_lt most_names (len e.1)) (λ e. nat_le (len e.1) most_names) (λ e h. not_above (len e.1) most_names h) (entries v.1) (second_true (are_tidy_entries v.0) (are_tidy_acks v.1) c.requires.tidy) few.1
+
+pub room_after_all_acks-requires-clause-kept : goal.room_after_all_acks-requires-clause-kept
+room_after_all_acks-requires-clause-kept c =
+    let v = view_of_parts c.args.parts.now in
+    let ps = seen view_of_acks c.entries-processes.result.now in
+    if_some (λ k. AreKept k.now.of.items v.1) (λ k. AreEntriesKept k.now.of.items ps) c.args.kept (λ k h. entries_kept v.1 k.now.of.items ps c.entries-processes.ensures.entries h) c.requires.kept
 
 pub returns-in_err-left-clause-value : goal.returns-in_err-left-clause-value
 returns-in_err-left-clause-value c =
@@ -49,7 +58,7 @@ returns-clause-value c =
     let ps = seen view_of_acks c.entries-processes.result.now in
     let left : room_left (7 + length (entries_spelled name (lifted Two) es)) c.args.room ≡ Some c.in_ok-left.left = search rules in
     let one : 1 + length (entries_spelled process acks ps) ≡ length ((length ps ∷ []) ++ entries_spelled process acks ps) = omega arith in
-    c.room_after_counted-2.ensures.value ∙ ap (λ n. room_left n c.in_ok-left.left) one
+    c.room_after_all_acks.ensures.value ∙ ap (λ n. room_left n c.in_ok-left.left) one
     ∙ sym (ap (λ l. room_left (length l) c.args.room) (frame_split v es ps c.entries-names.ensures.entries c.entries-processes.ensures.entries)
     ∙ room_behind (names_part v es ps) ((length ps ∷ []) ++ entries_spelled process acks ps) c.args.room c.in_ok-left.left (ap (λ n. room_left n c.args.room) (length-names v es ps) ∙ left))
 
@@ -62,8 +71,8 @@ returns-clause-fits c =
     let short = leb-true (len v.0) most_names (not_above (len v.0) most_names few.0) in
     let tidy = ap (list_all (λ e. is_tidy_lifted e.1)) c.entries-names.ensures.entries ∙ first_true (are_tidy_entries v.0) (are_tidy_acks v.1) c.requires.tidy in
     let pass : both_pass name.fits (lifted Two).fits es ≡ true = search rules in
-    where_left c.room_after_counted-2.result
+    where_left c.room_after_all_acks.result
     (λ h. frame_fits v es ps c.entries-names.ensures.entries c.entries-processes.ensures.entries
     (sorted_seen name_cmp view_of_lifted c.entries-names.result.now ∙ c.entries-names.ensures.rising) (sorted_seen nat_cmp view_of_acks c.entries-processes.result.now ∙ c.entries-processes.ensures.rising)
     (omega (arith, short, len-entries v.0, ap length c.entries-names.ensures.entries)) tidy pass h)
-    c.room_after_counted-2.ensures.fits
+    c.room_after_all_acks.ensures.fits

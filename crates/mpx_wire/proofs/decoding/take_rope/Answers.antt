@@ -7,11 +7,11 @@ use Rattle.mpx_format.specs.Decoding.{IsSpelled}
 use Rattle.mpx_wire.proofs.Taking.{left_alone, many_tell}
 use Rattle.mpx_wire.proofs.decoding.take_rope.Goals as goal
 
-pub take_from-requires : goal.take_from-requires
-take_from-requires c = subst (λ (bytes : List ℕ). (v : PartsView) × IsSpelled bytes v) (sym c.in-Some.ensures.some) c.requires
+pub take_from-requires-clause-spelled : goal.take_from-requires-clause-spelled
+take_from-requires-clause-spelled c = subst (λ (bytes : List ℕ). (v : PartsView) × IsSpelled bytes v) (sym c.in-Some.ensures.some) c.requires.spelled
 
-pub take_from-requires-in-Ok : goal.take_from-requires-in-Ok
-take_from-requires-in-Ok c = subst (λ (bytes : List ℕ). (v : PartsView) × IsSpelled bytes v) (sym (c.deref.ensures.value ∙ c.in-Ok.ensures)) c.requires
+pub take_from-requires-in-Ok-clause-spelled : goal.take_from-requires-in-Ok-clause-spelled
+take_from-requires-in-Ok-clause-spelled c = subst (λ (bytes : List ℕ). (v : PartsView) × IsSpelled bytes v) (sym (c.deref.ensures.value ∙ c.in-Ok.ensures)) c.requires.spelled
 
 pub returns-in-Some-clause-ok : goal.returns-in-Some-clause-ok
 returns-in-Some-clause-ok c =

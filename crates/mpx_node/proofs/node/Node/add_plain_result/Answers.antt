@@ -1,13 +1,25 @@
-use Rattle.std.proofs.Common.{◌≡◌, ◌∙◌, ◌+◌, ◌++◌, ◌∷◌, [], cond, sym, ap, rules}
+use Rattle.std.proofs.Common.{◌≡◌, ◌∙◌, ◌+◌, ◌++◌, ◌∷◌, [], cond, refl, sym, ap, rules}
 use Rattle.std.specs.Option.{option_map}
 use Rattle.mpx_name.specs.Name.{same_name}
 use Rattle.mpx_board.specs.Boards.{join, only, Front}
 use Rattle.mpx_board.specs.Looks.{look}
+use Rattle.mpx_node.specs.Keeping.{named}
 use Rattle.mpx_node.specs.declared.opened.Opened.{Opened}
 use Rattle.mpx_node.specs.Nodes.{OpenedView, front_on, harvest_part}
 use Rattle.mpx_node.specs.Shown.{node_of}
 use Rattle.mpx_node.proofs.Stepping.{Contexts, seen, stays, does, first_front}
+use Rattle.mpx_node.proofs.Keeping.{kept_joined, kept_same}
 use Rattle.mpx_node.proofs.node.Node.add_plain_result.Goals as goal
+
+pub invariant_of-self-in-Ok : goal.invariant_of-self-in-Ok
+invariant_of-self-in-Ok c =
+    let node = c.args.self.now in
+    record { some = node.some; few = node.few; kept_right = named _ _ (kept_joined node c.raise_front.new.self (only (Front c.args.name.now node.me (c.args.call + 1))) c.in-Ok.ensures.ok (λ q n p. refl)) }
+
+pub invariant_of-self-in-Err-1 : goal.invariant_of-self-in-Err-1
+invariant_of-self-in-Err-1 c =
+    let node = c.args.self.now in
+    record { some = node.some; few = node.few; kept_right = named _ _ (kept_same node c.raise_front.new.self c.in-Err.ensures.err) }
 
 pub returns-then-is_err-clause-err : goal.returns-then-is_err-clause-err
 returns-then-is_err-clause-err c =

@@ -1,6 +1,7 @@
 use Rattle.std.proofs.Common.{◌≡◌, ◌+◌, ◌||◌, refl, sym, ap, ◌∙◌, Some}
 use Rattle.std.specs.Prelude.{Err, cond}
 use Rattle.std.specs.Option.{option_map}
+use Rattle.mpx_node.specs.Keeping.{named}
 use Rattle.mpx_node.specs.declared.opened.Opened.{Opened}
 use Rattle.mpx_post.specs.Posts.{is_free}
 use Rattle.mpx_name.specs.Name.{same_name}
@@ -12,7 +13,18 @@ use Rattle.mpx_node.specs.Nodes.{posted_by, posts_more}
 use Rattle.mpx_node.specs.Opened.{opened_of}
 use Rattle.mpx_node.specs.Shown.{node_of}
 use Rattle.mpx_node.proofs.Stepping.{Contexts, seen, has, stays, does, closed_refused, unborn_refused, draft_refused, draft_posted, draft_wants}
+use Rattle.mpx_node.proofs.Keeping.{kept_joined, kept_same}
 use Rattle.mpx_node.proofs.node.Node.post.Goals as goal
+
+pub invariant_of-self-in-Ok : goal.invariant_of-self-in-Ok
+invariant_of-self-in-Ok g c =
+    let node = c.args.self.now in
+    record { some = node.some; few = node.few; kept_right = named _ _ (kept_joined node c.join_post.new.self (only (Held c.args.name.now c.in-Some.opened.now.posted node.me (known c.in_ok-post.post))) c.in-Ok.ensures.ok (λ q n p. refl)) }
+
+pub invariant_of-self-in-Err : goal.invariant_of-self-in-Err
+invariant_of-self-in-Err g c =
+    let node = c.args.self.now in
+    record { some = node.some; few = node.few; kept_right = named _ _ (kept_same node c.join_post.new.self c.in-Err.ensures.err) }
 
 pub returns-then-opened : goal.returns-then-opened
 returns-then-opened g c =

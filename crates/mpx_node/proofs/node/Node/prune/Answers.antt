@@ -1,9 +1,21 @@
-use Rattle.std.proofs.Common.{sym, ap, ◌∙◌}
-use Rattle.mpx_board.specs.Boards.{Look}
+use Rattle.std.proofs.Common.{refl, sym, ap, ◌∙◌}
+use Rattle.mpx_board.specs.Boards.{Dead, Dropped, Look, only}
+use Rattle.mpx_node.specs.Keeping.{named}
 use Rattle.mpx_node.specs.Shown.{node_of}
 use Rattle.mpx_node.proofs.Frames.{mapped_ok}
 use Rattle.mpx_node.proofs.Prunes.{prunes_nothing, prunes_dead, prunes_dropped, pruned_alive, pruned_gone}
+use Rattle.mpx_node.proofs.Keeping.{kept_either}
 use Rattle.mpx_node.proofs.node.Node.prune.Goals as goal
+
+pub invariant_of-self : goal.invariant_of-self
+invariant_of-self c =
+    let node = c.args.self.now in
+    record { some = node.some; few = node.few; kept_right = named _ _ (kept_either node c.bury.new.board c.bury.result (only (Dead c.args.name.now)) c.bury.ensures.ok c.bury.ensures.err (λ q n p. refl)) }
+
+pub invariant_of-self-2 : goal.invariant_of-self-2
+invariant_of-self-2 c =
+    let node = c.args.self.now in
+    record { some = node.some; few = node.few; kept_right = named _ _ (kept_either node c.prune.new.self c.prune.result (only (Dropped c.args.name.now c.args.number)) c.prune.ensures.ok c.prune.ensures.err (λ q n p. refl)) }
 
 pub returns-then-is_dead-clause-answer : goal.returns-then-is_dead-clause-answer
 returns-then-is_dead-clause-answer c = pruned_gone (node_of c.args.self.now) c.args.name.now c.args.number (sym c.is_dead.ensures ∙ c.if-is_dead.true)

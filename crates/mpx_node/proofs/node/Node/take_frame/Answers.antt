@@ -1,10 +1,17 @@
 use Rattle.std.proofs.Common.{arith, refl, ap, subst, ◌∙◌}
 use Rattle.mpx_board.specs.Boards.{IsBetween, join}
-use Rattle.mpx_board.specs.Looks.{look}
+use Rattle.mpx_board.specs.Looks.{look, parts_of}
+use Rattle.mpx_node.specs.Keeping.{named}
 use Rattle.mpx_node.specs.Nodes.{NodeView}
 use Rattle.mpx_node.specs.Shown.{node_of}
 use Rattle.mpx_node.proofs.Frames.{ShowsIts, mapped_err, mapped_ok, shows_its}
+use Rattle.mpx_format.proofs.Pieces.{nothing_kept}
 use Rattle.mpx_node.proofs.node.Node.take_frame.Goals as goal
+
+pub invariant_of-self : goal.invariant_of-self
+invariant_of-self c =
+    let node = c.args.self.now in
+    record { some = node.some; few = node.few; kept_right = named _ _ (nothing_kept c.forget_all.new.self.of.items (parts_of c.take_spelled.new.board).1 c.forget_all.ensures) }
 
 pub take_spelled-requires : goal.take_spelled-requires
 take_spelled-requires c =
