@@ -3,6 +3,7 @@ pub mod Entries
 pub mod Keyed
 pub mod Seen
 pub mod Place
+pub mod Placed
 pub mod Trunc
 pub mod TruncSeen
 pub mod OptionalLaws

@@ -72,15 +72,7 @@ impl Board {
         ensures gives { (new : Look) → Raises raised (look self.old) new → look self.new ≡ new }
         ensures above { IsBoardBelow (look self.old) (look self.new) }
     {
-        match raised {
-            Raised::Nothing => {}
-            Raised::Row(process, row) => {
-                let _before = self.inside.second.replace(&process, row);
-            }
-            Raised::All(all) => {
-                self.inside.second = all;
-            }
-        }
+        let _before = exchange_acks(&mut self.inside.second, raised);
     }
 
     /// Says all these calls too, as [`Board::raise_acks`] does, and gives what takes that back: [`Board::exchange`] stores again

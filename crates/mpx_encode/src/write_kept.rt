@@ -34,7 +34,7 @@ pub fn keep(alloc: Global, board: &Board, kept: &mut Kept, me: Proc) -> Result<(
     ensures { AreKept kept.new.of.items (parts_of board.now).1 }
 {
     for entry in board.pair().second.entries() {
-        if entry.0.number() != me.number() && entry.1.len() >= FEWEST_KEPT {
+        if entry.1.len() >= FEWEST_KEPT {
             keep_acks(alloc, entry.0, &entry.1, kept)?;
         }
     }

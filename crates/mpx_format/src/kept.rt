@@ -5,7 +5,7 @@ ghost use Rattle.mpx_board.specs.Raised.{stored, view_of_raised};
 ghost use Rattle.mpx_format.specs.Kept.{AreKept, ArePieces, Row, pieces_of};
 
 use join_core::OutOfMemory;
-use mpx_board::Raised;
+use mpx_board::{Raised, VersionVector};
 use mpx_group::Proc;
 use mpx_rope::Rope;
 use std::alloc::Global;
@@ -82,6 +82,16 @@ impl Kept {
         }
     }
 
+    /// Nothing is known of the rows at these places.
+    fn forget_places(&mut self, process: Proc, changes: &[(usize, VersionVector)]) {
+        let place = process.number() as usize;
+        if place < self.of.len() {
+            for change in changes {
+                self.of[place].forget(change.0);
+            }
+        }
+    }
+
     /// Nothing is known of what any process says.
     pub fn forget_all(&mut self)
         ensures { self.new.of.items ≡ [] }
@@ -96,6 +106,7 @@ impl Kept {
     {
         match said {
             Raised::Nothing => {}
+            Raised::Places(process, changes) => self.forget_places(*process, changes),
             Raised::Row(process, _) => self.forget(*process),
             Raised::All(_) => self.forget_all(),
         }
