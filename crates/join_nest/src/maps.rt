@@ -14,7 +14,7 @@ use crate::entries::{
     all_below, join_entries, lacking, lookup, merged, place_of_key, push_copies, put_entry,
     replace_entry, same_entries,
 };
-use crate::places::{exchange_values, joined_places};
+use crate::exchange::{exchange_values, joined_places};
 use crate::prepared::{joined_there, put_reserved};
 use join_core::{EmptyDelta, Exact, Join, Key, OutOfMemory};
 use std::alloc::Global;
