@@ -10,6 +10,38 @@ use join_core::{Join, Key, OutOfMemory};
 use std::alloc::Global;
 use std::mem;
 
+/// Values of a map, each with its place among the entries, in the rising order of their keys: no place comes twice.
+#[derive(Debug, Drop)]
+pub struct Changes<J> {
+    values: Vec<(usize, J)>,
+    ghost rising: { rise_from 0 values.items ≡ true },
+}
+
+impl<J> Changes<J> {
+    /// These values.
+    pub fn of(values: Vec<(usize, J)>) -> Changes<J>
+        requires { rise_from 0 values.items ≡ true }
+        ensures { result.values.items ≡ values.items }
+    {
+        Changes { values }
+    }
+
+    /// The values with their places, in the order of these.
+    pub fn values(&self) -> &[(usize, J)]
+        ensures { result.now ≡ self.now.values.items }
+    {
+        &self.values
+    }
+
+    // Exchanges these values with those at their places. Where there is no such place nothing is exchanged.
+    pub fn exchange<K>(&mut self, entries: &mut Vec<(K, J)>)
+        ensures entries { entries.new.items ≡ set_values entries.old.items self.old.values.items }
+        ensures changes { self.new.values.items ≡ taken entries.old.items self.old.values.items }
+    {
+        exchange_values(entries, &mut self.values)
+    }
+}
+
 // Of each of the others that isn't below what stands at its key the place and both joined. None where a key isn't there.
 pub fn joined_places<K: Key, J: Join>(
     alloc: Global,

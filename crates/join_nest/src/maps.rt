@@ -1,12 +1,12 @@
 //! Finite maps, joined key by key.
-ghost use Rattle.std.specs.Prelude.{◌≡◌, nat_eq, true, IsTrue, IfOk, IfSome, OnOk, OnErr};
+ghost use Rattle.std.specs.Prelude.{◌≡◌, nat_eq, IsTrue, IfOk, IfSome, OnOk, OnErr};
 ghost use Rattle.std.specs.FinMap.{FinMap, is_sorted, empty, get, entries, len, insert, from_sorted};
 ghost use Rattle.std.specs.Option.{option_map, option_copied};
 ghost use Rattle.join_nest.specs.Between.{keyed_between};
 ghost use Rattle.join_nest.specs.NestLaws.{keyed_between_laws};
 ghost use Rattle.join_nest.specs.Keyed.{keyed_equal, keyed_joining, replaced};
 ghost use Rattle.join_nest.specs.KeyedLaws.{keyed_deltas, keyed_equality, keyed_laws};
-ghost use Rattle.join_nest.specs.Placed.{rise_from, with_values, with_values_under};
+ghost use Rattle.join_nest.specs.Placed.{with_values, with_values_under};
 ghost use Rattle.join_nest.specs.Prepared.{joined_there, put_over};
 ghost use Rattle.join_nest.specs.Seen.{keyed_view, seen};
 
@@ -14,7 +14,7 @@ use crate::entries::{
     all_below, join_entries, lacking, lookup, merged, place_of_key, push_copies, put_entry,
     replace_entry, same_entries,
 };
-use crate::exchange::{exchange_values, joined_places};
+use crate::exchange::{Changes, joined_places};
 use crate::prepared::{joined_there, put_reserved};
 use join_core::{EmptyDelta, Exact, Join, Key, OutOfMemory};
 use std::alloc::Global;
@@ -191,26 +191,28 @@ impl<K: Key, J: Join> Keyed<K, J> {
         &self,
         alloc: Global,
         other: &Keyed<K, J>,
-    ) -> Result<Option<Vec<(usize, J)>>, OutOfMemory>
-        ensures joined { IfOk result (λ made. IfSome made (λ changes. with_values (⟦<Keyed<K, J> as Exact>⟧.view self.now) (seen J.view changes.items)
+    ) -> Result<Option<Changes<J>>, OutOfMemory>
+        ensures { IfOk result (λ made. IfSome made (λ changes. with_values (⟦<Keyed<K, J> as Exact>⟧.view self.now) (seen J.view changes.values.items)
             ≡ (keyed_joining J.joining).join (⟦<Keyed<K, J> as Exact>⟧.view self.now) (⟦<Keyed<K, J> as Exact>⟧.view other.now))) }
-        ensures rising { IfOk result (λ made. IfSome made (λ changes. rise_from 0 (seen J.view changes.items) ≡ true)) }
     {
-        joined_places(alloc, &self.entries, &other.entries)
+        match joined_places(alloc, &self.entries, &other.entries)? {
+            None => Ok(None),
+            Some(values) => Ok(Some(Changes::of(values))),
+        }
     }
 }
 
 impl<K: Key, L: Key, J: Exact> Keyed<K, Keyed<L, J>> {
     /// Exchanges these values with those at their places in the map at the key. Where there is no such key or place nothing is exchanged. It
     /// takes no memory. Done once more it takes itself back.
-    pub fn exchange_under(&mut self, key: &K, changes: &mut Vec<(usize, J)>)
-        requires { rise_from 0 (seen J.view changes.old.items) ≡ true }
-        ensures new { ⟦<Keyed<K, Keyed<L, J>> as Exact>⟧.view self.new ≡ with_values_under (⟦<Keyed<K, Keyed<L, J>> as Exact>⟧.view self.old) key.now (seen J.view changes.old.items) }
-        ensures back { with_values_under (⟦<Keyed<K, Keyed<L, J>> as Exact>⟧.view self.new) key.now (seen J.view changes.new.items) ≡ ⟦<Keyed<K, Keyed<L, J>> as Exact>⟧.view self.old }
-        ensures rising { rise_from 0 (seen J.view changes.new.items) ≡ true }
+    pub fn exchange_under(&mut self, key: &K, changes: &mut Changes<J>)
+        ensures new { ⟦<Keyed<K, Keyed<L, J>> as Exact>⟧.view self.new
+            ≡ with_values_under (⟦<Keyed<K, Keyed<L, J>> as Exact>⟧.view self.old) key.now (seen J.view changes.old.values.items) }
+        ensures back { with_values_under (⟦<Keyed<K, Keyed<L, J>> as Exact>⟧.view self.new) key.now (seen J.view changes.new.values.items)
+            ≡ ⟦<Keyed<K, Keyed<L, J>> as Exact>⟧.view self.old }
     {
         if let Ok(at) = place_of_key(&self.entries, key) {
-            exchange_values(&mut self.entries[at].1.entries, changes);
+            changes.exchange(&mut self.entries[at].1.entries);
         }
     }
 }

@@ -1,7 +1,7 @@
 -- What a process says that it has, made before it is stored.
-use Rattle.std.specs.Prelude.{◌≡◌, ℕ, Bool, true, List}
+use Rattle.std.specs.Prelude.{◌≡◌, ℕ, true, List}
 use Rattle.join_nest.specs.Keyed.{replaced}
-use Rattle.join_nest.specs.Placed.{rise_from, with_values_under}
+use Rattle.join_nest.specs.Placed.{with_values_under}
 use Rattle.join_nest.specs.Seen.{seen}
 use Rattle.mpx_board.specs.declared.acks.Raised.{Raised}
 use Rattle.mpx_board.specs.declared.acks.Raised.TheVariants as R
@@ -21,7 +21,7 @@ pub data RaisedView : Type 0 where
 
 abbrev pub view_of_raised : Raised → RaisedView
 view_of_raised R.Nothing = Nothing
-view_of_raised (R.Places process changes) = Places process (seen view_of_numbers changes.items)
+view_of_raised (R.Places process changes) = Places process (seen view_of_numbers changes.values.items)
 view_of_raised (R.Row process row) = Row process (view_of_acks row)
 view_of_raised (R.All all) = All (view_of_all_acks all)
 
@@ -32,13 +32,6 @@ stored (Places process changes) acks = with_values_under acks process changes
 stored (Row process row) acks = replaced acks process row
 stored (All all) acks = all
 
--- no place comes twice, and they rise
-abbrev pub is_rising : RaisedView → Bool
-is_rising Nothing = true
-is_rising (Places process changes) = rise_from 0 changes
-is_rising (Row process row) = true
-is_rising (All all) = true
-
 -- it was made of a board that shows the one, and that shows the other, which is above, once it is stored
 pub record Raises (raised : Raised) (old new : Look) : Type 0 where
   pub parts : PartsView
@@ -47,11 +40,9 @@ pub record Raises (raised : Raised) (old new : Look) : Type 0 where
   pub gives : look_of (parts.0, stored (view_of_raised raised) parts.1) ≡ new
   pub neat : is_tidy (parts.0, stored (view_of_raised raised) parts.1) ≡ true
   pub above : IsBoardBelow old new
-  pub rising : is_rising (view_of_raised raised) ≡ true
 
 -- storing it makes the old board the new one
 pub record StoringLeads (raised : Raised) (old new : PartsView) : Type 0 where
   pub contexts : new.0 ≡ old.0
   pub says : stored (view_of_raised raised) old.1 ≡ new.1
   pub neat : is_tidy new ≡ true
-  pub rising : is_rising (view_of_raised raised) ≡ true

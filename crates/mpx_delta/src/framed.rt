@@ -32,7 +32,7 @@ pub struct NewFrames {
 
 /// Makes what [`new_list`](crate::new_list) makes, with frames of at most `limit` bytes in place of the parts. What all processes say
 /// isn't copied for that: the board lends it, and stays as it is, also where memory is refused. A frame is written over the last of the
-/// `spare` ones, where there are such: the room of its own bytes serves it in place of memory. What the others say is kept as it is
+/// `spare` ones, where there are such: the room of its own bytes serves it in place of memory. What processes say is kept as it is
 /// spelled, where that is much.
 pub fn new_frames(
     alloc: Global,
@@ -55,7 +55,7 @@ pub fn new_frames(
     let digest = digest_of(alloc, board)?;
     let before = board.say(alloc, me, &digest)?;
     kept.forget_said(&before);
-    let made = kept_frames(alloc, board, me, processes, limit, spare, kept);
+    let made = kept_frames(alloc, board, processes, limit, spare, kept);
     let said = board.exchange(before);
     kept.forget_said(&said);
     match made {
@@ -67,11 +67,10 @@ pub fn new_frames(
     }
 }
 
-// What `lean_frames` makes, once what the others say is kept as it is spelled.
+// What `lean_frames` makes, once what all say is kept as it is spelled.
 fn kept_frames(
     alloc: Global,
     board: &mut Board,
-    me: Proc,
     processes: u8,
     limit: usize,
     spare: &mut Vec<Rope>,
@@ -86,7 +85,7 @@ fn kept_frames(
     ensures kept { AreKept kept.new.of.items (parts_of board.new).1 }
     ensures frames { IfOk result (λ made. AreFramesOf limit (without (common_on processes (look board.old)) (look board.old)) made.items) }
 {
-    keep(alloc, board, kept, me)?;
+    keep(alloc, board, kept)?;
     lean_frames(alloc, board, processes, limit, spare, kept)
 }
 

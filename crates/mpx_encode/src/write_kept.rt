@@ -27,9 +27,9 @@ use std::alloc::Global;
 // Fewer rows aren't kept: they are written as fast as they are copied.
 const FEWEST_KEPT: usize = 9;
 
-/// Keeps what the processes but this one say, as frames spell it, where it isn't kept yet. A process that says something of few
-/// contexts is left out. An `Err` is want of memory.
-pub fn keep(alloc: Global, board: &Board, kept: &mut Kept, me: Proc) -> Result<(), OutOfMemory>
+/// Keeps what the processes say, as frames spell it, where it isn't kept yet. A process that says something of few contexts is left
+/// out. An `Err` is want of memory.
+pub fn keep(alloc: Global, board: &Board, kept: &mut Kept) -> Result<(), OutOfMemory>
     requires { AreKept kept.old.of.items (parts_of board.now).1 }
     ensures { AreKept kept.new.of.items (parts_of board.now).1 }
 {

@@ -1,5 +1,6 @@
 //! What processes say that they have, kept as frames spell it.
-ghost use Rattle.std.specs.Prelude.{◌≡◌, ◌==◌, ◌<◌, ℕ, [], List, OnOk, cond, length, set, take};
+ghost use Rattle.std.specs.Prelude.{◌≡◌, ◌==◌, ◌<◌, ℕ, [], false, List, OnOk, cond, length, map, set, take};
+ghost use Rattle.join_nest.specs.Placed.{set_values};
 ghost use Rattle.mpx_board.specs.Parts.{AcksView, OfProcesses};
 ghost use Rattle.mpx_board.specs.Raised.{stored, view_of_raised};
 ghost use Rattle.mpx_format.specs.Kept.{AreKept, ArePieces, Row, pieces_of};
@@ -28,6 +29,16 @@ impl KeptAcks {
         let place = at / PIECE_ROWS;
         if place < self.pieces.len() {
             self.pieces[place].clear();
+        }
+    }
+
+    /// The rows at these places have changed.
+    fn forget_all_at(&mut self, changes: &[(usize, VersionVector)])
+        ensures { (rows : List Row) (values : List (ℕ × OfProcesses ℕ)) → map (λ c. c.0) values ≡ map (λ c. c.0) changes.now
+            → ArePieces self.old.pieces.items rows → ArePieces self.new.pieces.items (set_values rows values) }
+    {
+        for change in changes {
+            self.forget(change.0);
         }
     }
 
@@ -82,13 +93,15 @@ impl Kept {
         }
     }
 
-    /// Nothing is known of the rows at these places.
-    fn forget_places(&mut self, process: Proc, changes: &[(usize, VersionVector)]) {
+    // Nothing is known of the rows of the process at these places.
+    fn forget_places(&mut self, process: Proc, changes: &[(usize, VersionVector)])
+        ensures rows { (rows : List Row) (values : List (ℕ × OfProcesses ℕ)) → map (λ c. c.0) values ≡ map (λ c. c.0) changes.now
+            → ArePieces (pieces_of self.old.of.items process) rows → ArePieces (pieces_of self.new.of.items process) (set_values rows values) }
+        ensures others { (p : ℕ) → (p == process) ≡ false → pieces_of self.new.of.items p ≡ pieces_of self.old.of.items p }
+    {
         let place = process.number() as usize;
         if place < self.of.len() {
-            for change in changes {
-                self.of[place].forget(change.0);
-            }
+            self.of[place].forget_all_at(changes);
         }
     }
 
@@ -106,7 +119,7 @@ impl Kept {
     {
         match said {
             Raised::Nothing => {}
-            Raised::Places(process, changes) => self.forget_places(*process, changes),
+            Raised::Places(process, changes) => self.forget_places(*process, changes.values()),
             Raised::Row(process, _) => self.forget(*process),
             Raised::All(_) => self.forget_all(),
         }
