@@ -1,5 +1,5 @@
 -- What one process says that it has, joined to a board.
-use Rattle.std.proofs.Common.{arith, ◌≡◌, ℕ, zero, suc, ◌<◌, ◌==◌, ◌&&◌, max, Bool, true, false, not, cond, Option, Some, None, is_some, refl, sym, ap, ◌∙◌, subst}
+use Rattle.std.proofs.Common.{arith, ◌≡◌, ℕ, zero, suc, ◌<◌, ◌==◌, ◌&&◌, max, Bool, true, false, not, cond, List, Option, Some, None, is_some, refl, sym, ap, ◌∙◌, subst}
 use Rattle.std.specs.Prelude.{Result, Ok, Err, OnOk, OnErr}
 use Rattle.std.proofs.lemmas.Option.{same_Some}
 use Rattle.std.specs.declared.cmp.Ordering.{Ordering}
@@ -8,6 +8,7 @@ use Rattle.std.specs.Cmp.{IsTotalOrder, unsigned_tied, nat_cmp_total}
 use Rattle.std.specs.FinMap.{empty as no_entry, get, get-empty, get-insert, get_tied, insert, nat_cmp-IsAntisymmetric}
 use Rattle.join_core.specs.Cases.{answer, yes, no, is_tied, both_true, first_true, second_true}
 use Rattle.join_nest.specs.Keyed.{replaced}
+use Rattle.join_nest.specs.Placed.{values_in, with_values, with_values_under}
 use Rattle.join_nest.specs.Optional.{option_join}
 use Rattle.mpx_name.specs.Name.{Name, same_name}
 use Rattle.mpx_name.specs.Order.{name_cmp, name_total, name_exact}
@@ -109,6 +110,12 @@ module _ (process : ℕ) (said : AcksView) where
   -- a row that is put in the old one's place
   pub row_stored : (old new : OfProcesses AcksView) (before row : AcksView) → Some before ≡ get old process → row ≡ acks_joining.join before said → new ≡ replaced old process row → (q : ℕ) → get new q ≡ option_join acks_joining (get old q) (part q)
   row_stored old new before row there is e = joined_by_put old new row (ap Some is ∙ ap (λ o. option_join acks_joining o (Some said)) there) (e ∙ ap (λ o. cond (is_some o) (insert old process row) old) (sym there))
+
+  -- values that are put in at their places
+  pub places_stored : (old : OfProcesses AcksView) (before : AcksView) (values : List (ℕ × OfProcesses ℕ)) → Some before ≡ get old process → with_values before values ≡ acks_joining.join before said
+      → (q : ℕ) → get (with_values_under old process values) q ≡ option_join acks_joining (get old q) (part q)
+  places_stored old before values there is =
+      joined_by_put old (with_values_under old process values) (acks_joining.join before said) (ap (λ o. option_join acks_joining o (Some said)) there) (ap (values_in old process values) (sym there) ∙ ap (insert old process) is)
 
   -- a row where there was none, put in a copy
   pub all_stored : (old copied new : OfProcesses AcksView) (row : AcksView) → None ≡ get old process → copied ≡ old → row ≡ said → new ≡ insert copied process row → (q : ℕ) → get new q ≡ option_join acks_joining (get old q) (part q)
