@@ -10,7 +10,7 @@ use Rattle.mpx_board.specs.Views.{view_of_acks}
 use Rattle.mpx_format.specs.Kept.{AreKept}
 use Rattle.mpx_encode.proofs.Keeping.{kept_anew, kept_of}
 use Rattle.mpx_encode.proofs.Loops.{holds_at, seen_at}
-use Rattle.mpx_encode.proofs.write_kept.keep.Goals.{then-number+then-len-ge-FEWEST_KEPT+in_ok-keep_acks, else-number}
+use Rattle.mpx_encode.proofs.write_kept.keep.Goals.{then-len-ge-FEWEST_KEPT+in_ok-keep_acks, else-len-ge-FEWEST_KEPT}
 use Rattle.mpx_encode.proofs.write_kept.keep.Goals as goal
 
 pub keep_acks-requires-clause-tidy : goal.keep_acks-requires-clause-tidy
@@ -49,9 +49,9 @@ loop-entry-preserved c =
     let i = c.loop-entry.entry-index in
     let e = c.entry-item.result in
     let are : seen view_of_acks es ≡ entries v.1 = c.entries-entry-items.ensures.entries ∙ ap (λ p. entries p.1) c.pair.ensures.value in
-    elim c.if-number.branch [
-      | then-number+then-len-ge-FEWEST_KEPT+in_ok-keep_acks w ↦
+    elim c.if-len-ge-FEWEST_KEPT.branch [
+      | then-len-ge-FEWEST_KEPT+in_ok-keep_acks w ↦
           let made = kept_anew view_of_acks v.1 es i e are c.loop-entry-test.true c.entry-item.is c.loop-entry.kept.of.items w.keep_acks.new.kept.of.items w.keep_acks.ensures.kept w.keep_acks.ensures.others c.loop-entry.invariant in
           subst (λ k. AreKept k.of.items v.1) (sym w.kept-is) made
-      | else-number w ↦ subst (λ k. AreKept k.of.items v.1) (sym w.kept-is) c.loop-entry.invariant
+      | else-len-ge-FEWEST_KEPT w ↦ subst (λ k. AreKept k.of.items v.1) (sym w.kept-is) c.loop-entry.invariant
     ]
