@@ -1,5 +1,5 @@
 -- Values exchanged at their places, and exchanged back.
-use Rattle.std.proofs.Common.{◌≡◌, ℕ, zero, suc, ◌+◌, ◌<◌, ◌≤◌, true, nat_le, ◌&&◌, List, [], ◌∷◌, ◌++◌, length, get_or, set, take, drop, refl, sym, ap, ◌∙◌, arith}
+use Rattle.std.proofs.Common.{◌≡◌, ℕ, zero, suc, ◌+◌, ◌<◌, ◌≤◌, true, nat_le, ◌&&◌, List, [], ◌∷◌, ◌++◌, length, get_or, map, set, take, drop, refl, sym, ap, ◌∙◌, arith}
 use Rattle.std.proofs.lemmas.Bool.Decides.{nat_tests}
 use Rattle.std.proofs.lemmas.List.{append-nil, append_assoc, at_drop_more, drop_all, drop-set-lt, get_or-set_same, length-set, set-get_or, set-set, take_all, take_more_set}
 use Rattle.std.specs.Option.{option_map}
@@ -121,6 +121,10 @@ module _ {K V : Type 0} where
       ap (λ l. set_values l (taken more cs)) (set_below cs more c.0 old (after c cs n h) ∙ ap (λ l. set_values l cs) (put_back es c.0 c.1))
       ∙ ap (set_values (set_values es cs)) (taken_above cs es c.0 c.1 (after c cs n h))
       ∙ exchanged_back cs (suc c.0) es (after c cs n h)
+
+  pub taken_places : (cs : List (ℕ × V)) (es : List (K × V)) → map (λ c. c.0) (taken es cs) ≡ map (λ c. c.0) cs
+  taken_places [] es = refl
+  taken_places (c ∷ cs) es = ap (λ l. c.0 ∷ l) (taken_places cs (set_value es c.0 c.1))
 
   pub taken_rises : (cs : List (ℕ × V)) (n : ℕ) (es : List (K × V)) → rise_from n (taken es cs) ≡ rise_from n cs
   taken_rises [] n es = refl

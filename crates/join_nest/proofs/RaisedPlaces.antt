@@ -24,7 +24,7 @@ use Rattle.join_nest.proofs.Views.{seen_sorted}
 -- VALUES SET AT PLACES
 
 module _ {K V : Type 0} where
-  set_more : (es : List (K × V)) (cs more : List (ℕ × V)) → set_values es (cs ++ more) ≡ set_values (set_values es cs) more
+  pub set_more : (es : List (K × V)) (cs more : List (ℕ × V)) → set_values es (cs ++ more) ≡ set_values (set_values es cs) more
   set_more es [] more = refl
   set_more es (c ∷ cs) more = set_more (set_value es c.0 c.1) cs more
 

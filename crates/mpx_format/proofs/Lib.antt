@@ -12,3 +12,4 @@ pub mod Examples
 pub mod Spelled
 pub mod SpelledPosts
 pub mod Pieces
+pub mod PiecesAt
