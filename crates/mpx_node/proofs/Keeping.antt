@@ -16,6 +16,7 @@ use Rattle.mpx_board.proofs.Acknowledging.{alone_tidy, look_alone, stored_gives,
 use Rattle.mpx_board.proofs.Order.{same_look}
 use Rattle.mpx_format.specs.Kept.{AreKept}
 use Rattle.mpx_format.specs.declared.kept.KeptAcks.{KeptAcks}
+use Rattle.mpx_delta.proofs.Keeping.{still_kept}
 use Rattle.mpx_node.specs.Keeping.{told}
 use Rattle.mpx_node.specs.declared.node.Node.{Node}
 use Rattle.mpx_node.specs.Nodes.{births_of}
@@ -36,7 +37,7 @@ module _ (node : Node) (b : Board) where
 
   -- the board looks the same
   pub kept_same : look b ≡ look node.board → AreKept node.kept.of.items (parts_of b).1
-  kept_same is = kept_by (λ i. (is i).acks)
+  kept_same is = still_kept node.kept.of.items node.board b is (told _ _ node.kept_right)
 
   -- a part came to it in which nothing is acknowledged
   pub kept_joined : (part : Look) → look b ≡ join (look node.board) part → SaysNone part → AreKept node.kept.of.items (parts_of b).1
