@@ -1,7 +1,7 @@
 //! Joins made of joins.
 use crate::laws::laws_hold;
 use join_core::{Exact, Flat, Join, Max, OutOfMemory};
-use join_nest::{Keyed, Trunc};
+use join_nest::{Changes, Keyed, Trunc};
 use std::alloc::Global;
 use std::test::Fail;
 
@@ -338,5 +338,63 @@ fn rising_entries_make_their_board(rt: HostRuntime) -> Result<(), Fail> {
     let alloc = rt.alloc();
     let board = Trunc::from_rising(2, vec![in alloc; (2, Max(6)), (4, Max(8))]?);
     assert!(rt; is_board(alloc, &board, 2, &[(4, 8), (2, 6)])?);
+    Ok(())
+}
+
+// Whether the map at 7 is that of these entries.
+fn is_under(
+    alloc: Global,
+    maps: &Keyed<u32, Keyed<u32, Max>>,
+    entries: &[(u32, u32)],
+) -> Result<bool, OutOfMemory> {
+    match maps.get(&7) {
+        None => Ok(false),
+        Some(map) => is_map(alloc, map, entries),
+    }
+}
+
+// Whether of these the third alone is joined at its place, in a map that has all their keys.
+fn is_third(changes: &Changes<Max>) -> bool {
+    matches!(changes.values(), [(2, Max(9))])
+}
+
+// Whether the change, put in once and once more, has come and gone.
+fn comes_and_goes(
+    alloc: Global,
+    map: Keyed<u32, Max>,
+    mut changes: Changes<Max>,
+) -> Result<bool, OutOfMemory> {
+    let mut maps = Keyed::new(alloc);
+    maps.put(7, map)?;
+    maps.exchange_under(&7, &mut changes);
+    let came = is_under(alloc, &maps, &[(1, 3), (2, 4), (5, 9)])?;
+    maps.exchange_under(&8, &mut changes);
+    maps.exchange_under(&7, &mut changes);
+    let gone = is_under(alloc, &maps, &[(1, 3), (2, 4), (5, 6)])?;
+    Ok(came & gone & is_third(&changes))
+}
+
+// Whether what a map of three has in common with the other is joined at its place, and comes and goes.
+fn is_exchanged(alloc: Global, map: Keyed<u32, Max>) -> Result<bool, OutOfMemory> {
+    let other = map_of(alloc, &[(1, 2), (5, 9)])?;
+    match map.joined_places(alloc, &other)? {
+        None => Ok(false),
+        Some(changes) => comes_and_goes(alloc, map, changes),
+    }
+}
+
+// Whether nothing is joined where the map lacks a key.
+fn has_no_place(alloc: Global, map: &Keyed<u32, Max>) -> Result<bool, OutOfMemory> {
+    let other = map_of(alloc, &[(1, 5), (4, 1)])?;
+    let changes = map.joined_places(alloc, &other)?;
+    Ok(changes.is_none())
+}
+
+#[test]
+fn values_are_exchanged_at_their_places(rt: HostRuntime) -> Result<(), Fail> {
+    let alloc = rt.alloc();
+    let map = map_of(alloc, &[(1, 3), (2, 4), (5, 6)])?;
+    assert!(rt; has_no_place(alloc, &map)?);
+    assert!(rt; is_exchanged(alloc, map)?);
     Ok(())
 }
