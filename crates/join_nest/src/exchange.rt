@@ -34,7 +34,7 @@ impl<J> Changes<J> {
     }
 
     // Exchanges these values with those at their places. Where there is no such place nothing is exchanged.
-    pub fn exchange<K>(&mut self, entries: &mut Vec<(K, J)>)
+    pub(crate) fn exchange<K>(&mut self, entries: &mut Vec<(K, J)>)
         ensures entries { entries.new.items ≡ set_values entries.old.items self.old.values.items }
         ensures changes { self.new.values.items ≡ taken entries.old.items self.old.values.items }
     {
@@ -85,7 +85,7 @@ fn push_raised<J: Join>(
     Ok(())
 }
 
-// Exchanges these values with those at their places, which rise. Where there is no such place nothing is exchanged.
+// Exchanges these values with those at their places, one after the other. Where there is no such place nothing is exchanged.
 pub fn exchange_values<K, J>(entries: &mut Vec<(K, J)>, changes: &mut Vec<(usize, J)>)
     ensures entries { entries.new.items ≡ set_values entries.old.items changes.old.items }
     ensures changes { changes.new.items ≡ taken entries.old.items changes.old.items }

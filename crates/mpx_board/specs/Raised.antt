@@ -11,8 +11,8 @@ use Rattle.mpx_board.specs.Parts.{AcksView, OfProcesses, PartsView}
 use Rattle.mpx_board.specs.Tidy.{is_tidy}
 use Rattle.mpx_board.specs.Views.{view_of_acks, view_of_all_acks, view_of_numbers}
 
--- nothing, what one process says now of some contexts, by the places of these among its own, all that one process says now, or what all
--- processes say now
+-- nothing; what one process says now of some contexts, by the places of these among all of which it speaks; all that one process says now;
+-- or what all processes say now
 pub data RaisedView : Type 0 where
   Nothing : RaisedView
   Places : (process : ℕ) → List (ℕ × OfProcesses ℕ) → RaisedView

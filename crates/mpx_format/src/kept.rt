@@ -32,7 +32,7 @@ impl KeptAcks {
         }
     }
 
-    /// The rows at these places have changed.
+    // The rows at these places have changed.
     fn forget_all_at(&mut self, changes: &[(usize, VersionVector)])
         ensures { (rows : List Row) (values : List (ℕ × OfProcesses ℕ)) → map (λ c. c.0) values ≡ map (λ c. c.0) changes.now
             → ArePieces self.old.pieces.items rows → ArePieces self.new.pieces.items (set_values rows values) }
