@@ -67,7 +67,7 @@ class Comparison:
                 raise Unreadable('a call is refused, and which tells the program waits, which isn\'t at hand: record/README.md says how it is built, and --waits names another')
             return {}
         for line in told:
-            found = re.fullmatch(r'rank \d+ line (\d+): (.*)', line)
+            found = re.fullmatch(r'rank \d+, line (\d+): (.*)', line)
             part = script.lines[int(found[1]) - 1] if found and int(found[1]) <= len(script.lines) else None
             if part is None: continue
             if found[2].startswith('refused'): complaints[part.rank, part.id] = found[2]

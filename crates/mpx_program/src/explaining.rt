@@ -7,11 +7,12 @@ use mpx_explain::{explain_calls, explain_refusals, explain_results};
 use mpx_num::Ops;
 use mpx_run::Command;
 use mpx_script::{ReadScriptError, Script, read_script};
+use mpx_waiting::push_waiting;
 use mpx_words::Invocation;
 use std::alloc::Global;
 
-/// Further lines, where `--explain` is asked for: of a refused script its refused lines, else its calls that are refused or are
-/// faults, and results that are past their types. Where memory is wanting, fewer lines.
+/// Further lines, where `--explain` is asked for: of a refused script its refused lines, else for whose posts ranks wait, calls that are
+/// refused or are faults, and results that are past their types. Where memory is wanting, fewer lines.
 pub(crate) fn explained(alloc: Global, call: &Invocation, text: &[u8], ops: &Ops) -> Vec<u8>
     ensures { call.now.flags.explain ≡ false → result.items ≡ [] }
 {
@@ -49,6 +50,7 @@ fn push_calls(
         return explain_calls(alloc, text, script, &found, false, told);
     }
     let found = examine(alloc, script, ops)?;
+    push_waiting(alloc, text, script, found.waiting.as_slice(), told)?;
     explain_calls(alloc, text, script, &found.complaints, false, told)?;
     explain_calls(alloc, text, script, &found.unheard, true, told)?;
     explain_results(alloc, text, script, &found, told)

@@ -1,3 +1,1 @@
-pub mod ToldLines
 pub mod Program
-pub mod Lines

@@ -13,7 +13,7 @@ use Rattle.mpx_script.specs.declared.faults.ScriptError.{ScriptError}
 use Rattle.mpx_explain.specs.declared.blame.Blamed.{Blamed}
 use Rattle.waits.specs.declared.program.Failure.{Failure}
 use Rattle.waits.specs.declared.program.Failure.TheVariants.{Script, Memory, Read, Write}
-use Rattle.waits.specs.ToldLines.{all_told}
+use Rattle.mpx_waiting.specs.ToldLines.{all_told}
 
 -- the text is read as a script, and the lines of those who wait at the end of its evaluation are out, and behind them those of
 -- the calls that were refused or are faults

@@ -3,12 +3,7 @@
 //! a fault, its rank, its line, and what the transcript says of it.
 #![tactic(auto)]
 
-mod complaints;
-mod members;
-mod number_text;
-mod places;
 mod program;
-mod told;
 
 use mpx_affine::Affine;
 use mpx_num::{Ops, OwnOp};

@@ -3,11 +3,11 @@ ghost use Rattle.std.specs.Prelude.{◌≡◌, OnOk};
 ghost use Rattle.std.specs.Io.KnownBytes.{Appends};
 ghost use Rattle.waits.specs.Program.{AnswersText, IsScriptRefusal, TellsWaits, blamed_text, message, status};
 
-use crate::told::all_told;
 use mpx_eval::examine;
 use mpx_explain::{Blamed, word_to_blame};
 use mpx_num::{Listing, Ops};
 use mpx_script::{ReadScriptError, ScriptError, read_script};
+use mpx_waiting::all_told;
 use std::alloc::Global;
 use std::io;
 use std::io::{Read, Write};

@@ -1,7 +1,7 @@
 //! Where statements stand in a script's text.
 ghost use Rattle.std.specs.Prelude.{◌≡◌, IfOk, map};
 ghost use Rattle.mpx_eval.specs.Found.{waiting_view};
-ghost use Rattle.waits.specs.ToldLines.{line_at, place_of};
+ghost use Rattle.mpx_waiting.specs.ToldLines.{line_at, place_of};
 
 use join_core::OutOfMemory;
 use mpx_eval::WaitingRank;

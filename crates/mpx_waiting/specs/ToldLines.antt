@@ -7,8 +7,8 @@ use Rattle.mpx_eval.specs.Complaints.{ComplaintView, started_at}
 use Rattle.mpx_eval.specs.Waiting.{MissingCallView, WaitingView}
 use Rattle.mpx_script.specs.LinesGiven.{lines_given, words_at}
 use Rattle.mpx_statement.specs.declared.statement.Statement.{Statement}
-use Rattle.waits.specs.declared.members.Whereabouts.{Whereabouts}
-use Rattle.waits.specs.declared.members.Whereabouts.TheVariants as P
+use Rattle.mpx_waiting.specs.declared.members.Whereabouts.{Whereabouts}
+use Rattle.mpx_waiting.specs.declared.members.Whereabouts.TheVariants as P
 
 -- PLACES
 
@@ -110,7 +110,7 @@ members_text places (member ∷ more) = rows_text places member member more
 
 -- how a line begins that tells of a rank at a line
 abbrev pub start_text : (rank line : ℕ) → List ℕ
-start_text rank line = codes "rank " ++ decimal rank ++ codes " line " ++ decimal line ++ codes ": "
+start_text rank line = codes "rank " ++ decimal rank ++ codes ", line " ++ decimal line ++ codes ": "
 
 -- and how it ends
 abbrev pub end_text : (places : List (ℕ × ℕ)) → (call : ℕ) → (missing : List MissingMember) → List ℕ

@@ -2,7 +2,7 @@
 ghost use Rattle.std.specs.Prelude.{◌≡◌, ◌++◌, IfOk, OnOk, bytes_eq, codes, map};
 ghost use Rattle.std.specs.Option.{option_copied};
 ghost use Rattle.mpx_eval.specs.Found.{complaint_view, missing_view, waiting_view};
-ghost use Rattle.waits.specs.ToldLines.{all_told, apart_words, call_text, call_words, end_text, rank_text, request_text, second_word, start_text, waiting_told, what_text, word_in};
+ghost use Rattle.mpx_waiting.specs.ToldLines.{all_told, apart_words, call_text, call_words, end_text, rank_text, request_text, second_word, start_text, waiting_told, what_text, word_in};
 
 use crate::complaints::push_complaints;
 use crate::members::push_members;
@@ -22,26 +22,27 @@ pub fn all_told(
 ) -> Result<Vec<u8>, OutOfMemory>
     ensures { IfOk result (λ told. told.items ≡ all_told text.now script.now.statements (map waiting_view found.now.waiting.items) (map complaint_view found.now.complaints.items)) }
 {
-    let mut told = waiting_told(alloc, text, script, found.waiting.as_slice())?;
+    let mut told = Vec::new(alloc);
+    push_waiting(alloc, text, script, found.waiting.as_slice(), &mut told)?;
     push_complaints(alloc, text, found.complaints.as_slice(), &mut told)?;
     Ok(told)
 }
 
-// A line for each call that is missing.
-fn waiting_told(
+/// Adds a line for each call that is missing. An `Err` is want of memory, and leaves the lines so far.
+pub fn push_waiting(
     alloc: Global,
     text: &[u8],
     script: &Script,
     found: &[WaitingRank],
-) -> Result<Vec<u8>, OutOfMemory>
-    ensures { IfOk result (λ told. told.items ≡ waiting_told text.now script.now.statements (map waiting_view found.now)) }
+    told: &mut Vec<u8>,
+) -> Result<(), OutOfMemory>
+    ensures { OnOk result (told.new.items ≡ told.old.items ++ waiting_told text.now script.now.statements (map waiting_view found.now)) }
 {
     let places = places_of(alloc, text, found)?;
-    let mut told = Vec::new(alloc);
     for waiting in found {
-        push_rank(alloc, text, script, places.as_slice(), waiting, &mut told)?;
+        push_rank(alloc, text, script, places.as_slice(), waiting, told)?;
     }
-    Ok(told)
+    Ok(())
 }
 
 // Adds the lines of a rank.
@@ -107,7 +108,7 @@ pub fn push_start(alloc: Global, rank: u8, line: u32, told: &mut Vec<u8>) -> Res
 {
     told.extend_from_slice(b"rank ")?;
     push_decimal(alloc, told, u32::from(rank))?;
-    told.extend_from_slice(b" line ")?;
+    told.extend_from_slice(b", line ")?;
     push_decimal(alloc, told, line)?;
     told.extend_from_slice(b": ")?;
     Ok(())

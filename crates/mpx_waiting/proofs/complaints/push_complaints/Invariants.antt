@@ -1,9 +1,9 @@
 use Rattle.std.proofs.Common.{◌≡◌, ◌++◌, drop, map}
 use Rattle.std.specs.List.{flat_map}
 use Rattle.mpx_eval.specs.Found.{complaint_view}
-use Rattle.waits.specs.Lines.{AreLinesOf}
-use Rattle.waits.specs.ToldLines.{complaint_told}
-use Rattle.waits.proofs.complaints.push_complaints.Given as goal
+use Rattle.mpx_waiting.specs.Lines.{AreLinesOf}
+use Rattle.mpx_waiting.specs.ToldLines.{complaint_told}
+use Rattle.mpx_waiting.proofs.complaints.push_complaints.Given as goal
 
 abbrev pub invariant-loop-complaint : goal.invariant-loop-complaint
 invariant-loop-complaint l = record {

@@ -2,8 +2,8 @@
 ghost use Rattle.std.specs.Prelude.{◌≡◌, ◌++◌, IfOk, OnOk, map};
 ghost use Rattle.std.specs.List.{flat_map};
 ghost use Rattle.mpx_eval.specs.Found.{complaint_view};
-ghost use Rattle.waits.specs.ToldLines.{complaint_text, complaint_told};
-ghost use Rattle.waits.specs.Lines.{AreLinesOf};
+ghost use Rattle.mpx_waiting.specs.ToldLines.{complaint_text, complaint_told};
+ghost use Rattle.mpx_waiting.specs.Lines.{AreLinesOf};
 
 use crate::places::line_at;
 use crate::told::push_start;

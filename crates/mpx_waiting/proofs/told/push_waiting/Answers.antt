@@ -2,9 +2,9 @@ use Rattle.std.proofs.Common.{List, ℕ, ◌+◌, ◌++◌, drop, map, append_as
 use Rattle.std.specs.List.{flat_map}
 use Rattle.mpx_eval.specs.declared.who_waits.WaitingRank.{WaitingRank}
 use Rattle.mpx_eval.specs.Found.{waiting_view}
-use Rattle.waits.specs.ToldLines.{place_of, rank_text}
-use Rattle.waits.proofs.Lists.{flat_more}
-use Rattle.waits.proofs.told.waiting_told.Goals as goal
+use Rattle.mpx_waiting.specs.ToldLines.{place_of, rank_text}
+use Rattle.mpx_waiting.proofs.Lists.{flat_more}
+use Rattle.mpx_waiting.proofs.told.push_waiting.Goals as goal
 
 pub loop-waiting-preserved : goal.loop-waiting-preserved
 loop-waiting-preserved c =

@@ -1,6 +1,6 @@
 //! The text of the members that have not posted to a call, with where they stand.
 ghost use Rattle.std.specs.Prelude.{◌≡◌, ◌++◌, [], OnOk};
-ghost use Rattle.waits.specs.ToldLines.{follows, is_same_place, member_text, members_text, place_in, place_text, placed_text, row_text, standing};
+ghost use Rattle.mpx_waiting.specs.ToldLines.{follows, is_same_place, member_text, members_text, place_in, place_text, placed_text, row_text, standing};
 
 use crate::number_text::push_decimal;
 use join_core::OutOfMemory;
