@@ -355,7 +355,11 @@ fn is_under(
 
 // Whether of these the third alone is joined at its place, in a map that has all their keys.
 fn is_third(changes: &Changes<Max>) -> bool {
-    matches!(changes.values(), [(2, Max(9))])
+    let values = changes.values();
+    match values.first() {
+        None => false,
+        Some(change) => (values.len() == 1) & (change.0 == 2) & change.1.same(&Max(9)),
+    }
 }
 
 // Whether the change, put in once and once more, has come and gone.
