@@ -33,8 +33,8 @@ impl<J> Changes<J> {
         &self.values
     }
 
-    // Exchanges these values with those at their places. Where there is no such place nothing is exchanged.
-    pub(crate) fn exchange<K>(&mut self, entries: &mut Vec<(K, J)>)
+    /// Exchanges these values with those at their places. Where there is no such place nothing is exchanged.
+    pub fn exchange<K>(&mut self, entries: &mut Vec<(K, J)>)
         ensures entries { entries.new.items ≡ set_values entries.old.items self.old.values.items }
         ensures changes { self.new.values.items ≡ taken entries.old.items self.old.values.items }
     {
