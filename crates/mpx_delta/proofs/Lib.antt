@@ -11,6 +11,7 @@ pub mod RunsSay
 pub mod Kept
 pub mod Steps
 pub mod Leaning
+pub mod InPlace
 pub mod Serving
 pub mod Lesser
 pub mod Reaching

@@ -34,7 +34,7 @@ module _ {K V W : Type 0} (f : K → V → Option W) where
     look_both [] ys = refl
     look_both (x ∷ xs) ys = ap (λ l. (x.0, look x.1) ∷ l) (look_both xs ys)
 
-    one_more : (i : ℕ) (e : K × J) → i < length es → e ≡ get_or es i e → kept f (seen view (take (i + 1) es)) ≡ kept f (seen view (take i es)) ++ with_key e.0 (f e.0 (view e.1)) []
+    pub one_more : (i : ℕ) (e : K × J) → i < length es → e ≡ get_or es i e → kept f (seen view (take (i + 1) es)) ≡ kept f (seen view (take i es)) ++ with_key e.0 (f e.0 (view e.1)) []
     one_more i e lt is =
         ap (λ l. kept f (seen view l)) (take_more es i e lt ∙ ap (λ x. take i es ++ x ∷ []) (sym is))
         ∙ ap (kept f) (seen_both (take i es) (e ∷ []))

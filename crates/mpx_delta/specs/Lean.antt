@@ -1,11 +1,12 @@
 -- A board without posts, by the maps that it is made of.
-use Rattle.std.specs.Prelude.{ℕ, Option, Some, None, cond, nat_lt}
+use Rattle.std.specs.Prelude.{ℕ, List, Option, Some, None, cond, nat_lt}
 use Rattle.join_core.specs.Flat.{FlatView}
 use Rattle.join_nest.specs.Lift.{live, dead}
+use Rattle.join_nest.specs.Placed.{with_values}
 use Rattle.join_nest.specs.Trunc.{TruncView, trunc_of}
 use Rattle.mpx_name.specs.Name.{Name}
 use Rattle.mpx_post.specs.Posts.{Given}
-use Rattle.mpx_board.specs.Parts.{AcksView, CallView, EntryView, LiftedView}
+use Rattle.mpx_board.specs.Parts.{AcksView, CallView, EntryView, LiftedView, PartsView}
 use Rattle.mpx_board.specs.Tidy.{is_silent}
 use Rattle.mpx_delta.specs.Keep.{keep, unless_bare}
 use Rattle.mpx_delta.specs.Digests.{numbers_acked}
@@ -34,3 +35,7 @@ unless_silent l = cond (is_silent l) None (Some l)
 
 abbrev pub lean_context : AcksView → Name → LiftedView → Option LiftedView
 lean_context d name l = unless_silent (lean_lifted (numbers_acked d name) l)
+
+-- the board with these contexts at their places
+abbrev pub with_contexts : PartsView → List (ℕ × LiftedView) → PartsView
+with_contexts v cs = (with_values v.0 cs, v.1)

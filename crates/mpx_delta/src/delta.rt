@@ -112,7 +112,11 @@ fn lean_context(
 }
 
 // What is known of a context, without the posts below the numbers.
-fn lean_entry(alloc: Global, entry: &Entry, numbers: &VersionVector) -> Result<Entry, OutOfMemory>
+pub fn lean_entry(
+    alloc: Global,
+    entry: &Entry,
+    numbers: &VersionVector,
+) -> Result<Entry, OutOfMemory>
     ensures { IfOk result (λ made. view_of_entry made ≡ lean_entry (number_at (view_of_numbers numbers.now)) (view_of_entry entry.now)) }
 {
     let first = entry.first.copy(alloc)?;

@@ -13,6 +13,7 @@ ghost use Rattle.mpx_delta.specs.Lacking.{AreFramesOf, AreLacking, AreSpelled};
 use crate::delta::lean_contexts;
 use crate::digest::digest_of;
 use crate::packing::parts;
+use crate::places::{exchange_contexts, lean_places};
 use crate::posted::common_of_posts;
 use join_core::{OutOfMemory, Pair};
 use join_nest::Keyed;
@@ -89,8 +90,8 @@ fn kept_frames(
     lean_frames(alloc, board, processes, limit, spare, kept)
 }
 
-// The frames of the board without the posts that all of so many processes say that they have, in parts: of the board itself, where it has
-// no such post.
+// The frames of the board without the posts that all of so many processes say that they have, in parts. Its contexts stand in the board
+// without these meanwhile, unless one would say nothing then.
 fn lean_frames(
     alloc: Global,
     board: &mut Board,
@@ -111,7 +112,32 @@ fn lean_frames(
     if shared.is_empty() {
         return frames_of(alloc, board, limit, spare, kept);
     }
-    let mut lean = lean_of(alloc, board, &shared)?;
+    let Some(mut changes) = lean_places(alloc, &board.pair().first, &shared)? else {
+        return copied_frames(alloc, board, &shared, limit, spare, kept);
+    };
+    exchange_contexts(alloc, board, &mut changes);
+    let made = frames_of(alloc, board, limit, spare, kept);
+    exchange_contexts(alloc, board, &mut changes);
+    drop(changes);
+    made
+}
+
+// The frames of a copy of the board without the posts below these numbers, to which what all say is lent.
+fn copied_frames(
+    alloc: Global,
+    board: &mut Board,
+    shared: &Acks,
+    limit: usize,
+    spare: &mut Vec<Rope>,
+    kept: &Kept,
+) -> Result<Vec<Rope>, OutOfMemory>
+    requires least { 524288 ≤ limit }
+    requires most { limit ≤ 1048576 }
+    requires kept { AreKept kept.now.of.items (parts_of board.old).1 }
+    ensures board { parts_of board.new ≡ parts_of board.old }
+    ensures frames { IfOk result (λ made. AreFramesOf limit (without (numbers_acked (view_of_acks shared.now)) (look board.old)) made.items) }
+{
+    let mut lean = lean_of(alloc, board, shared)?;
     board.swap_acks(&mut lean);
     let made = frames_of(alloc, &lean, limit, spare, kept);
     board.swap_acks(&mut lean);

@@ -21,6 +21,7 @@ mod least;
 mod limits;
 mod packing;
 mod pieces;
+mod places;
 mod posted;
 mod walk;
 
