@@ -1,10 +1,13 @@
-//! What the digest of a board says, what all processes acknowledge, and what deltas leave out.
+//! What the digest of a board says, what all processes acknowledge, and what deltas and frames leave out.
 use crate::board_rows::{BoardStep, board_of};
 use crate::long_boards::long_board;
 use join_core::Exact;
 use mpx_board::{Acks, Board};
-use mpx_delta::{common, delta_for, digest_of};
+use mpx_delta::{common, delta_for, digest_of, new_frames};
+use mpx_format::Kept;
 use mpx_name::Name;
+use mpx_rope::Rope;
+use mpx_wire::decode;
 use std::alloc::Global;
 use std::process::Abort;
 use std::test::Fail;
@@ -111,6 +114,66 @@ fn are_raised(rt: &impl Abort, alloc: Global) -> Result<bool, Fail> {
     told
 }
 
+// A call that both processes acknowledge, of a context that is known, and of one of which nothing else is known.
+const KNOWN: &[BoardStep] = &[
+    BoardStep::Members(2),
+    BoardStep::Acknowledges(0, 0, 1),
+    BoardStep::Acknowledges(1, 0, 1),
+    BoardStep::Adds(0, 0, &[1], Ok(())),
+];
+
+const KNOWN_WITHOUT: &[BoardStep] = &[
+    BoardStep::Members(2),
+    BoardStep::Acknowledges(0, 0, 1),
+    BoardStep::Acknowledges(1, 0, 1),
+];
+
+const POSTED: &[BoardStep] = &[
+    BoardStep::Acknowledges(0, 0, 1),
+    BoardStep::Acknowledges(1, 0, 1),
+    BoardStep::Adds(0, 0, &[1], Ok(())),
+];
+
+const POSTED_WITHOUT: &[BoardStep] = &[
+    BoardStep::Acknowledges(0, 0, 1),
+    BoardStep::Acknowledges(1, 0, 1),
+];
+
+// Whether this is the only frame, and it spells the board.
+fn is_frame_of(alloc: Global, frames: &[Rope], board: &Board) -> Result<bool, Fail> {
+    match frames {
+        [frame] => {
+            let bytes = frame.joined(alloc)?;
+            Ok(decode(alloc, &bytes)?.same(board))
+        }
+        _ => Ok(false),
+    }
+}
+
+// Process 0 of two frames the board as the other, without the posts that both acknowledge, and keeps it.
+fn is_framed_as(
+    rt: &impl Abort,
+    alloc: Global,
+    steps: &[BoardStep],
+    wanted: &[BoardStep],
+) -> Result<bool, Fail> {
+    let mut board = board_of(rt, alloc, "framed", steps)?;
+    let before = board.copy(alloc)?;
+    let mut kept = Kept::new(alloc);
+    let mut spare = Vec::new(alloc);
+    let made = new_frames(
+        alloc,
+        &mut board,
+        proc(0),
+        2,
+        524_288,
+        &mut spare,
+        &mut kept,
+    )?;
+    let wanted = board_of(rt, alloc, "wanted", wanted)?;
+    Ok(board.same(&before) && is_frame_of(alloc, &made.frames, &wanted)?)
+}
+
 #[test]
 fn digests_and_deltas(rt: HostRuntime) -> Result<(), Fail> {
     let alloc = rt.alloc();
@@ -120,5 +183,7 @@ fn digests_and_deltas(rt: HostRuntime) -> Result<(), Fail> {
     assert!(rt; leaves_out(&rt, alloc)?);
     assert!(rt; has_a_short_delta(alloc)?);
     assert!(rt; are_raised(&rt, alloc)?);
+    assert!(rt; is_framed_as(&rt, alloc, KNOWN, KNOWN_WITHOUT)?);
+    assert!(rt; is_framed_as(&rt, alloc, POSTED, POSTED_WITHOUT)?);
     Ok(())
 }

@@ -1,5 +1,5 @@
 -- Contexts without posts, set at their places, and what stays as it is.
-use Rattle.std.proofs.Common.{arith, ◌≡◌, ℕ, zero, suc, ◌<◌, ◌≤◌, ◌+◌, ◌&&◌, Bool, true, false, T, not, cond, List, [], ◌∷◌, ◌++◌, length, take, get_or, map, Option, Some, None, refl, sym, ap, ◌∙◌, subst, nat_lt, nat_le}
+use Rattle.std.proofs.Common.{arith, ◌≡◌, ℕ, zero, suc, ◌<◌, ◌≤◌, ◌+◌, ◌&&◌, Bool, true, false, not, cond, List, [], ◌∷◌, ◌++◌, length, take, get_or, Option, Some, None, refl, sym, ap, ◌∙◌, subst, nat_lt, nat_le}
 use Rattle.std.specs.Prelude.{option_and_then}
 use Rattle.std.proofs.lemmas.Bool.Decides.{nat_tests}
 use Rattle.std.proofs.lemmas.List.{take_more, take_all}
@@ -7,7 +7,7 @@ use Rattle.std.specs.Ordering.{nat_cmp}
 use Rattle.std.specs.Cmp.{nat_cmp_total}
 use Rattle.std.specs.FinMap.{empty as no_entry, from_sorted, get, is_sorted, same_map, nat_cmp-IsAntisymmetric}
 use Rattle.join_core.specs.Flat.{FlatView}
-use Rattle.join_core.specs.Cases.{yes, no, answer, both_true, first_true, second_true}
+use Rattle.join_core.specs.Cases.{both_true, first_true, second_true}
 use Rattle.join_nest.specs.Entries.{with_key}
 use Rattle.join_nest.specs.Lift.{live, dead}
 use Rattle.join_nest.specs.Placed.{rise_from, set_value, set_values, taken, with_values}
@@ -25,7 +25,7 @@ use Rattle.mpx_board.specs.Parts.{AcksView, CallView, EntryView, LiftedView, OfN
 use Rattle.mpx_board.specs.Tidy.{all_entries, are_tidy_acks, are_tidy_entries, are_tidy_posts, has_no_zero, is_bare, is_neat_entry, is_tidy, is_tidy_call, is_tidy_lifted, is_unknown, says_nothing}
 use Rattle.mpx_board.proofs.Entries.{entries_get}
 use Rattle.mpx_delta.specs.Keep.{keep, kept, unless_bare}
-use Rattle.mpx_delta.specs.Lean.{lean_call, lean_calls, lean_context, lean_entry, lean_post, unless_silent, with_contexts}
+use Rattle.mpx_delta.specs.Lean.{lean_call, lean_calls, lean_context, lean_post, unless_silent, with_contexts}
 use Rattle.mpx_delta.proofs.Kept.{get_keep}
 use Rattle.mpx_delta.proofs.Leaning.{lean_tidy, trunc_is}
 use Rattle.mpx_delta.proofs.Steps.{one_more}

@@ -1,5 +1,5 @@
 -- The numbers of the context, or none.
-use Rattle.std.proofs.Common.{◌≡◌, true, Some, subst, sym, ap, ◌∙◌}
+use Rattle.std.proofs.Common.{◌≡◌, Some, subst, sym, ap, ◌∙◌}
 use Rattle.std.specs.Option.{option_copied, option_map}
 use Rattle.join_nest.specs.Lift.{live}
 use Rattle.mpx_board.specs.Tidy.{is_tidy_lifted}
