@@ -88,15 +88,6 @@ module _ {K J V : Type 0} (view : J → V) (S : (Fact → Type 0) → K × V →
       (λ P all. subst (All (λ e. S P (e.0, view e.1))) (sym (take_all i es le)) (All-unmap (S P) (λ e. (e.0, view e.1)) es (subst (All (S P)) (sym is) all)))
       h
 
--- an entry of a list that passes a test
-module _ {K J V : Type 0} (view : J → V) (p : K × V → Bool) where
-  passes : (es : List (K × J)) → list_all p (seen view es) ≡ true → list_all (λ e. p (e.0, view e.1)) es ≡ true
-  passes [] h = refl
-  passes (e ∷ es) h = both_true (p (e.0, view e.1)) (list_all (λ e. p (e.0, view e.1)) es) (first_true (p (e.0, view e.1)) (list_all p (seen view es)) h) (passes es (second_true (p (e.0, view e.1)) (list_all p (seen view es)) h))
-
-  pub passes_at : (es : List (K × J)) (vs : List (K × V)) (i : ℕ) (e : K × J) → i < length es → e ≡ get_or es i e → seen view es ≡ vs → list_all p vs ≡ true → p (e.0, view e.1) ≡ true
-  passes_at es vs i e lt at is h = subst (λ x. p (x.0, view x.1) ≡ true) (sym at) (AllPass-from_list_all (λ x. p (x.0, view x.1)) es (passes es (ap (list_all p) is ∙ h)) i e lt)
-
 -- nothing is said of the context beside the posts
 pub no_head : (P : Fact → Type 0) (name : Name) (e : EntryView) → has_head e ≡ false → SaysHead P name e
 no_head P name e h = record {

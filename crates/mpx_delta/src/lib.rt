@@ -13,7 +13,6 @@
 
 mod bounds;
 mod delta;
-mod digest;
 mod entry_runs;
 mod framed;
 mod lacking;
@@ -25,8 +24,8 @@ mod posted;
 mod walk;
 
 pub use delta::delta_for;
-pub use digest::digest_of;
 pub use framed::{NewFrames, new_frames};
 pub use lacking::{NewList, deltas, new_list};
 pub use least::common;
+pub use mpx_digest::digest_of;
 pub use packing::parts;
