@@ -1,14 +1,11 @@
 -- Pieces added one after another.
 use Rattle.std.proofs.Common.{◌≡◌, ◌≤◌, ◌<◌, ◌+◌, ℕ, Bool, true, false, List, [], ◌∷◌, ◌++◌, length, map, take, get_or, nat_eq, nat_lt, Option, Some, None, refl, sym, ap, ◌∙◌, subst, arith}
 use Rattle.std.specs.Prelude.{All, not, ◌||◌, IfSome}
-use Rattle.std.specs.List.{list_all}
 use Rattle.std.specs.FinMap.{entries, len, len-entries}
 use Rattle.std.proofs.lemmas.List.{take_more, take_all, nil_from_length}
 use Rattle.std.proofs.lemmas.Bool.Decides.{nat_tests}
 use Rattle.std.proofs.lemmas.Option.{same_Some}
-use Rattle.std.proofs.lemmas.List.Sums.{AllPass-from_list_all}
 use Rattle.std.proofs.lemmas.List.Elements.{All-nil, All-map, All-push, All-head, All-tail, All-cons}
-use Rattle.join_core.specs.Cases.{both_true, first_true, second_true}
 use Rattle.join_core.specs.Flat.{FlatView, unknown, known, clash}
 use Rattle.join_nest.specs.Seen.{seen}
 use Rattle.mpx_name.specs.Name.{Name}

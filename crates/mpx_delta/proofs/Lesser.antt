@@ -1,5 +1,5 @@
 -- The lesser numbers of two digests, and the least that a board's processes acknowledge.
-use Rattle.std.proofs.Common.{arith, ◌≡◌, ℕ, zero, suc, ◌<◌, ◌≤◌, ◌+◌, min, false, true, cond, List, [], ◌∷◌, ◌++◌, map, not, nat_lt, nat_le, subst, Option, Some, None, refl, sym, ap, ◌∙◌}
+use Rattle.std.proofs.Common.{arith, ◌≡◌, ℕ, zero, suc, ◌<◌, ◌≤◌, ◌+◌, min, false, true, List, [], ◌∷◌, ◌++◌, map, not, nat_lt, nat_le, Option, Some, None, refl, sym, ap, ◌∙◌}
 use Rattle.std.specs.Prelude.{option_and_then}
 use Rattle.std.proofs.lemmas.Bool.Decides.{nat_tests}
 use Rattle.std.proofs.lemmas.Option.{same_Some}
@@ -8,7 +8,7 @@ use Rattle.std.specs.Option.{option_map}
 use Rattle.std.specs.Ordering.{nat_cmp}
 use Rattle.std.specs.Cmp.{nat_cmp_total}
 use Rattle.std.specs.FinMap.{get, get-empty, empty as no_entry, nat_cmp-IsAntisymmetric}
-use Rattle.join_core.specs.Cases.{yes, no, answer, both_true, second_true}
+use Rattle.join_core.specs.Cases.{yes, no, answer, second_true}
 use Rattle.mpx_name.specs.Name.{Name}
 use Rattle.mpx_name.specs.Order.{name_cmp, name_total, name_exact}
 use Rattle.mpx_birth.specs.Orders.{upto}
@@ -20,9 +20,10 @@ use Rattle.join_nest.specs.KeyedLaws.{leq_gets}
 use Rattle.mpx_board.specs.Parts.{OfProcesses, AcksView, PartsView, acks_joining, numbers_joining}
 use Rattle.mpx_board.specs.Tidy.{is_bare, has_no_zero, is_tidy_numbers, are_tidy_numbers, is_tidy_acks, are_tidy_acks, are_tidy_entries, is_tidy}
 use Rattle.mpx_board.proofs.Entries.{all_empty, bare_gets, entries_get, get_entries}
-use Rattle.mpx_digest.specs.Keep.{keep, unless_bare}
+use Rattle.mpx_digest.specs.Keep.{keep}
 use Rattle.mpx_digest.specs.Digest.{number_at, numbers_acked}
 use Rattle.mpx_digest.proofs.Kept.{get_keep}
+use Rattle.mpx_digest.proofs.Bare.{bare_number, unless_bare_tidy}
 use Rattle.mpx_delta.specs.Digests.{common_on}
 use Rattle.mpx_delta.specs.Least.{least, least_context, least_number, least_numbers}
 

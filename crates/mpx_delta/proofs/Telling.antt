@@ -21,6 +21,7 @@ use Rattle.mpx_board.proofs.Entries.{bare_gets}
 use Rattle.mpx_digest.specs.Digest.{number_at, numbers_acked}
 use Rattle.mpx_digest.specs.Keep.{keep}
 use Rattle.mpx_digest.proofs.Kept.{get_keep}
+use Rattle.mpx_digest.proofs.Gaps.{lower, not_lower}
 use Rattle.mpx_digest.proofs.Bare.{bare_number}
 use Rattle.mpx_delta.specs.Digests.{common_on, without, without_posts}
 use Rattle.mpx_delta.specs.Posted.{above, if_above, least_above, least_context, least_from, least_posted, lesser, said_on}
