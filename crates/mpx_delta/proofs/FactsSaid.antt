@@ -1,13 +1,13 @@
 -- What the parts of a board say, fact by fact, is what the board has.
-use Rattle.std.proofs.Common.{◌≡◌, ◌≢◌, ◌<◌, ℕ, Bool, true, false, T, List, [], ◌∷◌, Option, Some, None, refl, sym, ap, ◌∙◌, subst, nat_lt, arith}
-use Rattle.std.specs.Prelude.{All, not, ◌&&◌}
+use Rattle.std.proofs.Common.{◌≡◌, ◌≢◌, ◌<◌, ℕ, true, false, T, List, [], ◌∷◌, Option, Some, None, refl, sym, ap, ◌∙◌, subst, nat_lt, arith}
+use Rattle.std.specs.Prelude.{All, not}
 use Rattle.std.proofs.lemmas.Bool.Decides.{nat_tests}
 use Rattle.std.proofs.lemmas.List.Elements.{All-nil, All-cons, All-head, All-tail}
 use Rattle.std.specs.declared.cmp.Ordering.{Ordering}
-use Rattle.std.specs.Ordering.{nat_cmp, eq_by_cmp}
+use Rattle.std.specs.Ordering.{eq_by_cmp}
 use Rattle.std.specs.Cmp.{IsTotalOrder, nat_cmp_total}
 use Rattle.std.specs.FinMap.{FinMap, find, is_sorted, entries, entries_sorted, get, get-entries, nat_cmp-IsAntisymmetric, IsAntisymmetric}
-use Rattle.join_core.specs.Flat.{FlatView, unknown, known, clash}
+use Rattle.join_core.specs.Flat.{FlatView, unknown}
 use Rattle.join_core.specs.Cases.{answer, yes, no, is_tied, first, second, first_true, second_true}
 use Rattle.join_nest.specs.EntriesLaws.{find_first, find_below, below_tied}
 use Rattle.join_nest.specs.Lift.{live, dead}
@@ -19,7 +19,7 @@ use Rattle.mpx_board.specs.Parts.{OfProcesses, CallView, EntryView, LiftedView, 
 use Rattle.mpx_board.specs.Contexts.{or_zero, or_unknown, post_in, or_nothing, number_acked, ack_in, look_of}
 use Rattle.mpx_board.specs.Tidy.{is_unknown, is_bare, all_entries, has_no_zero, are_tidy_posts, is_tidy_call, says_nothing, is_neat_entry, is_tidy_lifted, are_tidy_entries, is_tidy_numbers, is_tidy_acks, are_tidy_acks, is_tidy}
 use Rattle.mpx_board.proofs.Entries.{entries_get}
-use Rattle.mpx_delta.specs.Facts.{SaysPost, SaysCall, SaysHead, SaysEntry, SaysLifted, SaysNumbers, SaysAcks, SaysParts}
+use Rattle.mpx_delta.specs.Facts.{SaysPost, SaysCall, SaysEntry, SaysLifted, SaysNumbers, SaysAcks, SaysParts}
 
 -- LOOK-UPS AND ENTRIES
 

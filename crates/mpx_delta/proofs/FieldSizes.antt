@@ -1,10 +1,9 @@
 -- How long the spellings of names, births and posts are.
-use Rattle.std.proofs.Common.{◌≡◌, ◌≤◌, ◌<◌, ◌+◌, ◌-◌, ◌*◌, ◌/◌, ℕ, zero, suc, Bool, true, false, not, List, [], ◌∷◌, ◌++◌, length, reverse, map, Option, Some, None, refl, sym, ap, ◌∙◌, subst, length-append, arith}
-use Rattle.std.specs.Prelude.{All, ℤ, ◌&&◌, nat_le, nat_lt}
-use Rattle.std.specs.Int.{w16, w32}
+use Rattle.std.proofs.Common.{◌≡◌, ◌≤◌, ◌+◌, ◌-◌, ◌*◌, ◌/◌, ℕ, zero, suc, Bool, true, false, List, [], ◌∷◌, ◌++◌, length, reverse, map, Option, Some, None, refl, sym, ap, ◌∙◌, subst, arith}
+use Rattle.std.specs.Prelude.{All, ℤ, nat_le}
+use Rattle.std.specs.Int.{w16}
 use Rattle.std.specs.Option.{option_map}
-use Rattle.std.specs.List.{sum, sum_by}
-use Rattle.std.proofs.Math.Nat.{suc-mul}
+use Rattle.std.specs.List.{sum}
 use Rattle.std.proofs.lemmas.Bool.Decides.{nat_tests}
 use Rattle.std.proofs.lemmas.List.Sums.{sum-map, sum_by-cons}
 use Rattle.join_core.specs.Cases.{first_true, second_true}
@@ -17,28 +16,24 @@ use Rattle.mpx_kind.specs.declared.kinds.Kind.{Kind}
 use Rattle.mpx_kind.specs.declared.kinds.Makes.{Makes}
 use Rattle.mpx_kind.specs.declared.kinds.Makes.TheVariants as M
 use Rattle.mpx_kind.specs.Kinds.{fields_of, is_had}
-use Rattle.mpx_group.specs.Group.{IsGroup}
-use Rattle.mpx_group.proofs.Members.{length_distinct}
 use Rattle.mpx_name.specs.declared.steps.Step.{Step}
 use Rattle.mpx_name.specs.declared.steps.Step.TheVariants.{Child, Gathering}
 use Rattle.mpx_name.specs.Name.{Name, IsStep, IsName}
-use Rattle.mpx_birth.specs.declared.edges.Edge.{Edge}
 use Rattle.mpx_birth.specs.declared.edges.Neighbour.{Neighbour}
-use Rattle.mpx_birth.specs.Births.{BirthView, is_birth}
-use Rattle.mpx_birth.specs.Topologies.{Near, TopologyView, is_topology, IsKept, IsTopology, sources_in_all, destinations_in_all, most_neighbours}
+use Rattle.mpx_birth.specs.Births.{BirthView}
+use Rattle.mpx_birth.specs.Topologies.{Near, TopologyView, is_topology, sources_in_all, destinations_in_all, most_neighbours}
 use Rattle.mpx_post.specs.declared.making.Making.{Making}
 use Rattle.mpx_post.specs.declared.making.Making.TheVariants.{Nothing, Split, Group, Edges, Neighbours}
-use Rattle.mpx_post.specs.Posts.{Given, IsPost, IsWithin, AreCounts, few_items, group_of, edges_of, sources_of, destinations_of, group_in, edges_in, sources_in, destinations_in}
-use Rattle.mpx_post.specs.Graphs.{AreEdges, AreNeighbours, most_edges}
-use Rattle.mpx_post.specs.Ranks.{AreRanks}
+use Rattle.mpx_post.specs.Posts.{Given, few_items, group_in, edges_in, sources_in, destinations_in}
+use Rattle.mpx_post.specs.Graphs.{most_edges}
 use Rattle.mpx_format.specs.declared.versions.Version.TheVariants.{Two}
-use Rattle.mpx_format.specs.Format.{Format, nothing, byte, number, both, only, through, spelled_by, many, many_spelled, counted, tagged}
+use Rattle.mpx_format.specs.Format.{Format, byte, number, spelled_by, many_spelled, counted}
 use Rattle.mpx_format.specs.Fields.{process, member, member_count, members, call, colour, tag, child, gathering, step, step_count, steps, name}
-use Rattle.mpx_format.specs.Codes.{kind, mode, operation, item_type, flag, missing, there, when}
-use Rattle.mpx_format.specs.Births.{weight, neighbour, neighbours, near, nears, topology_form, topology, birth, ranks_where}
-use Rattle.mpx_format.specs.Posts.{type_for, no_list, count, counts, counts_if, integer, item_count, items, items_for, choice, split, ranks, group, edge, edge_count, edges, few_neighbours, own, making_for, nums_of, post}
+use Rattle.mpx_format.specs.Codes.{kind, mode, operation, item_type, flag, when}
+use Rattle.mpx_format.specs.Births.{weight, neighbour, neighbours, near, nears, topology, birth, ranks_where}
+use Rattle.mpx_format.specs.Posts.{type_for, count, counts, counts_if, integer, item_count, items, items_for, choice, split, ranks, group, edge, edge_count, edges, few_neighbours, own, making_for, nums_of, post}
 use Rattle.mpx_delta.specs.Limits.{IsShortBirth, IsShortPost}
-use Rattle.mpx_delta.proofs.Sizes.{Short, joined_len, byte_short, short16, short32, both_short, each_len, many_len, counted_len}
+use Rattle.mpx_delta.proofs.Sizes.{Short, joined_len, byte_short, short16, short32, each_len, many_len, counted_len}
 
 -- NAMES
 

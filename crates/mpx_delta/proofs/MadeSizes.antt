@@ -1,8 +1,8 @@
 -- A frame of one piece is short.
-use Rattle.std.proofs.Common.{◌≡◌, ◌≤◌, ◌<◌, ◌+◌, ◌*◌, ℕ, zero, suc, Bool, true, false, cond, List, [], ◌∷◌, ◌++◌, length, reverse, refl, sym, ap, ◌∙◌, subst, length-append, arith, nat_lt}
-use Rattle.std.specs.Prelude.{All, ◌||◌, Some, None}
+use Rattle.std.proofs.Common.{◌≡◌, ◌≤◌, ◌+◌, ◌*◌, ℕ, suc, Bool, true, false, cond, List, [], ◌∷◌, ◌++◌, length, reverse, refl, sym, ap, ◌∙◌, subst, length-append, arith, nat_lt}
+use Rattle.std.specs.Prelude.{◌||◌}
 use Rattle.std.specs.List.{list_any}
-use Rattle.std.specs.Int.{w16, w32}
+use Rattle.std.specs.Int.{w32}
 use Rattle.std.proofs.lemmas.Bool.Decides.{nat_tests}
 use Rattle.std.specs.Ordering.{nat_cmp}
 use Rattle.std.specs.FinMap.{FinMap, entries, len, len-entries}
@@ -13,18 +13,17 @@ use Rattle.mpx_name.specs.Name.{Name, IsName}
 use Rattle.mpx_name.specs.Order.{name_cmp}
 use Rattle.mpx_birth.specs.Births.{BirthView}
 use Rattle.mpx_post.specs.Posts.{Given}
-use Rattle.mpx_board.specs.Parts.{OfProcesses, OfNames, CallView, EntryView, LiftedView, AcksView, PartsView}
+use Rattle.mpx_board.specs.Parts.{OfProcesses, CallView, EntryView, LiftedView, AcksView, PartsView}
 use Rattle.mpx_format.specs.declared.versions.Version.TheVariants.{Two}
-use Rattle.mpx_format.specs.Format.{Format, nothing, byte, number, mark, both, only, through, spelled_by, many, many_spelled, counted, tagged}
-use Rattle.mpx_format.specs.Rising.{keyed, entry, always}
+use Rattle.mpx_format.specs.Format.{byte, number}
+use Rattle.mpx_format.specs.Rising.{keyed, always}
 use Rattle.mpx_format.specs.Fields.{process, call, name, name_count, some_byte, some_calls, some_names, fronts, numbers, acks, all_acks}
 use Rattle.mpx_format.specs.Births.{birth}
-use Rattle.mpx_format.specs.Posts.{post}
 use Rattle.mpx_format.specs.Contexts.{told, posted, call_posts, calls, held, progress, context, lifted, says_something, parts, frame}
 use Rattle.mpx_format.specs.Encoding.{most_names, has_many_names, is_too_long, length_told}
 use Rattle.mpx_format.specs.Decoding.{most_bytes}
 use Rattle.mpx_delta.specs.Limits.{IsShortBirth, IsShortPost}
-use Rattle.mpx_delta.proofs.Sizes.{Short, joined_len, byte_short, short16, short32, counted_len, keyed_one, keyed_none, keyed_len}
+use Rattle.mpx_delta.proofs.Sizes.{Short, joined_len, byte_short, short16, short32, keyed_one, keyed_none, keyed_len}
 use Rattle.mpx_delta.proofs.FieldSizes.{process_short, call_short, name_len, birth_len, post_len}
 use Rattle.mpx_delta.proofs.Made.{IsContext, IsPosted, IsHead, IsNumbers}
 

@@ -1,12 +1,12 @@
 -- How long spellings are.
-use Rattle.std.proofs.Common.{◌≡◌, ◌≤◌, ◌<◌, ◌+◌, ◌*◌, ◌/◌, ℕ, zero, suc, Bool, true, false, not, List, [], ◌∷◌, ◌++◌, length, reverse, map, Option, Some, None, refl, sym, ap, ◌∙◌, subst, length-append, arith}
-use Rattle.std.specs.Prelude.{All, ℤ, ◌≢◌}
+use Rattle.std.proofs.Common.{◌≡◌, ◌≤◌, ◌+◌, ◌*◌, ℕ, Bool, List, [], ◌∷◌, ◌++◌, length, None, sym, subst, length-append, arith}
+use Rattle.std.specs.Prelude.{All}
 use Rattle.std.specs.Int.{w16, w32}
 use Rattle.std.proofs.Math.Nat.{suc-mul}
 use Rattle.std.proofs.lemmas.List.Elements.{All-head, All-tail}
 use Rattle.std.specs.declared.cmp.Ordering.{Ordering}
 use Rattle.std.specs.FinMap.{FinMap, entries}
-use Rattle.mpx_format.specs.Format.{Format, nothing, byte, number, mark, both, only, through, spelled_by, many, many_spelled, counted, tagged}
+use Rattle.mpx_format.specs.Format.{Format, byte, number, both, many_spelled, counted}
 use Rattle.mpx_format.specs.Rising.{keyed, entry}
 
 -- no spelling has more than n bytes

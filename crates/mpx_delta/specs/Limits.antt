@@ -1,5 +1,5 @@
 -- What the types of posts and births keep, so that a frame of one of them is short.
-use Rattle.std.specs.Prelude.{◌≡◌, ◌≤◌, ◌+◌, ℕ, true, length, Some}
+use Rattle.std.specs.Prelude.{◌≡◌, ◌≤◌, ◌+◌, true, length, Some}
 use Rattle.mpx_birth.specs.Births.{BirthView}
 use Rattle.mpx_birth.specs.Topologies.{TopologyView, is_topology}
 use Rattle.mpx_post.specs.Posts.{Given, few_items, group_of, edges_of, sources_of, destinations_of}

@@ -1,8 +1,6 @@
 -- Joined with the last ones, where that fits.
-use Rattle.std.proofs.Common.{◌≡◌, ◌≤◌, ◌<◌, ◌++◌, ◌∷◌, [], List, Result, Ok, Err, sym, ap, ◌∙◌, subst}
+use Rattle.std.proofs.Common.{◌≤◌, ◌<◌, ◌++◌, ◌∷◌, [], Result, Ok, Err, sym, ap, ◌∙◌, subst}
 use Rattle.std.specs.Result.{OnOk}
-use Rattle.mpx_board.specs.Looks.{parts_of}
-use Rattle.mpx_board.specs.Parts.{parts_joining}
 use Rattle.mpx_format.specs.Encoding.{length_told}
 use Rattle.mpx_delta.specs.Pieces.{NoNeighboursFit, SayTogether}
 use Rattle.mpx_delta.proofs.Joining.{front_apart, last_apart, says_fused, says_itself}

@@ -1,8 +1,5 @@
 -- One board more, and all of them.
-use Rattle.std.proofs.Common.{rules, [], ◌∷◌, ◌++◌, sym, subst, ap}
-use Rattle.std.proofs.lemmas.Iterator.Adapters.{YieldsList-from_vec}
-use Rattle.std.proofs.lemmas.Iterator.Consumers.{YieldsList-end}
-use Rattle.mpx_delta.specs.Pieces.{SayTogether}
+use Rattle.std.proofs.Common.{[], ◌∷◌, ◌++◌}
 use Rattle.mpx_delta.proofs.Joining.{says_before, says_then}
 use Rattle.mpx_delta.proofs.packing.fused.Goals as goal
 

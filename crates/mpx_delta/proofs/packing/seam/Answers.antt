@@ -1,5 +1,5 @@
 -- Joined with the first, where that fits.
-use Rattle.std.proofs.Common.{◌≡◌, ◌≤◌, subst}
+use Rattle.std.proofs.Common.{◌≤◌, subst}
 use Rattle.mpx_delta.proofs.Joining.{says_first}
 use Rattle.mpx_delta.proofs.packing.seam.Goals as goal
 
