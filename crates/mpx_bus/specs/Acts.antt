@@ -3,12 +3,12 @@ use Rattle.std.specs.Prelude.{◌≡◌, ◌≤◌, ◌⊎◌, ℕ, List, [], �
 use Rattle.mpx_name.specs.Name.{Name}
 use Rattle.mpx_num.specs.declared.own.Operation.{Operation}
 use Rattle.mpx_board.specs.declared.board.Board.{Board}
-use Rattle.mpx_board.specs.Boards.{Fact, Has, IsBetween}
+use Rattle.mpx_board.specs.Boards.{Fact, Has, IsBetween, Numbers}
 use Rattle.mpx_board.specs.Looks.{look}
 use Rattle.mpx_board.specs.Contexts.{look_of}
 use Rattle.mpx_board.specs.Parts.{PartsView}
 use Rattle.mpx_format.specs.Decoding.{IsSpelled}
-use Rattle.mpx_delta.specs.Digests.{Numbers, HasUpTo}
+use Rattle.mpx_delta.specs.Digests.{HasUpTo}
 use Rattle.mpx_node.specs.Nodes.{NodeView}
 use Rattle.mpx_world.specs.Worlds.{ProcessView, WorldView, harvests, gathers, prunes, learns, acknowledges, start, IsSeen}
 use Rattle.mpx_world.specs.Drafted.{posts}

@@ -1,14 +1,11 @@
 -- Pieces added one after another.
 use Rattle.std.proofs.Common.{◌≡◌, ◌≤◌, ◌<◌, ◌+◌, ℕ, Bool, true, false, List, [], ◌∷◌, ◌++◌, length, map, take, get_or, nat_eq, nat_lt, Option, Some, None, refl, sym, ap, ◌∙◌, subst, arith}
 use Rattle.std.specs.Prelude.{All, not, ◌||◌, IfSome}
-use Rattle.std.specs.List.{list_all}
 use Rattle.std.specs.FinMap.{entries, len, len-entries}
 use Rattle.std.proofs.lemmas.List.{take_more, take_all, nil_from_length}
 use Rattle.std.proofs.lemmas.Bool.Decides.{nat_tests}
 use Rattle.std.proofs.lemmas.Option.{same_Some}
-use Rattle.std.proofs.lemmas.List.Sums.{AllPass-from_list_all}
 use Rattle.std.proofs.lemmas.List.Elements.{All-nil, All-map, All-push, All-head, All-tail, All-cons}
-use Rattle.join_core.specs.Cases.{both_true, first_true, second_true}
 use Rattle.join_core.specs.Flat.{FlatView, unknown, known, clash}
 use Rattle.join_nest.specs.Seen.{seen}
 use Rattle.mpx_name.specs.Name.{Name}
@@ -87,15 +84,6 @@ module _ {K J V : Type 0} (view : J → V) (S : (Fact → Type 0) → K × V →
       (λ P all. subst (All (S P)) is (All-map (S P) (λ e. (e.0, view e.1)) es (subst (All (λ e. S P (e.0, view e.1))) (take_all i es le) all)))
       (λ P all. subst (All (λ e. S P (e.0, view e.1))) (sym (take_all i es le)) (All-unmap (S P) (λ e. (e.0, view e.1)) es (subst (All (S P)) (sym is) all)))
       h
-
--- an entry of a list that passes a test
-module _ {K J V : Type 0} (view : J → V) (p : K × V → Bool) where
-  passes : (es : List (K × J)) → list_all p (seen view es) ≡ true → list_all (λ e. p (e.0, view e.1)) es ≡ true
-  passes [] h = refl
-  passes (e ∷ es) h = both_true (p (e.0, view e.1)) (list_all (λ e. p (e.0, view e.1)) es) (first_true (p (e.0, view e.1)) (list_all p (seen view es)) h) (passes es (second_true (p (e.0, view e.1)) (list_all p (seen view es)) h))
-
-  pub passes_at : (es : List (K × J)) (vs : List (K × V)) (i : ℕ) (e : K × J) → i < length es → e ≡ get_or es i e → seen view es ≡ vs → list_all p vs ≡ true → p (e.0, view e.1) ≡ true
-  passes_at es vs i e lt at is h = subst (λ x. p (x.0, view x.1) ≡ true) (sym at) (AllPass-from_list_all (λ x. p (x.0, view x.1)) es (passes es (ap (list_all p) is ∙ h)) i e lt)
 
 -- nothing is said of the context beside the posts
 pub no_head : (P : Fact → Type 0) (name : Name) (e : EntryView) → has_head e ≡ false → SaysHead P name e

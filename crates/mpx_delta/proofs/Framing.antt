@@ -23,9 +23,10 @@ use Rattle.mpx_format.specs.declared.versions.Version.TheVariants.{Two}
 use Rattle.mpx_format.specs.Contexts.{frame}
 use Rattle.mpx_format.specs.Decoding.{Spells, most_bytes}
 use Rattle.mpx_format.specs.Encoding.{is_too_long, length_told}
+use Rattle.mpx_digest.specs.Digest.{IsDigest, Numbers, numbers_acked}
+use Rattle.mpx_digest.specs.Keep.{keep}
 use Rattle.mpx_delta.specs.Facts.{OnlyFactsOf}
-use Rattle.mpx_delta.specs.Digests.{IsDigest, Numbers, common_on, numbers_acked, without}
-use Rattle.mpx_delta.specs.Keep.{keep}
+use Rattle.mpx_delta.specs.Digests.{common_on, without}
 use Rattle.mpx_delta.specs.Lacking.{AreFramesOf, AreLacking, AreSpelled}
 use Rattle.mpx_delta.specs.Lean.{lean_context}
 use Rattle.mpx_delta.proofs.Leaning.{lean_said, without_only}

@@ -3,7 +3,6 @@ use Rattle.std.proofs.lemmas.Option.{same_Some}
 use Rattle.std.proofs.lemmas.Bool.Decides.{nat_tests}
 use Rattle.std.proofs.Common.{arith, ◌≤◌, ◌<◌, ◌≡◌, ◌≢◌, ℕ, ◌&&◌, Bool, true, false, cond, not, Option, Some, None, T, List, [], ◌∷◌, refl, sym, ap, ◌∙◌, subst}
 use Rattle.std.specs.Prelude.{nat_le, nat_lt, option_and_then}
-use Rattle.std.specs.declared.cmp.Ordering.{Ordering}
 use Rattle.std.specs.Ordering.{nat_cmp}
 use Rattle.std.specs.Cmp.{nat_cmp_total}
 use Rattle.std.specs.FinMap.{FinMap, get, get-empty, empty as no_entry, nat_cmp-IsAntisymmetric}
@@ -23,10 +22,11 @@ use Rattle.mpx_post.specs.Drafts.{most_calls}
 use Rattle.mpx_board.specs.Parts.{OfNames, OfProcesses, CallView, EntryView, LiftedView, AcksView, PartsView}
 use Rattle.mpx_board.specs.Tidy.{is_bare, is_unknown, all_entries, has_no_zero, are_tidy_posts, is_tidy_call, says_nothing, is_silent, is_neat_entry, is_tidy_lifted, are_tidy_entries, is_tidy_acks, are_tidy_acks, is_tidy}
 use Rattle.mpx_board.proofs.Entries.{all_empty, bare_gets, entries_get, get_entries}
-use Rattle.mpx_delta.specs.Keep.{kept, keep, unless_bare}
-use Rattle.mpx_delta.specs.Digests.{Numbers, number_at, numbers_acked, without, without_posts}
+use Rattle.mpx_digest.specs.Keep.{kept, keep, unless_bare}
+use Rattle.mpx_digest.specs.Digest.{Numbers, number_at, numbers_acked}
+use Rattle.mpx_digest.proofs.Kept.{get_keep}
+use Rattle.mpx_delta.specs.Digests.{without, without_posts}
 use Rattle.mpx_delta.specs.Lean.{lean_post, lean_call, lean_calls, lean_entry, unless_silent, lean_context}
-use Rattle.mpx_delta.proofs.Kept.{get_keep}
 
 either : (b : Bool) → ◌≡◌ {A = FlatView Given} unknown (cond b unknown unknown)
 either true = refl
@@ -205,14 +205,6 @@ says_none l made is t = ap (λ x. unless_silent x) (sym is) ∙ said (is_silent 
   said true t = refl
   said false t = cc
 
-pub empty_some : {A : Type 0} (b : Bool) (o : Option A) → not b ≡ true → cond b None o ≡ o
-empty_some true o h = cc
-empty_some false o h = refl
-
-pub empty_none : {A : Type 0} (b : Bool) (o : Option A) → not b ≡ false → cond b None o ≡ None
-empty_none true o h = refl
-empty_none false o h = cc
-
 -- calls with this front and these values
 pub trunc_is : (r : TruncView CallView) (d : ℕ) (m : FinMap nat_cmp CallView) → r.dropped ≡ d → r.calls ≡ m → r ≡ trunc_of d m
 trunc_is r d m front is = same_trunc r (trunc_of d m) front (λ q. elim (answer (nat_le r.dropped q)) [
@@ -238,12 +230,6 @@ pub post_cut : (k n : ℕ) (v : FlatView Given) → k < n → cond (nat_lt k n) 
 post_cut k n v lt = ap (λ b. cond b None (Some v)) (lower k n lt) where
   lower : (k n : ℕ) → k < n → nat_lt k n ≡ true
   lower k n lt = grind (arith, nat_tests)
-
-pub bare_some : {K V : Type 0} {R : K → K → Ordering} (made lean : FinMap R V) → made ≡ lean → (b : Bool) → b ≡ is_bare made → not b ≡ true → unless_bare lean ≡ Some made
-bare_some made lean is b told h = ap unless_bare (sym is) ∙ ap (λ x. cond x None (Some made)) (sym told) ∙ empty_some b (Some made) h
-
-pub bare_none : {K V : Type 0} {R : K → K → Ordering} (made lean : FinMap R V) → made ≡ lean → (b : Bool) → b ≡ is_bare made → not b ≡ false → unless_bare lean ≡ None
-bare_none made lean is b told h = ap unless_bare (sym is) ∙ ap (λ x. cond x None (Some made)) (sym told) ∙ empty_none b (Some made) h
 
 -- THE NUMBERS OF ONE CONTEXT
 

@@ -1,5 +1,5 @@
 -- The lesser numbers of two digests, and the least that a board's processes acknowledge.
-use Rattle.std.proofs.Common.{arith, ◌≡◌, ℕ, zero, suc, ◌<◌, ◌≤◌, ◌+◌, min, false, true, cond, List, [], ◌∷◌, ◌++◌, map, not, nat_lt, nat_le, subst, Option, Some, None, refl, sym, ap, ◌∙◌}
+use Rattle.std.proofs.Common.{arith, ◌≡◌, ℕ, zero, suc, ◌<◌, ◌≤◌, ◌+◌, min, false, true, List, [], ◌∷◌, ◌++◌, map, not, nat_lt, nat_le, Option, Some, None, refl, sym, ap, ◌∙◌}
 use Rattle.std.specs.Prelude.{option_and_then}
 use Rattle.std.proofs.lemmas.Bool.Decides.{nat_tests}
 use Rattle.std.proofs.lemmas.Option.{same_Some}
@@ -8,7 +8,7 @@ use Rattle.std.specs.Option.{option_map}
 use Rattle.std.specs.Ordering.{nat_cmp}
 use Rattle.std.specs.Cmp.{nat_cmp_total}
 use Rattle.std.specs.FinMap.{get, get-empty, empty as no_entry, nat_cmp-IsAntisymmetric}
-use Rattle.join_core.specs.Cases.{yes, no, answer, both_true, second_true}
+use Rattle.join_core.specs.Cases.{yes, no, answer, second_true}
 use Rattle.mpx_name.specs.Name.{Name}
 use Rattle.mpx_name.specs.Order.{name_cmp, name_total, name_exact}
 use Rattle.mpx_birth.specs.Orders.{upto}
@@ -20,16 +20,12 @@ use Rattle.join_nest.specs.KeyedLaws.{leq_gets}
 use Rattle.mpx_board.specs.Parts.{OfProcesses, AcksView, PartsView, acks_joining, numbers_joining}
 use Rattle.mpx_board.specs.Tidy.{is_bare, has_no_zero, is_tidy_numbers, are_tidy_numbers, is_tidy_acks, are_tidy_acks, are_tidy_entries, is_tidy}
 use Rattle.mpx_board.proofs.Entries.{all_empty, bare_gets, entries_get, get_entries}
-use Rattle.mpx_delta.specs.Keep.{keep, unless_bare}
-use Rattle.mpx_delta.specs.Digests.{common_on, number_at, numbers_acked}
+use Rattle.mpx_digest.specs.Keep.{keep}
+use Rattle.mpx_digest.specs.Digest.{number_at, numbers_acked}
+use Rattle.mpx_digest.proofs.Kept.{get_keep}
+use Rattle.mpx_digest.proofs.Bare.{bare_number, unless_bare_tidy}
+use Rattle.mpx_delta.specs.Digests.{common_on}
 use Rattle.mpx_delta.specs.Least.{least, least_context, least_number, least_numbers}
-use Rattle.mpx_delta.proofs.Kept.{get_keep}
-
-pub bare_number : (m : OfProcesses ℕ) (p : ℕ) → number_acked p (unless_bare m) ≡ number_at m p
-bare_number m p = elim (answer (is_bare m)) [
-  | yes t ↦ ap (λ b. number_acked p (cond b None (Some m))) t ∙ ap or_zero (sym (bare_gets nat_cmp_total nat_cmp-IsAntisymmetric m t p))
-  | no f ↦ ap (λ b. number_acked p (cond b None (Some m))) f
-]
 
 lesser : (x y : Option ℕ) → or_zero (option_and_then (λ n. option_map (min n) y) x) ≡ min (or_zero x) (or_zero y)
 lesser None y = omega arith
@@ -143,13 +139,6 @@ pub bare_numbers : (d : AcksView) → is_bare d ≡ true → (name : Name) (p : 
 bare_numbers d bare name p = ap (number_acked p) (bare_gets name_total name_exact d bare name)
 
 -- NO NUMBER IS 0
-
--- some entries, with no 0
-pub unless_bare_tidy : (m : OfProcesses ℕ) (n : OfProcesses ℕ) → has_no_zero m ≡ true → unless_bare m ≡ Some n → is_tidy_numbers n ≡ true
-unless_bare_tidy m n neat is = elim (answer (is_bare m)) [
-  | yes t ↦ cc (sym (ap (λ b. cond b None (Some m)) t) ∙ is)
-  | no f ↦ subst (λ x. is_tidy_numbers x ≡ true) (same_Some m n (sym (ap (λ b. cond b None (Some m)) f) ∙ is)) (both_true (not (is_bare m)) (has_no_zero m) (ap not f) neat)
-]
 
 module _ (others : OfProcesses ℕ) (neat : has_no_zero others ≡ true) where
   lesser_some : (a n : ℕ) (y : Option ℕ) → nat_lt 0 a ≡ true → ((b : ℕ) → y ≡ Some b → nat_lt 0 b ≡ true) → option_map (min a) y ≡ Some n → nat_lt 0 n ≡ true

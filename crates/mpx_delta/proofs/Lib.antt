@@ -8,15 +8,10 @@ pub mod Rising
 pub mod Joining
 pub mod Halves
 pub mod RunsSay
-pub mod Kept
-pub mod Steps
 pub mod Leaning
 pub mod InPlace
 pub mod Serving
 pub mod Lesser
-pub mod Reaching
-pub mod Passing
-pub mod Gaps
 pub mod Saying
 pub mod Telling
 pub mod Framing

@@ -7,7 +7,8 @@ use Rattle.mpx_board.specs.Boards.{Look, empty, join, own_acks}
 use Rattle.mpx_board.specs.Contexts.{look_of}
 use Rattle.mpx_board.specs.Parts.{PartsView}
 use Rattle.mpx_board.proofs.Telling.{nothing_told}
-use Rattle.mpx_delta.specs.Digests.{Acknowledges, IsDigest, Numbers}
+use Rattle.mpx_digest.specs.Digest.{IsDigest, Numbers}
+use Rattle.mpx_delta.specs.Digests.{Acknowledges}
 
 look_learnt : (v : PartsView) (me : ℕ) (numbers : Numbers) (acks : ℕ → Name → ℕ → ℕ) → acks ≡ (join (look_of v) (own_acks me numbers)).acks → record (look_of v) { acks = acks } ≡ join (look_of v) (own_acks me numbers)
 unfolding look_of

@@ -9,7 +9,8 @@ use Rattle.mpx_post.specs.Posts.{Given}
 use Rattle.mpx_post.specs.Equality.{same_given, given_equality}
 use Rattle.mpx_birth.specs.Births.{birth_equality}
 use Rattle.mpx_board.specs.Boards.{Context, Look, gone, join, join_contexts, join_live}
-use Rattle.mpx_delta.specs.Digests.{Numbers, Covers, without, without_posts}
+use Rattle.mpx_digest.specs.Digest.{Numbers}
+use Rattle.mpx_delta.specs.Digests.{Covers, without, without_posts}
 
 -- what stands adds nothing
 above : (d k : ℕ) (v w : FlatView Given) → (k < d) ⊎ (flat_leq same_given v w ≡ true) → nat_le d k ≡ true → flat_join same_given w unknown ≡ flat_join same_given v w

@@ -18,11 +18,14 @@ use Rattle.mpx_board.specs.Contexts.{ack_in, context_of, look_of, number_acked, 
 use Rattle.mpx_board.specs.Parts.{AcksView, CallView, EntryView, LiftedView, OfProcesses, PartsView}
 use Rattle.mpx_board.specs.Tidy.{is_bare}
 use Rattle.mpx_board.proofs.Entries.{bare_gets}
-use Rattle.mpx_delta.specs.Digests.{common_on, number_at, numbers_acked, without, without_posts}
-use Rattle.mpx_delta.specs.Keep.{keep}
+use Rattle.mpx_digest.specs.Digest.{number_at, numbers_acked}
+use Rattle.mpx_digest.specs.Keep.{keep}
+use Rattle.mpx_digest.proofs.Kept.{get_keep}
+use Rattle.mpx_digest.proofs.Gaps.{lower, not_lower}
+use Rattle.mpx_digest.proofs.Bare.{bare_number}
+use Rattle.mpx_delta.specs.Digests.{common_on, without, without_posts}
 use Rattle.mpx_delta.specs.Posted.{above, if_above, least_above, least_context, least_from, least_posted, lesser, said_on}
-use Rattle.mpx_delta.proofs.Kept.{get_keep}
-use Rattle.mpx_delta.proofs.Lesser.{bare_number, common_more}
+use Rattle.mpx_delta.proofs.Lesser.{common_more}
 
 -- NUMBERS ABOVE A CALL
 
@@ -38,12 +41,6 @@ over_zero call = either (nat_lt call 0) 0
 
 or_above : (call n : ℕ) → or_zero (if_above call n) ≡ over call n
 or_above call n = elim (nat_lt call n) as (λ b. or_zero (cond b (Some n) None) ≡ cond b n 0) [ true ↦ refl | false ↦ refl ]
-
-pub lower : (k n : ℕ) → nat_lt k n ≡ false → n ≤ k
-lower k n f = grind (arith, nat_tests)
-
-pub not_lower : (k n : ℕ) → n ≤ k → nat_lt k n ≡ false
-not_lower k n le = grind (arith, nat_tests)
 
 over_none : (call n : ℕ) → n ≤ call → over call n ≡ 0
 over_none call n le = ap (λ b. cond b n 0) (not_lower call n le)

@@ -8,8 +8,8 @@ use Rattle.mpx_name.specs.Name.{Name}
 use Rattle.mpx_post.specs.Posts.{Given}
 use Rattle.mpx_board.specs.Parts.{AcksView, CallView, EntryView, LiftedView, PartsView}
 use Rattle.mpx_board.specs.Tidy.{is_silent}
-use Rattle.mpx_delta.specs.Keep.{keep, unless_bare}
-use Rattle.mpx_delta.specs.Digests.{numbers_acked}
+use Rattle.mpx_digest.specs.Keep.{keep, unless_bare}
+use Rattle.mpx_digest.specs.Digest.{numbers_acked}
 
 -- a post of call k at or above its process's number
 abbrev pub lean_post : (ℕ → ℕ) → (k p : ℕ) → FlatView Given → Option (FlatView Given)

@@ -4,8 +4,8 @@ use Rattle.std.specs.FinMap.{empty, entries, get}
 use Rattle.join_nest.specs.Lift.{live, dead}
 use Rattle.mpx_name.specs.Name.{Name}
 use Rattle.mpx_board.specs.Parts.{AcksView, CallView, LiftedView, OfProcesses}
-use Rattle.mpx_delta.specs.Digests.{number_at}
-use Rattle.mpx_delta.specs.Keep.{keep, unless_bare}
+use Rattle.mpx_digest.specs.Digest.{number_at}
+use Rattle.mpx_digest.specs.Keep.{keep, unless_bare}
 
 -- a number above the call
 abbrev pub if_above : ℕ → ℕ → Option ℕ

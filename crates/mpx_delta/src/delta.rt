@@ -4,10 +4,11 @@ ghost use Rattle.mpx_board.specs.Boards.{Look, join, join_all};
 ghost use Rattle.mpx_board.specs.Looks.{look, parts_of};
 ghost use Rattle.mpx_board.specs.Views.{view_of_acks, view_of_call, view_of_calls, view_of_entries, view_of_entry, view_of_lifted, view_of_numbers};
 ghost use Rattle.mpx_format.specs.Encoding.{length_told};
+ghost use Rattle.mpx_digest.specs.Digest.{number_at, numbers_acked};
+ghost use Rattle.mpx_digest.specs.Keep.{keep};
 ghost use Rattle.mpx_delta.specs.Facts.{OnlyFactsOf};
 ghost use Rattle.mpx_delta.specs.Pieces.{NoNeighboursFit};
-ghost use Rattle.mpx_delta.specs.Digests.{Covers, number_at, numbers_acked, without};
-ghost use Rattle.mpx_delta.specs.Keep.{keep};
+ghost use Rattle.mpx_delta.specs.Digests.{Covers, without};
 ghost use Rattle.mpx_delta.specs.Lean.{lean_call, lean_calls, lean_context, lean_entry, lean_lifted, lean_post};
 
 use crate::packing::parts;

@@ -6,8 +6,9 @@ ghost use Rattle.mpx_name.specs.Name.{Name as NameView};
 ghost use Rattle.mpx_board.specs.Looks.{look};
 ghost use Rattle.mpx_board.specs.Tidy.{are_tidy_numbers};
 ghost use Rattle.mpx_board.specs.Views.{view_of_acks, view_of_numbers};
-ghost use Rattle.mpx_delta.specs.Digests.{common_on, numbers_acked};
-ghost use Rattle.mpx_delta.specs.Keep.{keep};
+ghost use Rattle.mpx_digest.specs.Digest.{numbers_acked};
+ghost use Rattle.mpx_digest.specs.Keep.{keep};
+ghost use Rattle.mpx_delta.specs.Digests.{common_on};
 ghost use Rattle.mpx_delta.specs.Least.{least, least_number, least_numbers};
 
 use join_core::{Exact, Join, Key, Max, OutOfMemory};

@@ -5,15 +5,14 @@
 //! into single posts and what is said of it beside them (`src/pieces.rt`). Pieces are joined again, half by half, as far as
 //! frames reach ([`parts`]). Contracts see what a piece says by its facts (`specs/Facts.antt`, `specs/Pieces.antt`).
 //!
-//! A digest says, for each context and process, how many of that process's calls are known in order ([`digest_of`]), as
-//! acknowledgements do; the least that all processes acknowledge is [`common`]; and [`delta_for`] gives the rest of a board in
+//! A digest says, for each context and process, how many of that process's calls are known in order ([`digest_of`], of
+//! `mpx_digest`), as acknowledgements do; the least that all processes acknowledge is [`common`]; and [`delta_for`] gives the rest of a board in
 //! parts, which serve each board that has what the digest says. [`new_list`] makes all of that for one process from its board
 //! as it stands, and [`deltas`] also stores what the process says.
 #![tactic(auto)]
 
 mod bounds;
 mod delta;
-mod digest;
 mod entry_runs;
 mod framed;
 mod lacking;
@@ -26,8 +25,8 @@ mod posted;
 mod walk;
 
 pub use delta::delta_for;
-pub use digest::digest_of;
 pub use framed::{NewFrames, new_frames};
 pub use lacking::{NewList, deltas, new_list};
 pub use least::common;
+pub use mpx_digest::digest_of;
 pub use packing::parts;

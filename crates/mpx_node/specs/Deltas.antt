@@ -7,10 +7,11 @@ use Rattle.mpx_board.specs.Boards.{Look, join_all}
 use Rattle.mpx_board.specs.Looks.{look, parts_of}
 use Rattle.mpx_board.specs.Raised.{Raises}
 use Rattle.mpx_format.specs.Encoding.{length_told}
+use Rattle.mpx_digest.specs.Digest.{IsDigest, Numbers}
 use Rattle.mpx_delta.specs.Facts.{OnlyFactsOf}
 use Rattle.mpx_delta.specs.Pieces.{NoNeighboursFit}
 use Rattle.mpx_delta.specs.Lacking.{AreSpelled}
-use Rattle.mpx_delta.specs.Digests.{IsDigest, Numbers, common_on, without}
+use Rattle.mpx_delta.specs.Digests.{common_on, without}
 use Rattle.mpx_node.specs.Nodes.{NodeView, acknowledge}
 
 -- it says that it has what the digest of its board says, and nothing else is new

@@ -15,7 +15,7 @@ use Rattle.mpx_post.specs.Drafts.{at, checked}
 use Rattle.mpx_post.specs.Gatherings.{GatheringView, gathering}
 pub use Rattle.mpx_board.specs.Boards.{own_acks}
 use Rattle.mpx_board.specs.Boards.{Look, IsBetween, join, join_all, only, told, row_on, Born, Held, Front, Dropped, Dead}
-use Rattle.mpx_delta.specs.Digests.{Numbers}
+use Rattle.mpx_digest.specs.Digest.{Numbers}
 use Rattle.mpx_node.specs.declared.finished.Finished.{Finished}
 use Rattle.mpx_value.specs.declared.outcomes.Outcome.{Outcome}
 use Rattle.mpx_value.specs.declared.outcomes.Outcome.TheVariants.{Nothing}

@@ -9,10 +9,10 @@ use Rattle.join_core.specs.declared.memory.OutOfMemory.{OutOfMemory}
 use Rattle.mpx_num.specs.declared.own.Operation.{Operation}
 use Rattle.mpx_name.specs.Name.{Name}
 use Rattle.mpx_board.specs.declared.errors.PruneError.{PruneError}
-use Rattle.mpx_board.specs.Boards.{Look}
+use Rattle.mpx_board.specs.Boards.{Look, Numbers}
 use Rattle.mpx_board.specs.Changes.{pruned_on}
 use Rattle.mpx_delta.specs.Facts.{OnlyFactsOf}
-use Rattle.mpx_delta.specs.Digests.{Numbers, HasUpTo}
+use Rattle.mpx_delta.specs.Digests.{HasUpTo}
 use Rattle.mpx_comm.specs.declared.comm.Comm.{Comm}
 use Rattle.mpx_comm.specs.Harvested.{Harvested, stay, on}
 use Rattle.mpx_node.specs.declared.finished.Finished.{Finished}

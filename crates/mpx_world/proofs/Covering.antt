@@ -12,7 +12,8 @@ use Rattle.mpx_birth.specs.Births.{upto}
 use Rattle.mpx_board.specs.Boards.{Look, Born, Held, Front, Dropped, Dead, Acknowledged, Stands, IsBoardBelow}
 use Rattle.mpx_board.specs.Changes.{is_posted}
 use Rattle.mpx_board.specs.Tidy.{is_unknown}
-use Rattle.mpx_delta.specs.Digests.{Numbers, HasUpTo, IsDigest, common_on, Covers, without}
+use Rattle.mpx_digest.specs.Digest.{Numbers, IsDigest}
+use Rattle.mpx_delta.specs.Digests.{HasUpTo, common_on, Covers, without}
 use Rattle.mpx_world.specs.Worlds.{WorldView, history}
 use Rattle.mpx_world.specs.Soundness.{AgreesWithFact}
 use Rattle.mpx_world.specs.Covering.{CommonCovers, IsCommon, OwnCovers}

@@ -6,7 +6,8 @@ use Rattle.mpx_birth.specs.Births.{BirthView}
 use Rattle.mpx_name.specs.Name.{Name}
 use Rattle.mpx_num.specs.declared.own.Operation.{Operation}
 use Rattle.mpx_board.specs.Boards.{Look, IsBoardBelow, join_all}
-use Rattle.mpx_delta.specs.Digests.{Numbers, without}
+use Rattle.mpx_digest.specs.Digest.{Numbers}
+use Rattle.mpx_delta.specs.Digests.{without}
 use Rattle.mpx_node.specs.declared.node.Harvest.{Harvest}
 use Rattle.mpx_node.specs.declared.node.Harvest.TheVariants.{Done}
 use Rattle.mpx_node.specs.Harvests.{Harvests as AnswersHarvest}

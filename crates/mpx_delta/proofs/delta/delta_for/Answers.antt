@@ -5,8 +5,9 @@ use Rattle.std.proofs.lemmas.List.Elements.{All-weaker}
 use Rattle.mpx_board.specs.Looks.{look}
 use Rattle.mpx_board.specs.Views.{view_of_acks}
 use Rattle.mpx_board.specs.Boards.{Has, Look, join}
+use Rattle.mpx_digest.specs.Digest.{numbers_acked}
 use Rattle.mpx_delta.specs.Facts.{OnlyFactsOf}
-use Rattle.mpx_delta.specs.Digests.{numbers_acked, without}
+use Rattle.mpx_delta.specs.Digests.{without}
 use Rattle.mpx_delta.proofs.Leaning.{without_only}
 use Rattle.mpx_delta.proofs.Serving.{delta_serves}
 use Rattle.mpx_delta.proofs.delta.delta_for.Goals as goal

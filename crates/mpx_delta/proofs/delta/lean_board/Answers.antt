@@ -4,7 +4,7 @@ use Rattle.mpx_board.specs.Contexts.{look_of}
 use Rattle.mpx_board.specs.Looks.{look, parts_of}
 use Rattle.mpx_board.specs.Parts.{PartsView}
 use Rattle.mpx_board.specs.Views.{view_of_acks}
-use Rattle.mpx_delta.specs.Keep.{keep}
+use Rattle.mpx_digest.specs.Keep.{keep}
 use Rattle.mpx_delta.specs.Lean.{lean_context}
 use Rattle.mpx_delta.proofs.Leaning.{lean_said, lean_tidy}
 use Rattle.mpx_delta.proofs.delta.lean_board.Goals as goal

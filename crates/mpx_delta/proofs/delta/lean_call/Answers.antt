@@ -3,9 +3,9 @@ use Rattle.std.proofs.Common.{◌+◌, ◌<◌, ◌≤◌, refl, ap, sym, ◌∙
 use Rattle.std.specs.Ordering.{nat_cmp}
 use Rattle.join_core.specs.FlatSeen.{flat_view}
 use Rattle.mpx_board.specs.Views.{view_of_numbers}
-use Rattle.mpx_delta.specs.Digests.{number_at}
+use Rattle.mpx_digest.specs.Digest.{number_at}
+use Rattle.mpx_digest.proofs.Steps.{KeptSoFar, kept_none, kept_one, kept_whole, kept_rises}
 use Rattle.mpx_delta.specs.Lean.{lean_post}
-use Rattle.mpx_delta.proofs.Steps.{KeptSoFar, kept_none, kept_one, kept_whole, kept_rises}
 use Rattle.mpx_delta.proofs.Leaning.{post_kept, post_cut}
 use Rattle.mpx_delta.proofs.delta.lean_call.Goals as goal
 use Rattle.mpx_delta.proofs.delta.lean_call.Goals.{then-call-number_at+in_ok-copy+in_ok-push, else-call-number_at}

@@ -6,11 +6,12 @@ use Rattle.join_nest.specs.Seen.{seen}
 use Rattle.join_nest.specs.Cut.{is_from}
 use Rattle.join_nest.specs.TruncSeen.{is_from_seen}
 use Rattle.mpx_board.specs.Views.{view_of_call, view_of_calls, view_of_numbers}
-use Rattle.mpx_delta.specs.Digests.{number_at}
-use Rattle.mpx_delta.specs.Keep.{kept}
+use Rattle.mpx_digest.specs.Digest.{number_at}
+use Rattle.mpx_digest.specs.Keep.{kept}
+use Rattle.mpx_digest.proofs.Steps.{true_of, KeptSoFar, kept_none, kept_one, kept_whole, kept_rises}
+use Rattle.mpx_digest.proofs.Bare.{bare_some, bare_none}
 use Rattle.mpx_delta.specs.Lean.{lean_call}
-use Rattle.mpx_delta.proofs.Steps.{true_of, KeptSoFar, kept_none, kept_one, kept_whole, kept_rises}
-use Rattle.mpx_delta.proofs.Leaning.{bare_some, bare_none, trunc_is, from_kept}
+use Rattle.mpx_delta.proofs.Leaning.{trunc_is, from_kept}
 use Rattle.mpx_delta.proofs.delta.lean_calls.Goals as goal
 use Rattle.mpx_delta.proofs.delta.lean_calls.Goals.{then-not-is_empty+in_ok-push, else-not-is_empty}
 

@@ -2,8 +2,8 @@
 use Rattle.std.proofs.Common.{◌+◌, ap, sym, ◌∙◌, subst}
 use Rattle.mpx_name.specs.Order.{name_cmp}
 use Rattle.mpx_board.specs.Views.{view_of_acks, view_of_lifted}
+use Rattle.mpx_digest.proofs.Steps.{KeptSoFar, kept_none, kept_one, kept_whole, kept_rises}
 use Rattle.mpx_delta.specs.Lean.{lean_context}
-use Rattle.mpx_delta.proofs.Steps.{KeptSoFar, kept_none, kept_one, kept_whole, kept_rises}
 use Rattle.mpx_delta.proofs.Leaning.{says_some, says_none}
 use Rattle.mpx_delta.proofs.delta.lean_contexts.Goals as goal
 use Rattle.mpx_delta.proofs.delta.lean_contexts.Goals.{then-is_said+in_ok-copy+in_ok-push, else-is_said+in-Live-1, else-is_said+in-Dead-1}

@@ -3,7 +3,7 @@ use Rattle.std.proofs.Common.{ap, ◌∙◌}
 use Rattle.mpx_board.specs.Contexts.{look_of}
 use Rattle.mpx_board.specs.Looks.{parts_of}
 use Rattle.mpx_board.specs.Views.{view_of_acks}
-use Rattle.mpx_delta.specs.Keep.{keep}
+use Rattle.mpx_digest.specs.Keep.{keep}
 use Rattle.mpx_delta.specs.Lean.{lean_context}
 use Rattle.mpx_delta.proofs.Leaning.{lean_tidy}
 use Rattle.mpx_delta.proofs.Framing.{lean_own}

@@ -4,7 +4,7 @@ use Rattle.mpx_board.specs.Contexts.{look_of}
 use Rattle.mpx_board.specs.Looks.{parts_of}
 use Rattle.mpx_board.specs.Raised.{StoringLeads}
 use Rattle.mpx_board.specs.Views.{view_of_acks}
-use Rattle.mpx_delta.specs.Digests.{numbers_acked}
+use Rattle.mpx_digest.specs.Digest.{numbers_acked}
 use Rattle.mpx_delta.proofs.Framing.{frames_lack, leads_between, led_back}
 use Rattle.mpx_delta.proofs.Keeping.{still_kept}
 use Rattle.mpx_delta.proofs.framed.new_frames.Goals as goal

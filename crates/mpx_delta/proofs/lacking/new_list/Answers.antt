@@ -5,8 +5,9 @@ use Rattle.std.proofs.lemmas.List.Elements.{All-weaker}
 use Rattle.mpx_board.specs.Boards.{Has, Look, join, own_acks}
 use Rattle.mpx_board.specs.Looks.{look}
 use Rattle.mpx_board.specs.Views.{view_of_acks}
+use Rattle.mpx_digest.specs.Digest.{numbers_acked}
 use Rattle.mpx_delta.specs.Facts.{OnlyFactsOf}
-use Rattle.mpx_delta.specs.Digests.{common_on, numbers_acked, without}
+use Rattle.mpx_delta.specs.Digests.{common_on, without}
 use Rattle.mpx_delta.proofs.Leaning.{without_only}
 use Rattle.mpx_delta.proofs.Saying.{acknowledged}
 use Rattle.mpx_delta.proofs.lacking.new_list.Goals as goal

@@ -1,6 +1,6 @@
 use Rattle.mpx_board.specs.Looks.{parts_of}
 use Rattle.mpx_board.specs.Views.{view_of_acks}
-use Rattle.mpx_delta.specs.Digests.{numbers_acked}
+use Rattle.mpx_digest.specs.Digest.{numbers_acked}
 use Rattle.mpx_delta.proofs.Saying.{raised_alone}
 use Rattle.mpx_delta.proofs.lacking.raised_acks.Goals as goal
 

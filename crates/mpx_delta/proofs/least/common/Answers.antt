@@ -2,7 +2,7 @@
 use Rattle.std.proofs.Common.{arith, min, ap, sym, ◌∙◌}
 use Rattle.mpx_board.specs.Looks.{look}
 use Rattle.mpx_board.specs.Views.{view_of_acks}
-use Rattle.mpx_delta.specs.Digests.{numbers_acked}
+use Rattle.mpx_digest.specs.Digest.{numbers_acked}
 use Rattle.mpx_delta.proofs.Lesser.{bare_numbers, common_more, common_none}
 use Rattle.mpx_delta.proofs.least.common.Goals as goal
 

@@ -3,7 +3,8 @@ use Rattle.mpx_name.specs.Name.{Name}
 use Rattle.mpx_board.specs.Looks.{look}
 use Rattle.mpx_board.specs.Tidy.{are_tidy_numbers}
 use Rattle.mpx_board.specs.Views.{view_of_acks}
-use Rattle.mpx_delta.specs.Digests.{common_on, numbers_acked}
+use Rattle.mpx_digest.specs.Digest.{numbers_acked}
+use Rattle.mpx_delta.specs.Digests.{common_on}
 use Rattle.mpx_delta.proofs.least.common.Given as goal
 
 -- the least of the processes so far

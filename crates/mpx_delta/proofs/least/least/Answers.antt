@@ -2,9 +2,9 @@
 use Rattle.std.proofs.Common.{◌+◌, not, ap, sym, ◌∙◌, subst}
 use Rattle.mpx_name.specs.Order.{name_cmp}
 use Rattle.mpx_board.specs.Views.{view_of_acks, view_of_numbers}
+use Rattle.mpx_digest.proofs.Steps.{KeptSoFar, kept_none, kept_one, kept_whole, kept_rises}
+use Rattle.mpx_digest.proofs.Bare.{bare_some, bare_none}
 use Rattle.mpx_delta.specs.Least.{least_context}
-use Rattle.mpx_delta.proofs.Steps.{KeptSoFar, kept_none, kept_one, kept_whole, kept_rises}
-use Rattle.mpx_delta.proofs.Leaning.{bare_some, bare_none}
 use Rattle.mpx_delta.proofs.least.least.Goals as goal
 use Rattle.mpx_delta.proofs.least.least.Goals.{then-not-is_empty+in_ok-copy+in_ok-push, else-not-is_empty}
 

@@ -1,6 +1,6 @@
 use Rattle.mpx_board.specs.Views.{view_of_acks, view_of_numbers}
+use Rattle.mpx_digest.proofs.Steps.{KeptSoFar}
 use Rattle.mpx_delta.specs.Least.{least_context}
-use Rattle.mpx_delta.proofs.Steps.{KeptSoFar}
 use Rattle.mpx_delta.proofs.least.least.Given as goal
 
 -- the lesser numbers of the contexts so far

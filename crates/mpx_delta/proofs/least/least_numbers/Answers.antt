@@ -3,8 +3,8 @@ use Rattle.std.proofs.Common.{◌+◌, min, Some, refl, ap, sym, ◌∙◌, subs
 use Rattle.std.specs.Option.{option_copied, option_map}
 use Rattle.std.specs.Ordering.{nat_cmp}
 use Rattle.mpx_board.specs.Views.{view_of_numbers}
+use Rattle.mpx_digest.proofs.Steps.{KeptSoFar, kept_none, kept_one, kept_whole, kept_rises}
 use Rattle.mpx_delta.specs.Least.{least_number}
-use Rattle.mpx_delta.proofs.Steps.{KeptSoFar, kept_none, kept_one, kept_whole, kept_rises}
 use Rattle.mpx_delta.proofs.least.least_numbers.Goals as goal
 use Rattle.mpx_delta.proofs.least.least_numbers.Goals.{in-Some+in_ok-push, in_default}
 

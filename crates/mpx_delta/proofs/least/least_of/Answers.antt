@@ -6,7 +6,7 @@ use Rattle.std.proofs.lemmas.Result.{IfOk-weaker}
 use Rattle.mpx_board.specs.Looks.{parts_of}
 use Rattle.mpx_board.specs.Tidy.{are_tidy_numbers}
 use Rattle.mpx_board.specs.Views.{view_of_acks}
-use Rattle.mpx_delta.specs.Digests.{numbers_acked}
+use Rattle.mpx_digest.specs.Digest.{numbers_acked}
 use Rattle.mpx_delta.proofs.Lesser.{acks_none, acks_some, no_numbers, least_at, least_below, least_tidy, none_tidy, said_tidy}
 use Rattle.mpx_delta.proofs.least.least_of.Goals as goal
 

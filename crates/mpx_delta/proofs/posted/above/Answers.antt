@@ -1,8 +1,8 @@
 -- What is kept of one number after another.
 use Rattle.std.proofs.Common.{◌+◌, refl, ap, sym, ◌∙◌, subst}
 use Rattle.std.specs.Ordering.{nat_cmp}
+use Rattle.mpx_digest.proofs.Steps.{KeptSoFar, kept_none, kept_one, kept_whole, kept_rises}
 use Rattle.mpx_delta.specs.Posted.{if_above}
-use Rattle.mpx_delta.proofs.Steps.{KeptSoFar, kept_none, kept_one, kept_whole, kept_rises}
 use Rattle.mpx_delta.proofs.Telling.{is_above, not_above}
 use Rattle.mpx_delta.proofs.posted.above.Goals as goal
 use Rattle.mpx_delta.proofs.posted.above.Goals.{then-call-number+in_ok-push, else-call-number}

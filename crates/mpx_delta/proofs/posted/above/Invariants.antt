@@ -1,5 +1,5 @@
+use Rattle.mpx_digest.proofs.Steps.{KeptSoFar}
 use Rattle.mpx_delta.specs.Posted.{if_above}
-use Rattle.mpx_delta.proofs.Steps.{KeptSoFar}
 use Rattle.mpx_delta.proofs.posted.above.Given as goal
 
 -- the numbers above the call so far

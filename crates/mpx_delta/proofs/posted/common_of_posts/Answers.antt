@@ -4,11 +4,12 @@ use Rattle.std.specs.FinMap.{from_sorted}
 use Rattle.mpx_name.specs.Order.{name_cmp}
 use Rattle.mpx_board.specs.Looks.{look, parts_of}
 use Rattle.mpx_board.specs.Views.{view_of_lifted, view_of_numbers}
-use Rattle.mpx_delta.specs.Digests.{common_on, numbers_acked, without}
-use Rattle.mpx_delta.specs.Keep.{keep, kept}
+use Rattle.mpx_digest.specs.Digest.{numbers_acked}
+use Rattle.mpx_digest.specs.Keep.{keep, kept}
+use Rattle.mpx_digest.proofs.Steps.{KeptSoFar, kept_none, kept_one, kept_whole, kept_rises}
+use Rattle.mpx_digest.proofs.Bare.{bare_some, bare_none}
+use Rattle.mpx_delta.specs.Digests.{common_on, without}
 use Rattle.mpx_delta.specs.Posted.{least_context, least_posted}
-use Rattle.mpx_delta.proofs.Steps.{KeptSoFar, kept_none, kept_one, kept_whole, kept_rises}
-use Rattle.mpx_delta.proofs.Leaning.{bare_some, bare_none}
 use Rattle.mpx_delta.proofs.Telling.{posted_without}
 use Rattle.mpx_delta.proofs.posted.common_of_posts.Goals as goal
 use Rattle.mpx_delta.proofs.posted.common_of_posts.Goals.{then-not-is_empty+in_ok-copy+in_ok-push, else-not-is_empty}

@@ -2,9 +2,9 @@
 use Rattle.std.proofs.Common.{◌+◌, ◌≡◌, min, refl, ap, sym, ◌∙◌, subst}
 use Rattle.std.specs.Ordering.{nat_cmp}
 use Rattle.mpx_board.specs.Views.{view_of_numbers}
-use Rattle.mpx_delta.specs.Digests.{number_at}
+use Rattle.mpx_digest.specs.Digest.{number_at}
+use Rattle.mpx_digest.proofs.Steps.{KeptSoFar, kept_none, kept_one, kept_whole, kept_rises}
 use Rattle.mpx_delta.specs.Posted.{if_above}
-use Rattle.mpx_delta.proofs.Steps.{KeptSoFar, kept_none, kept_one, kept_whole, kept_rises}
 use Rattle.mpx_delta.proofs.Telling.{is_above, not_above}
 use Rattle.mpx_delta.proofs.posted.lesser.Goals as goal
 use Rattle.mpx_delta.proofs.posted.lesser.Goals.{then-call-least+in_ok-push, else-call-least}

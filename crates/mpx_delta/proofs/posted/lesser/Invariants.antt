@@ -1,8 +1,8 @@
 use Rattle.std.proofs.Common.{min}
 use Rattle.mpx_board.specs.Views.{view_of_numbers}
-use Rattle.mpx_delta.specs.Digests.{number_at}
+use Rattle.mpx_digest.specs.Digest.{number_at}
+use Rattle.mpx_digest.proofs.Steps.{KeptSoFar}
 use Rattle.mpx_delta.specs.Posted.{if_above}
-use Rattle.mpx_delta.proofs.Steps.{KeptSoFar}
 use Rattle.mpx_delta.proofs.posted.lesser.Given as goal
 
 -- the lesser numbers above the call so far

@@ -7,9 +7,10 @@ use Rattle.join_core.specs.Cases.{second_true}
 use Rattle.mpx_board.specs.Tidy.{is_bare, is_tidy_acks, is_tidy_numbers}
 use Rattle.mpx_board.specs.Views.{view_of_acks}
 use Rattle.std.specs.Ordering.{nat_cmp}
+use Rattle.mpx_digest.proofs.Steps.{passes_at}
 use Rattle.mpx_delta.specs.Facts.{SaysNumbers, SaysAcks}
 use Rattle.mpx_delta.specs.Pieces.{AddsPieces}
-use Rattle.mpx_delta.proofs.Adding.{adds_piece, passes_at, some_at}
+use Rattle.mpx_delta.proofs.Adding.{adds_piece, some_at}
 use Rattle.mpx_delta.proofs.Halves.{adds_halves, adds_one, adds_none, low_run, high_run}
 use Rattle.mpx_delta.proofs.walk.+add_acks.Goals as goal
 

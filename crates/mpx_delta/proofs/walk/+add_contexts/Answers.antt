@@ -4,8 +4,9 @@ use Rattle.std.proofs.lemmas.Result.{on_ok_weaker}
 use Rattle.mpx_board.specs.Tidy.{is_tidy_lifted}
 use Rattle.mpx_board.specs.Views.{view_of_lifted}
 use Rattle.mpx_name.specs.Order.{name_cmp}
+use Rattle.mpx_digest.proofs.Steps.{passes_at}
 use Rattle.mpx_delta.specs.Facts.{SaysLifted}
-use Rattle.mpx_delta.proofs.Adding.{adds_piece, passes_at, some_at}
+use Rattle.mpx_delta.proofs.Adding.{adds_piece, some_at}
 use Rattle.mpx_delta.proofs.Halves.{adds_halves, adds_one, adds_none, low_run, high_run}
 use Rattle.mpx_delta.proofs.walk.+add_contexts.Goals as goal
 

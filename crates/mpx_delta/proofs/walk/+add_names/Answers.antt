@@ -4,8 +4,9 @@ use Rattle.std.proofs.lemmas.Result.{on_ok_weaker}
 use Rattle.mpx_board.specs.Tidy.{is_tidy_numbers}
 use Rattle.mpx_board.specs.Views.{view_of_numbers}
 use Rattle.mpx_name.specs.Order.{name_cmp}
+use Rattle.mpx_digest.proofs.Steps.{passes_at}
 use Rattle.mpx_delta.specs.Facts.{SaysNumbers}
-use Rattle.mpx_delta.proofs.Adding.{adds_piece, passes_at, some_at}
+use Rattle.mpx_delta.proofs.Adding.{adds_piece, some_at}
 use Rattle.mpx_delta.proofs.Halves.{adds_halves, adds_one, adds_none, low_run, high_run}
 use Rattle.mpx_delta.proofs.walk.+add_names.Goals as goal
 

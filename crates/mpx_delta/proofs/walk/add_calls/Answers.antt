@@ -2,8 +2,9 @@
 use Rattle.std.proofs.lemmas.List.Elements.{All-nil}
 use Rattle.mpx_board.specs.Tidy.{is_tidy_call}
 use Rattle.mpx_board.specs.Views.{view_of_call}
+use Rattle.mpx_digest.proofs.Steps.{passes_at}
 use Rattle.mpx_delta.specs.Facts.{SaysCall}
-use Rattle.mpx_delta.proofs.Adding.{adds_nothing, adds_more, adds_all, passes_at}
+use Rattle.mpx_delta.proofs.Adding.{adds_nothing, adds_more, adds_all}
 use Rattle.mpx_delta.proofs.walk.add_calls.Goals as goal
 
 pub loop-call-init : goal.loop-call-init

@@ -5,8 +5,9 @@ use Rattle.join_core.specs.FlatSeen.{flat_view}
 use Rattle.join_core.specs.Cases.{second_true}
 use Rattle.mpx_board.specs.Tidy.{is_bare, is_unknown, are_tidy_posts}
 use Rattle.mpx_board.specs.Views.{view_of_call}
+use Rattle.mpx_digest.proofs.Steps.{passes_at}
 use Rattle.mpx_delta.specs.Facts.{SaysPost}
-use Rattle.mpx_delta.proofs.Adding.{adds_nothing, adds_piece, adds_more, adds_all, passes_at, told_false}
+use Rattle.mpx_delta.proofs.Adding.{adds_nothing, adds_piece, adds_more, adds_all, told_false}
 use Rattle.mpx_delta.proofs.walk.add_posts.Goals as goal
 
 pub loop-process-init : goal.loop-process-init
