@@ -24,11 +24,11 @@ use Rattle.mpx_board.specs.Contexts.{number_acked, numbers_acked}
 use Rattle.mpx_board.specs.Parts.{AcksView, CallView, EntryView, LiftedView, OfNames, OfProcesses, PartsView}
 use Rattle.mpx_board.specs.Tidy.{all_entries, are_tidy_acks, are_tidy_entries, are_tidy_posts, has_no_zero, is_bare, is_neat_entry, is_tidy, is_tidy_call, is_tidy_lifted, is_unknown, says_nothing}
 use Rattle.mpx_board.proofs.Entries.{entries_get}
-use Rattle.mpx_delta.specs.Keep.{keep, kept, unless_bare}
+use Rattle.mpx_digest.specs.Keep.{keep, kept, unless_bare}
 use Rattle.mpx_delta.specs.Lean.{lean_call, lean_calls, lean_context, lean_post, unless_silent, with_contexts}
-use Rattle.mpx_delta.proofs.Kept.{get_keep}
+use Rattle.mpx_digest.proofs.Kept.{get_keep}
 use Rattle.mpx_delta.proofs.Leaning.{lean_tidy, trunc_is}
-use Rattle.mpx_delta.proofs.Steps.{one_more}
+use Rattle.mpx_digest.proofs.Steps.{one_more}
 
 -- WITHOUT POSTS BELOW 0
 

@@ -5,8 +5,8 @@ ghost use Rattle.join_nest.specs.Seen.{seen};
 ghost use Rattle.mpx_board.specs.Looks.{parts_of};
 ghost use Rattle.mpx_board.specs.Tidy.{are_tidy_entries, is_tidy, is_tidy_lifted};
 ghost use Rattle.mpx_board.specs.Views.{view_of_acks, view_of_entries, view_of_lifted};
-ghost use Rattle.mpx_delta.specs.Digests.{numbers_acked};
-ghost use Rattle.mpx_delta.specs.Keep.{keep};
+ghost use Rattle.mpx_digest.specs.Digest.{numbers_acked};
+ghost use Rattle.mpx_digest.specs.Keep.{keep};
 ghost use Rattle.mpx_delta.specs.Lean.{lean_context, lean_lifted, with_contexts};
 
 use crate::delta::lean_entry;

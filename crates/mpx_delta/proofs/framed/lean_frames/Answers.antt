@@ -7,7 +7,7 @@ use Rattle.mpx_board.specs.Contexts.{look_of}
 use Rattle.mpx_board.specs.Looks.{look, parts_of}
 use Rattle.mpx_board.specs.Tidy.{is_bare}
 use Rattle.mpx_board.specs.Views.{view_of_acks, view_of_entries, view_of_lifted}
-use Rattle.mpx_delta.specs.Keep.{keep}
+use Rattle.mpx_digest.specs.Keep.{keep}
 use Rattle.mpx_delta.specs.Lacking.{AreFramesOf}
 use Rattle.mpx_delta.specs.Lean.{lean_context}
 use Rattle.mpx_delta.proofs.Framing.{lean_own, nothing_left_out}

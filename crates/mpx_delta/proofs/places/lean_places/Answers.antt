@@ -2,9 +2,9 @@
 use Rattle.std.proofs.Common.{◌≡◌, ◌+◌, IfNone, IfSome, Some, subst, sym, ap, ◌∙◌}
 use Rattle.mpx_board.specs.Tidy.{is_tidy_lifted}
 use Rattle.mpx_board.specs.Views.{view_of_acks, view_of_lifted}
-use Rattle.mpx_delta.specs.Digests.{numbers_acked}
+use Rattle.mpx_digest.specs.Digest.{numbers_acked}
 use Rattle.mpx_delta.specs.Lean.{lean_context, lean_lifted}
-use Rattle.mpx_delta.proofs.Adding.{passes_at}
+use Rattle.mpx_digest.proofs.Steps.{passes_at}
 use Rattle.mpx_delta.proofs.InPlace.{PlacedSoFar, place_none, place_one}
 use Rattle.mpx_delta.proofs.Leaning.{says_some}
 use Rattle.mpx_delta.proofs.places.lean_places.Goals as goal

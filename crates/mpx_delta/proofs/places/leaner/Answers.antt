@@ -4,7 +4,7 @@ use Rattle.std.specs.Option.{option_copied, option_map}
 use Rattle.join_nest.specs.Lift.{live}
 use Rattle.mpx_board.specs.Tidy.{is_tidy_lifted}
 use Rattle.mpx_board.specs.Views.{view_of_acks, view_of_entry, view_of_lifted, view_of_numbers}
-use Rattle.mpx_delta.specs.Digests.{numbers_acked}
+use Rattle.mpx_digest.specs.Digest.{numbers_acked}
 use Rattle.mpx_delta.specs.Lean.{lean_context, lean_entry, lean_lifted}
 use Rattle.mpx_delta.proofs.InPlace.{stays_live}
 use Rattle.mpx_delta.proofs.Leaning.{some_numbers}
