@@ -49,6 +49,7 @@ impl FrontKey for Proc {
 }
 
 impl FrontKey for Name {
+    #[inline(always)]
     fn behind<'a>(&self, bytes: &'a [u8]) -> Option<&'a [u8]> {
         let steps = self.steps();
         if steps.len() == 0 {

@@ -1,4 +1,4 @@
-use Rattle.std.proofs.Common.{◌≡◌, reverse, [], ◌∷◌, ap, sym, ◌∙◌}
+use Rattle.std.proofs.Common.{◌≡◌, [], ◌∷◌, ap, sym, ◌∙◌}
 use Rattle.mpx_format.specs.Fields.{steps}
 use Rattle.mpx_name.specs.declared.steps.Step.TheVariants.{Child}
 use Rattle.mpx_encode.proofs.Births.{name_fits_steps, name_of_steps, no_step, one_alone, steps_spelled}
