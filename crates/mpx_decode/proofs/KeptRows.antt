@@ -1,5 +1,5 @@
 -- Rows that are kept as they are spelled: those that stand at the front as they are kept change nothing, and those that change are forgotten.
-use Rattle.std.proofs.Common.{◌≡◌, ◌==◌, ℕ, zero, suc, ◌+◌, ◌-◌, ◌*◌, ◌≤◌, ◌<◌, Bool, true, false, ◌&&◌, cond, List, [], ◌∷◌, ◌++◌, length, min, take, drop, set, get_or, map, inl, inr, Option, Some, None, Ok, refl, sym, ap, ◌∙◌, subst, arith, append_assoc}
+use Rattle.std.proofs.Common.{◌≡◌, ◌==◌, ℕ, zero, suc, ◌+◌, ◌-◌, ◌*◌, ◌≤◌, ◌<◌, Bool, true, false, ◌&&◌, cond, List, [], ◌∷◌, ◌++◌, length, min, take, drop, set, get_or, inl, inr, Option, Some, Ok, refl, sym, ap, ◌∙◌, subst, arith, append_assoc}
 use Rattle.std.proofs.lemmas.List.{drop-map, length-drop, length-map, length-set, length-take-le, map-set, take-append-le, take-map, take_min}
 use Rattle.std.proofs.lemmas.List.Edits.{length-insert}
 use Rattle.std.proofs.Math.Seq.{drop-drop, take-take}
@@ -20,7 +20,7 @@ use Rattle.mpx_format.specs.Kept.{AreKept, ArePieces, IsPiece, Row, pieces_of, r
 use Rattle.mpx_format.proofs.Rows.{behind}
 use Rattle.mpx_name.specs.Name.{Name}
 use Rattle.mpx_board.specs.Parts.{AcksView, OfProcesses}
-use Rattle.mpx_decode.specs.Raising.{IsChangedAt, IsJoinedAt, RaisesRow, RaisesRows, row}
+use Rattle.mpx_decode.specs.Raising.{IsChangedAt, IsJoinedAt, RaisesRows, row}
 use Rattle.mpx_decode.proofs.OneRow.{found, now_found, sorted_at}
 
 -- ONE PIECE

@@ -1,5 +1,5 @@
 //! Acknowledgements joined as their bytes are read.
-ghost use Rattle.std.specs.Prelude.{◌≡◌, ◌≢◌, ◌<◌, ◌-◌, ◌^◌, ℕ, [], IfOk, IfSome, List, Ok, OnErr, length};
+ghost use Rattle.std.specs.Prelude.{◌≡◌, ◌≢◌, ◌<◌, ◌-◌, ◌^◌, ◌∷◌, ℕ, [], IfOk, IfSome, List, Ok, OnErr, length, reverse};
 ghost use Rattle.std.specs.FinMap.{FinMap};
 ghost use Rattle.std.specs.Ordering.{nat_cmp};
 ghost use Rattle.join_core.specs.BetweenLaws.{old_or_joined-laws};
@@ -49,16 +49,67 @@ impl FrontKey for Proc {
 }
 
 impl FrontKey for Name {
+    #[inline(always)]
     fn behind<'a>(&self, bytes: &'a [u8]) -> Option<&'a [u8]> {
         let steps = self.steps();
-        match read_u8(bytes) {
-            Err(_) => None,
-            Ok((count, rest)) => {
-                if count as usize == steps.len() {
-                    behind_steps(steps, rest)
-                } else {
-                    None
-                }
+        if steps.len() == 0 {
+            return behind_world(bytes);
+        }
+        if steps.len() == 1 {
+            if let Step::Child { call, colour } = &steps[0] {
+                return behind_only(*call, *colour, bytes);
+            }
+        }
+        behind_counted(steps, bytes)
+    }
+}
+
+// The bytes behind the name of no step.
+#[tactic(auto, unfolding(mpx_format::specs::Fields::name, mpx_format::specs::Fields::steps, mpx_format::specs::Fields::step_count, mpx_format::specs::Format::many_read))]
+fn behind_world(bytes: &[u8]) -> Option<&[u8]>
+    ensures { IfSome result (λ rest. name.read bytes.now ≡ Ok ([], rest.now)) }
+{
+    match bytes {
+        [] => None,
+        [count, rest @ ..] => { if *count == 0 { Some(rest) } else { None } }
+    }
+}
+
+// The bytes behind the name of this step alone, as most names are.
+fn behind_only(call: u32, colour: u32, bytes: &[u8]) -> Option<&[u8]>
+    requires call { call < 2 ^ 32 - 1 }
+    requires colour { colour < 2 ^ 31 }
+    ensures { IfSome result (λ rest. name.read bytes.now ≡ Ok (Child call colour ∷ [], rest.now)) }
+{
+    // so that its parts are all there
+    if bytes.len() < 10 {
+        return None;
+    }
+    match read_u8(bytes) {
+        Err(_) => None,
+        Ok((count, rest)) => {
+            if count == 1 {
+                behind_child(call, colour, rest)
+            } else {
+                None
+            }
+        }
+    }
+}
+
+// The bytes behind the name of these steps.
+#[inline(never)]
+fn behind_counted<'a>(steps: &[Step], bytes: &'a [u8]) -> Option<&'a [u8]>
+    requires { IsName steps.now }
+    ensures { IfSome result (λ rest. name.read bytes.now ≡ Ok (reverse steps.now, rest.now)) }
+{
+    match read_u8(bytes) {
+        Err(_) => None,
+        Ok((count, rest)) => {
+            if count as usize == steps.len() {
+                behind_steps(steps, rest)
+            } else {
+                None
             }
         }
     }

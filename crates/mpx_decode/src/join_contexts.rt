@@ -9,6 +9,7 @@ ghost use Rattle.join_core.specs.Laws.{old_or_joined};
 ghost use Rattle.join_core.specs.Pair.{pair_between, pair_joining};
 ghost use Rattle.join_nest.specs.Between.{keyed_between, trunc_between};
 ghost use Rattle.join_nest.specs.Keyed.{keyed_joining};
+ghost use Rattle.join_nest.specs.Lift.{dead};
 ghost use Rattle.join_nest.specs.Trunc.{trunc_joining};
 ghost use Rattle.mpx_birth.specs.Births.{same_birth};
 ghost use Rattle.mpx_post.specs.Equality.{given_equality, same_given};
@@ -289,6 +290,7 @@ fn raise_context<'a>(
 }
 
 // The same, where the taker's may be dead.
+#[inline(never)]
 fn raise_live<'a>(
     version: Version,
     source: Source<'_>,
@@ -306,6 +308,23 @@ fn raise_live<'a>(
             Ok((_live, rest)) => Ok(rest),
         },
     }
+}
+
+// Mostly it is dead already, and nothing is written.
+fn bury(known: &mut Lifted)
+    ensures { view_of_lifted known.new ≡ dead }
+{
+    match known {
+        Lift::Dead => {}
+        Lift::Live(_) => let_die(known),
+    }
+}
+
+#[inline(never)]
+fn let_die(known: &mut Lifted)
+    ensures { view_of_lifted known.new ≡ dead }
+{
+    *known = Lift::Dead;
 }
 
 impl WireJoin for Lifted {
@@ -341,7 +360,7 @@ impl WireJoin for Lifted {
                     if form == 0 {
                         raise_live(version, source, self, rest)
                     } else {
-                        *self = Lift::Dead;
+                        bury(self);
                         Ok(rest)
                     }
                 }

@@ -24,11 +24,19 @@ pub length_each : {X : Type 0} (s : X → List ℕ) (n : ℕ) → ((x : X) → l
 length_each s n each [] = omega arith
 length_each s n each (x ∷ xs) = length-append (s x) (flat_map s xs) ∙ omega (arith, each x, length_each s n each xs)
 
+-- none
+pub no_step : (ss : List Step) → length ss ≡ 0 → ss ≡ []
+no_step [] len = refl
+no_step (s ∷ ss) len = absurd (omega (arith, len))
+
 -- one alone
+pub one_alone : {X : Type 0} (xs : List X) (x : X) → length xs ≡ 1 → x ≡ get_or xs 0 x → xs ≡ x ∷ []
+one_alone [] x len is = absurd (omega (arith, len))
+one_alone (y ∷ z ∷ xs) x len is = absurd (omega (arith, len))
+one_alone (y ∷ []) x len is = ap (λ z. z ∷ []) (sym is)
+
 pub one_spelled : {X : Type 0} (s : X → List ℕ) (xs : List X) (x : X) → length xs ≡ 1 → x ≡ get_or xs 0 x → flat_map s xs ≡ s x
-one_spelled s [] x len is = absurd (omega (arith, len))
-one_spelled s (y ∷ z ∷ xs) x len is = absurd (omega (arith, len))
-one_spelled s (y ∷ []) x len is = append-nil (s y) ∙ ap s (sym is)
+one_spelled s xs x len is = ap (flat_map s) (one_alone xs x len is) ∙ append-nil (s x)
 
 -- MEMBERS
 
@@ -146,10 +154,28 @@ length-child k c = ap length (child_spelled k c)
 pub length-gathering : (t : ℕ) (ps : List ℕ) → length (step.spelling (Gathering t ps)) ≡ 4 + length ps
 length-gathering t ps = ap length (gathering_spelled t ps) ∙ length-append ((1 ∷ []) ++ to_be_bytes w16 t) (members.spelling ps) ∙ omega (arith, length-members ps)
 
+pub steps_spelled : (ss : List Step) → steps.spelling ss ≡ (length ss ∷ []) ++ flat_map step.spelling ss
+unfolding steps step_count
+steps_spelled ss = ap (λ l. length ss ∷ l) (many_alike (λ before. step) step.spelling (λ before s. refl) [] ss)
+
+pub steps_pass : (ss : List Step) → steps.fits ss ≡ true → list_all step.fits ss ≡ true
+unfolding steps
+steps_pass ss h = many_pass (λ before. step) step.fits (λ before s e. e) (length ss) [] ss (second_true (step_count.fits (length ss)) (many_fit (λ before. step) (length ss) [] ss) h)
+
+pub steps_below : (ss : List Step) → steps.fits ss ≡ true → length ss < 256
+unfolding steps step_count
+steps_below ss h = ltb-true (length ss) 256 (first_true (nat_lt (length ss) 256) (nat_le (length ss) 8) (first_true (step_count.fits (length ss)) (many_fit (λ before. step) (length ss) [] ss) h))
+
+pub name_of_steps : (n : List Step) → name.spelling n ≡ steps.spelling (reverse n)
+unfolding name
+name_of_steps n = refl
+
+pub name_fits_steps : (n : List Step) → name.fits n ≡ steps.fits (reverse n)
+unfolding name
+name_fits_steps n = refl
+
 pub name_spelled : (n : List Step) → name.spelling n ≡ (length (reverse n) ∷ []) ++ flat_map step.spelling (reverse n)
-unfolding name steps step_count
-name_spelled n = ap (λ l. length (reverse n) ∷ l) (many_alike (λ before. step) step.spelling (λ before s. refl) [] (reverse n))
+name_spelled n = name_of_steps n ∙ steps_spelled (reverse n)
 
 pub name_steps : (n : List Step) → name.fits n ≡ true → list_all step.fits (reverse n) ≡ true
-unfolding name steps
-name_steps n h = many_pass (λ before. step) step.fits (λ before s e. e) (length (reverse n)) [] (reverse n) (second_true (step_count.fits (length (reverse n))) (many_fit (λ before. step) (length (reverse n)) [] (reverse n)) h)
+name_steps n h = steps_pass (reverse n) (sym (name_fits_steps n) ∙ h)

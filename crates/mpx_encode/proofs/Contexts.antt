@@ -12,7 +12,7 @@ use Rattle.join_nest.specs.Cut.{is_from}
 use Rattle.mpx_board.specs.Parts.{CallView, EntryView}
 use Rattle.mpx_post.specs.Posts.{Given}
 use Rattle.mpx_format.specs.declared.versions.Version.TheVariants.{Two}
-use Rattle.mpx_format.specs.Format.{Format, many_fit}
+use Rattle.mpx_format.specs.Format.{many_fit}
 use Rattle.mpx_format.specs.Rising.{entry, always}
 use Rattle.mpx_format.specs.Fields.{call, name_count, some_names, fronts}
 use Rattle.mpx_format.specs.Births.{birth}

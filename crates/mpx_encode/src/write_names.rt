@@ -1,7 +1,7 @@
 //! Writing names of contexts, and lists of members.
-ghost use Rattle.std.specs.Prelude.{◌≡◌, ◌≤◌, ◌+◌, ◌++◌, true, OnOk, IfSome, length};
+ghost use Rattle.std.specs.Prelude.{◌≡◌, ◌≤◌, ◌+◌, ◌++◌, ◌∷◌, [], true, OnOk, IfSome, length};
 ghost use Rattle.std.specs.List.{flat_map, list_all};
-ghost use Rattle.mpx_format.specs.Fields.{members as members_format, name, step};
+ghost use Rattle.mpx_format.specs.Fields.{members as members_format, name, step, steps as steps_format};
 ghost use Rattle.mpx_name.specs.declared.steps.Step.TheVariants.{Child, Gathering};
 ghost use Rattle.mpx_encode.specs.Room.{room_left};
 
@@ -82,16 +82,24 @@ fn room_after_steps(steps: &[Step], room: usize) -> Option<usize>
     room_after_list(steps, room)
 }
 
-// Writes the steps at the end: mostly there is one, to a child.
-fn write_steps(steps: &[Step], out: &mut Rope) -> Result<(), OutOfMemory>
-    requires { list_all step.fits steps.now ≡ true }
-    ensures { OnOk result (out.new ≡ out.old ++ flat_map step.spelling steps.now) }
+// Writes the name of this step alone at the end, as most names are.
+#[tactic(auto, unfolding(mpx_format::specs::Fields::steps, mpx_format::specs::Fields::step_count, mpx_format::specs::Fields::step, mpx_format::specs::Fields::child, mpx_format::specs::Fields::call, mpx_format::specs::Fields::colour))]
+fn write_only(call: u32, colour: u32, out: &mut Rope) -> Result<(), OutOfMemory>
+    ensures { OnOk result (out.new ≡ out.old ++ steps_format.spelling (Child call colour ∷ [])) }
 {
-    if steps.len() == 1 {
-        if let Step::Child { call, colour } = &steps[0] {
-            return write_child(*call, *colour, out);
-        }
-    }
+    let a = call.to_be_bytes();
+    let b = colour.to_be_bytes();
+    out.extend_from_slice(&[1, 0, a[0], a[1], a[2], a[3], b[0], b[1], b[2], b[3]])?;
+    Ok(())
+}
+
+// Writes the name of these steps at the end.
+#[inline(never)]
+fn write_counted(steps: &[Step], out: &mut Rope) -> Result<(), OutOfMemory>
+    requires { steps_format.fits steps.now ≡ true }
+    ensures { OnOk result (out.new ≡ out.old ++ steps_format.spelling steps.now) }
+{
+    write_u8(steps.len() as u8, out)?;
     write_list(steps, out)
 }
 
@@ -110,7 +118,14 @@ impl WriteKey for Name {
 
     fn write(&self, out: &mut Rope) -> Result<(), OutOfMemory> {
         let steps = self.steps();
-        write_u8(steps.len() as u8, out)?;
-        write_steps(steps, out)
+        if steps.len() == 0 {
+            return write_u8(0, out);
+        }
+        if steps.len() == 1 {
+            if let Step::Child { call, colour } = &steps[0] {
+                return write_only(*call, *colour, out);
+            }
+        }
+        write_counted(steps, out)
     }
 }

@@ -1,4 +1,4 @@
-use Rattle.std.proofs.Common.{◌≡◌, ◌*◌, ◌∙◌, ap, sym, length, rules}
+use Rattle.std.proofs.Common.{◌≡◌, ◌*◌, ◌∙◌, ap, length, rules}
 use Rattle.mpx_num.specs.Types.{item_len}
 use Rattle.mpx_decode.proofs.FrontPosts.{bytes_behind}
 use Rattle.mpx_decode.proofs.front_posts.behind_items.Goals as goal

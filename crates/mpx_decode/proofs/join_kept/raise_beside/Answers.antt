@@ -1,8 +1,6 @@
 use Rattle.std.proofs.Common.{ap, sym, subst, ◌∙◌}
 use Rattle.std.specs.FinMap.{entries}
-use Rattle.std.specs.Ordering.{nat_cmp}
 use Rattle.join_nest.proofs.Views.{entries_of}
-use Rattle.join_nest.specs.Seen.{keyed_view, seen}
 use Rattle.mpx_name.specs.Order.{name_cmp}
 use Rattle.mpx_board.specs.Parts.{numbers_between, numbers_joining}
 use Rattle.mpx_board.specs.Views.{view_of_acks, view_of_numbers}

@@ -1,4 +1,4 @@
-use Rattle.std.proofs.Common.{◌≡◌, List, [], length, sym, subst, ap, ◌∙◌, arith}
+use Rattle.std.proofs.Common.{◌≡◌, length, sym, subst, arith}
 use Rattle.join_nest.specs.Seen.{seen}
 use Rattle.mpx_board.specs.Views.{view_of_numbers}
 use Rattle.mpx_format.specs.Kept.{ArePieces}

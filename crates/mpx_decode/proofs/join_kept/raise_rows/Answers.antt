@@ -1,4 +1,4 @@
-use Rattle.std.proofs.Common.{◌≡◌, ◌≤◌, ◌+◌, arith}
+use Rattle.std.proofs.Common.{◌≤◌, ◌+◌, arith}
 use Rattle.join_nest.proofs.Fronts.{on_err}
 use Rattle.mpx_name.specs.Order.{name_exact, name_total}
 use Rattle.mpx_board.specs.Parts.{numbers_between_laws, numbers_laws}

@@ -1,15 +1,13 @@
-use Rattle.std.proofs.Common.{◌≡◌, ◌+◌, ◌-◌, ◌*◌, ◌/◌, ◌≤◌, ◌<◌, List, [], ◌++◌, length, min, take, drop, get_or, map, true, Some, sym, ap, subst, ◌∙◌, rules, arith}
+use Rattle.std.proofs.Common.{◌≡◌, ◌+◌, ◌-◌, ◌*◌, ◌/◌, ◌≤◌, ◌<◌, ◌++◌, length, min, take, drop, true, Some, sym, ap, subst, ◌∙◌, rules, arith}
 use Rattle.std.specs.List.{flat_map, list_all}
 use Rattle.std.proofs.lemmas.Bool.Decides.{Decides-eqb}
-use Rattle.std.proofs.lemmas.List.{drop-map}
 use Rattle.std.proofs.lemmas.Slice.Eq.{strip_prefix_is}
 use Rattle.join_nest.specs.Seen.{seen}
-use Rattle.mpx_name.specs.Name.{Name}
 use Rattle.mpx_name.specs.Order.{name_cmp, name_exact, name_total}
 use Rattle.mpx_board.specs.Parts.{numbers_joining, numbers_laws}
 use Rattle.mpx_board.specs.Views.{view_of_numbers}
 use Rattle.mpx_format.specs.Fields.{name, numbers}
-use Rattle.mpx_format.specs.Kept.{ArePieces, row_fits, row_spelled}
+use Rattle.mpx_format.specs.Kept.{row_fits, row_spelled}
 use Rattle.mpx_format.proofs.FieldLaws.{name_laws, numbers_laws as numbers_exactly}
 use Rattle.mpx_format.proofs.FormatLaws.{both_laws}
 use Rattle.mpx_decode.specs.Raising.{RaisesRows, row}

@@ -1,4 +1,4 @@
-use Rattle.std.proofs.Common.{[], arith}
+use Rattle.std.proofs.Common.{arith}
 use Rattle.mpx_encode.proofs.Fours.{four_rows}
 use Rattle.mpx_encode.proofs.write_process_numbers.four_bytes.Goals as goal
 

@@ -1,6 +1,5 @@
-use Rattle.std.proofs.Common.{◌≡◌, ◌≤◌, ◌<◌, ◌+◌, ◌*◌, ℕ, true, length, ap, sym, arith, ◌∙◌}
+use Rattle.std.proofs.Common.{◌≡◌, ◌≤◌, ◌+◌, ◌*◌, ℕ, length, ap, arith, ◌∙◌}
 use Rattle.std.specs.Ordering.{nat_cmp}
-use Rattle.std.specs.FinMap.{is_sorted}
 use Rattle.join_core.specs.declared.max.Max.{Max}
 use Rattle.join_nest.specs.Seen.{seen, sorted_seen}
 use Rattle.join_nest.proofs.Steps.{length_seen}

@@ -1,11 +1,22 @@
-use Rattle.std.proofs.Common.{Ok, IfSome, ap, subst, ◌∙◌, ◌≡◌, reverse}
+use Rattle.std.proofs.Common.{Ok, IfSome, ap, subst, sym, ◌∙◌, ◌≡◌, [], ◌∷◌, reverse}
 use Rattle.std.proofs.lemmas.List.{reverse-reverse}
 use Rattle.mpx_format.specs.Fields.{name}
-use Rattle.mpx_decode.proofs.NameFront.{name_behind}
+use Rattle.mpx_name.specs.declared.steps.Step.TheVariants.{Child}
+use Rattle.mpx_decode.proofs.NameFront.{no_step, one_alone}
 use Rattle.mpx_decode.proofs.join_acks.NameFrontKey.behind.Goals as goal
 
-pub returns-then-count-steps : goal.returns-then-count-steps
-returns-then-count-steps c =
+pub returns-then-steps-eq0 : goal.returns-then-steps-eq0
+returns-then-steps-eq0 c =
     let back : reverse c.steps-steps.result.now ≡ c.args.self.now = ap reverse c.steps-steps.ensures.value ∙ reverse-reverse c.args.self.now in
-    subst (λ n. IfSome c.behind_steps.result (λ rest. name.read c.args.bytes.now ≡ Ok (n, rest.now))) back
-    (name_behind c.behind_steps.result (λ rest. rest.now) c.args.bytes.now c.in-Ok.rest.now c.in-Ok.count c.steps-steps.result.now c.steps-steps.ensures.name c.in-Ok.ensures.gives c.if-count-steps.true c.behind_steps.ensures)
+    subst (λ n. IfSome c.behind_world.result (λ rest. name.read c.args.bytes.now ≡ Ok (n, rest.now))) (sym (ap reverse (no_step c.steps-steps.result.now c.if-steps-eq0.true)) ∙ back) c.behind_world.ensures
+
+pub returns-in-Child : goal.returns-in-Child
+returns-in-Child c =
+    let back : reverse c.steps-steps.result.now ≡ c.args.self.now = ap reverse c.steps-steps.ensures.value ∙ reverse-reverse c.args.self.now in
+    let one : c.steps-steps.result.now ≡ Child c.in-Child.call c.in-Child.colour ∷ [] = one_alone c.steps-steps.result.now c.index-steps-0.result c.if-steps-eq1.true c.index-steps-0.is ∙ ap (λ s. s ∷ []) c.in-Child.is in
+    subst (λ n. IfSome c.behind_only.result (λ rest. name.read c.args.bytes.now ≡ Ok (n, rest.now))) (sym (ap reverse one) ∙ back) c.behind_only.ensures
+
+pub returns : goal.returns
+returns c =
+    let back : reverse c.steps-steps.result.now ≡ c.args.self.now = ap reverse c.steps-steps.ensures.value ∙ reverse-reverse c.args.self.now in
+    subst (λ n. IfSome c.behind_counted.result (λ rest. name.read c.args.bytes.now ≡ Ok (n, rest.now))) back c.behind_counted.ensures

@@ -43,5 +43,5 @@ returns-then-form-eq0-clause-err c =
 pub returns-else-form-eq0-clause-ok : goal.returns-else-form-eq0-clause-ok
 returns-else-form-eq0-clause-ok c =
     let two = two_form c.args.version c.in-Two.is in
-    subst (λ f. JoinsFront f lifted_joining c.args.bytes.now c.in-Ok.rest.now (view_of_lifted c.args.self.now) dead) (sym two)
-    (dies (context c.args.version) code_of_lift c.args.bytes.now c.in-Ok.form c.in-Ok.rest.now c.in-Ok.ensures.gives (subst (λ f. StandsInFront f c.args.bytes.now) two c.requires) entry_joining c.if-form-eq0.false (view_of_lifted c.args.self.now))
+    rw c.bury.ensures (subst (λ f. JoinsFront f lifted_joining c.args.bytes.now c.in-Ok.rest.now (view_of_lifted c.args.self.now) dead) (sym two)
+    (dies (context c.args.version) code_of_lift c.args.bytes.now c.in-Ok.form c.in-Ok.rest.now c.in-Ok.ensures.gives (subst (λ f. StandsInFront f c.args.bytes.now) two c.requires) entry_joining c.if-form-eq0.false (view_of_lifted c.args.self.now)))
