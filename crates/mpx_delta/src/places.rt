@@ -51,7 +51,8 @@ fn leaner(
 ) -> Result<Option<Lifted>, OutOfMemory>
     requires { is_tidy_lifted (view_of_lifted known.now) ≡ true }
     ensures none { IfOk result (λ made. IfNone made (lean_context (view_of_acks digest.now) name.now (view_of_lifted known.now) ≡ Some (view_of_lifted known.now))) }
-    ensures some { IfOk result (λ made. IfSome made (λ lean. view_of_lifted lean ≡ lean_lifted (numbers_acked (view_of_acks digest.now) name.now) (view_of_lifted known.now))) }
+    ensures some { IfOk result (λ made. IfSome made (λ lean. view_of_lifted lean
+        ≡ lean_lifted (numbers_acked (view_of_acks digest.now) name.now) (view_of_lifted known.now))) }
 {
     match known {
         Lift::Dead => Ok(None),
