@@ -11,6 +11,7 @@ mod Stricter
 mod RaisedCalls
 mod HeldFront
 mod JoinedParts
+mod FrontBirths
 mod FrontPosts
 pub mod NoParts
 pub mod NameFront

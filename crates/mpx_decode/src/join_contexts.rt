@@ -22,10 +22,11 @@ ghost use Rattle.mpx_format.specs.Fields.{call as call_format, fronts as fronts_
 ghost use Rattle.mpx_decode.specs.Raising.{JoinsFront, PutsCall, RaisesCall, RaisesCalls, StandsInFront, StopsBetween, StopsCall, StopsCalls, contexts as contexts_format, row, rows};
 
 use crate::big_endian::{read_u8, read_u32};
-use crate::contexts::{read_live, read_told};
+use crate::contexts::read_live;
 use crate::entries::WireValue;
 use crate::fields::{read_call, read_name_count, read_some_byte};
 use crate::front_posts::behind_told;
+use crate::join_births::raise_birth;
 use crate::join_rows::{WireJoin, raise_entries};
 use join_core::{Flat, Join, OutOfMemory, Pair};
 use join_nest::{Keyed, Lift, Trunc};
@@ -232,27 +233,6 @@ fn raise_fronts<'a>(
             let raised = raise_entries(version, source, &mut entries, count as usize, rest);
             *fronts = Keyed::from_rising(entries);
             raised
-        }
-    }
-}
-
-// What is told of the birth.
-fn raise_birth<'a>(
-    version: Version,
-    source: Source<'_>,
-    birth: &mut Flat<Birth>,
-    bytes: &'a [u8],
-) -> Result<&'a [u8], OutOfMemory>
-    requires { StandsInFront (told_format birth_format) bytes.now }
-    ensures ok { IfOk result (λ rest. JoinsFront (told_format birth_format) (flat_joining same_birth) bytes.now rest.now (flat_view (λ b. b) birth.old) (flat_view (λ b. b) birth.new)) }
-    ensures err { OnErr result (StopsBetween (told_format birth_format) (old_or_joined (flat_joining same_birth)) bytes.now (flat_view (λ b. b) birth.old) (flat_view (λ b. b) birth.new)) }
-{
-    let read: Result<(Flat<Birth>, &[u8]), ReadError> = read_told(version, source, bytes);
-    match read {
-        Err(_) => Err(OutOfMemory),
-        Ok((told, rest)) => {
-            birth.join_in(source.alloc(), &told)?;
-            Ok(rest)
         }
     }
 }

@@ -15,6 +15,7 @@ mod fields;
 mod front_posts;
 mod items;
 mod join_acks;
+mod join_births;
 mod join_contexts;
 mod join_kept;
 mod join_numbers;

@@ -7,8 +7,8 @@ use Rattle.join_nest.proofs.Fronts.{on_err}
 use Rattle.mpx_birth.specs.Births.{birth_equality, same_birth}
 use Rattle.mpx_format.specs.Births.{birth}
 use Rattle.mpx_format.specs.Contexts.{told}
-use Rattle.mpx_decode.proofs.Taken.{read_joined, read_stops, stops_at_once}
-use Rattle.mpx_decode.proofs.join_contexts.raise_birth.Goals as goal
+use Rattle.mpx_decode.proofs.Taken.{read_joined, read_stops, same_joined, stops_at_once}
+use Rattle.mpx_decode.proofs.join_births.raise_birth.Goals as goal
 
 pub returns-in-Err-clause-err : goal.returns-in-Err-clause-err
 returns-in-Err-clause-err c =
@@ -20,3 +20,7 @@ returns-in_err-join_in-in-Ok-clause-err c =
 
 pub returns-in_ok-join_in-in-Ok-clause-ok : goal.returns-in_ok-join_in-in-Ok-clause-ok
 returns-in_ok-join_in-in-Ok-clause-ok c = read_joined (told birth) c.args.bytes.now c.in-Ok.rest.now (flat_view (λ b. b) c.in-Ok.told) c.in-Ok.ensures c.in_ok-join_in-in-Ok.ensures.ok
+
+-- the board has just this birth already
+pub returns-in-Some-clause-ok : goal.returns-in-Some-clause-ok
+returns-in-Some-clause-ok c = same_joined (told birth) c.args.bytes.now c.in-Some.rest.now (flat_view (λ b. b) c.args.birth.now) c.in-Some.ensures (flat_laws birth_equality)
