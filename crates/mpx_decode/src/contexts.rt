@@ -227,7 +227,7 @@ fn read_contexts<'a>(
 }
 
 /// The parts of a board, as the version spells them, at the front of these bytes, and the bytes after them. An `Err` tells the first
-/// field that is wrong, or that memory is refused; no parts take none.
+/// field that is wrong, or that memory is refused; bytes that spell no parts, and nothing else, take none.
 #[tactic(auto, unfolding(mpx_format::specs::Contexts::parts))]
 pub fn read_parts<'a>(
     version: Version,

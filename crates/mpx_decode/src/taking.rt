@@ -20,8 +20,8 @@ use mpx_rope::Source;
 use std::mem;
 
 /// Joins the parts at the front of these bytes, as the version spells them, to the board, as they are read, and gives the bytes
-/// after them. An `Err` leaves a board between. No parts take no memory. Of acknowledgements, what is kept as it is spelled is passed
-/// over where its bytes stand; what changes is no longer kept.
+/// after them. An `Err` leaves a board between. Bytes that spell no parts, and nothing else, take no memory. Of acknowledgements,
+/// what is kept as it is spelled is passed over where its bytes stand; what changes is no longer kept.
 pub fn take_parts<'a>(
     version: Version,
     source: Source<'_>,

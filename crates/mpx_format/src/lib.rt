@@ -5,8 +5,8 @@
 //! fields and names in `specs/Fields.antt`, births in `specs/Births.antt`, posts in `specs/Posts.antt`, whole boards in
 //! `specs/Contexts.antt`; `specs/Decoding.antt` says which bytes spell a board and how a refusal is placed. The code that
 //! reads them is `mpx_decode`, what writes them `mpx_encode`, and what is of both ways `mpx_wire`. There are two versions of
-//! frames ([`Version`]), which differ in what stands behind the name of a context and in the kinds of calls: the formats of whole
-//! contexts, and what these are built of, have the version as a parameter. [`Kept`] is what a process keeps of acknowledgements as
+//! frames ([`Version`]), which differ in what stands behind the name of a context, in the kinds of calls and in the operations: the
+//! formats of whole contexts, and what these are built of, have the version as a parameter. [`Kept`] is what a process keeps of acknowledgements as
 //! they are spelled (`specs/Kept.antt`).
 #![tactic(auto)]
 

@@ -33,8 +33,8 @@ impl Node {
     }
 
     /// The board in parts, each of which has only facts of the board and a frame of at most `limit` bytes, and whose join is the
-    /// board: the board itself where it fits, and else no two parts beside each other whose join would. The limit is from 524,288 to 1,048,576 bytes, here and in all calls that have one. An `Err`
-    /// is want of memory.
+    /// board: the board itself where it fits, and else no two parts beside each other whose join would. The limit is from 524,288
+    /// to 1,048,576 bytes, here and in all calls that have one. An `Err` is want of memory.
     pub fn parts(&self, alloc: Global, limit: usize) -> Result<Vec<Board>, OutOfMemory>
         requires least { 524288 ≤ limit }
         requires most { limit ≤ 1048576 }
@@ -58,8 +58,8 @@ impl Node {
         new_list(alloc, &self.board, self.me, self.processes, limit)
     }
 
-    /// Makes what [`Node::lacking`] makes, with frames in place of the parts, and no copy of what all processes say. The node
-    /// stays as it is, also where memory is refused. A frame is written over the last of the `spare` ones, where there are such.
+    /// Makes what [`Node::lacking`] makes, with frames in place of the parts. The node stays as it is, also where memory is
+    /// refused. A frame is written over the last of the `spare` ones, where there are such.
     pub fn lacking_frames(
         &mut self,
         alloc: Global,
@@ -110,8 +110,8 @@ impl Node {
         Ok(parts)
     }
 
-    /// The frames of what [`Node::deltas`] gives, which stores the same. An `Err` changes nothing.
-    /// Each frame has at most `limit` bytes; an `Err` is want of memory.
+    /// The frames of what [`Node::deltas`] gives, which stores the same. Each frame has at most `limit` bytes. An `Err`, for want of
+    /// memory, changes nothing of the node; a `spare` one may be gone.
     pub fn framed_deltas(
         &mut self,
         alloc: Global,

@@ -39,7 +39,7 @@ impl Node {
         take_spelled(alloc, &mut self.board, frame)
     }
 
-    /// The same of a frame whose items may be shared, which the board then shares: it copies none.
+    /// The same of a frame whose items may be shared.
     pub fn take_rope(&mut self, alloc: Global, frame: &Rope) -> Result<(), OutOfMemory>
         requires spelled { (parts : PartsView) × IsSpelled frame.now parts }
         ensures ok { OnOk result (node_of self.new ≡ learn (shown (decoded frame.now)) (node_of self.old)) }

@@ -132,7 +132,7 @@ impl Rope {
         })
     }
 
-    /// All its bytes where they lie, if they lie in one place. Few do.
+    /// All its bytes where they lie, if they lie in one place: those of a rope that shares no items.
     pub fn in_one_place(&self) -> Option<&[u8]>
         ensures some { IfSome result (λ bytes. bytes.now ≡ self.now) }
         ensures none { IfNone result (64 ≤ length self.now) }

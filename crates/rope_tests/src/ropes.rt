@@ -42,6 +42,12 @@ fn holds(alloc: Global, rope: &Rope) -> Result<bool, AllocError> {
     Ok(rope.len() == 133 && is_whole(&rope.joined(alloc)?))
 }
 
+// Whether a rope of a hundred bytes of its own lends them, and one that shares items doesn't.
+fn lends(alloc: Global, shared: &Rope) -> Result<bool, AllocError> {
+    let own = Rope::from_vec(alloc, vec![in alloc; 7u8; 100]?);
+    Ok(own.in_one_place() == Some([7; 100].as_slice()) && shared.in_one_place().is_none())
+}
+
 #[test]
 fn ropes_hold_what_is_put_in(rt: HostRuntime) -> Result<(), Fail> {
     let alloc = rt.alloc();
@@ -49,6 +55,7 @@ fn ropes_hold_what_is_put_in(rt: HostRuntime) -> Result<(), Fail> {
     let mut rope = rope(alloc, &items)?;
     let copy = rope.copy(alloc)?;
     assert!(rt; holds(alloc, &rope)?);
+    assert!(rt; lends(alloc, &rope)?);
     rope.clear();
     assert_eq!(rt; rope.len(), 0);
     assert!(rt; rope.joined(alloc)?.is_empty());
