@@ -51,7 +51,7 @@ fn of_draft(
         return number(alloc, draft);
     }
     if is(refusal, "refused CountsLength") {
-        return counts(alloc, draft);
+        return counts(alloc, script, on, draft);
     }
     if is(refusal, "refused TooManyItems") {
         return too_many(alloc, draft);
@@ -199,10 +199,27 @@ fn number(alloc: Global, draft: &Draft) -> Result<Option<String>, OutOfMemory> {
     Ok(None)
 }
 
-fn counts(alloc: Global, draft: &Draft) -> Result<Option<String>, OutOfMemory> {
+// How many counts are given, and how many ranks there are, one for each of which is wanted on `world`.
+fn counts(
+    alloc: Global,
+    script: &Script,
+    on: &[u8],
+    draft: &Draft,
+) -> Result<Option<String>, OutOfMemory> {
     let sent = draft.scounts.as_slice().len();
     let received = draft.rcounts.as_slice().len();
-    Ok(Some(format!(in alloc;
-        "gave {sent} counts of what is sent and {received} of what is received"
-    )?))
+    let mut text = if sent == 0 {
+        format!(in alloc; "gave {received} RCOUNTS")?
+    } else if received == 0 {
+        format!(in alloc; "gave {sent} SCOUNTS")?
+    } else {
+        format!(in alloc; "gave {sent} SCOUNTS and {received} RCOUNTS")?
+    };
+    let is_of_neighbours = matches!(draft.call, Call::Neighbourhood(..));
+    if on == b"world".as_slice() && !is_of_neighbours {
+        let ranks = script.ranks();
+        let more = format!(in alloc; ", world has {ranks} ranks")?;
+        text.push_str(more.as_str())?;
+    }
+    Ok(Some(text))
 }

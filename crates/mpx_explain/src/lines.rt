@@ -88,7 +88,7 @@ fn push_refused(
     let text = format!(in alloc; "{refusal}")?;
     told.extend_from_slice(text.as_bytes())?;
     if let Some(blamed) = blamed {
-        push_word(alloc, refusal.what, blamed.word.as_str(), told)?;
+        push_word(alloc, refusal.what, blamed, told)?;
     }
     told.extend_from_slice(b"\n")?;
     Ok(())
@@ -98,9 +98,10 @@ fn push_refused(
 fn push_word(
     alloc: Global,
     what: ScriptFault,
-    word: &str,
+    blamed: &Blamed,
     told: &mut Vec<u8>,
 ) -> Result<(), OutOfMemory> {
+    let word = blamed.word.as_str();
     if word.len() > MOST_LETTERS || word.as_bytes().iter().any(|byte| *byte < 33 || *byte > 126) {
         return Ok(());
     }
@@ -109,7 +110,8 @@ fn push_word(
     if what != ScriptFault::UnknownStatement {
         return Ok(());
     }
-    if let Some(known) = meant(alloc, word)? {
+    // (a line's second word is its statement)
+    if let Some(known) = meant(alloc, word, blamed.place == 2)? {
         told.extend_from_slice(b"; ")?;
         told.extend_from_slice(known.as_bytes())?;
         told.extend_from_slice(b"?")?;

@@ -27,8 +27,8 @@ const BOTH: [&str; 20] = [
     "neighbor_alltoallv",
 ];
 
-// The others: statements, operations and types.
-const OTHERS: [&str; 34] = [
+// The other statements.
+const STATEMENTS: [&str; 13] = [
     "dup",
     "split",
     "create",
@@ -42,27 +42,22 @@ const OTHERS: [&str; 34] = [
     "compare",
     "translate",
     "free",
-    "max",
-    "min",
-    "sum",
-    "prod",
-    "land",
-    "lor",
-    "lxor",
-    "band",
-    "bor",
-    "bxor",
-    "maxloc",
-    "minloc",
-    "i8",
-    "i16",
-    "i32",
-    "i64",
-    "u8",
-    "u16",
-    "u32",
-    "u64",
-    "2int",
+];
+
+// MPI's names of calls that scripts call otherwise, without its prefixes and in small letters.
+const CALLS: [(&str, &str); 6] = [
+    ("dist_graph_create", "dist_graph"),
+    ("dist_graph_create_adjacent", "dist_graph_adjacent"),
+    ("dist_graph_neighbors", "sources"),
+    ("group_translate_ranks", "translate"),
+    ("alltoallw", "alltoallv"),
+    ("neighbor_alltoallw", "neighbor_alltoallv"),
+];
+
+// Operations and types.
+const VALUES: [&str; 21] = [
+    "max", "min", "sum", "prod", "land", "lor", "lxor", "band", "bor", "bxor", "maxloc", "minloc",
+    "i8", "i16", "i32", "i64", "u8", "u16", "u32", "u64", "2int",
 ];
 
 // The types of programs, and those of scripts.
@@ -84,26 +79,54 @@ const TYPES: [(&str, &str); 14] = [
 ];
 
 /// The word that this one was meant to be, perhaps: the same one in small letters and without MPI's prefixes, or one from which one
-/// letter more, less or other, or two letters in another order, tell it apart.
-pub(crate) fn meant(alloc: Global, word: &str) -> Result<Option<String>, OutOfMemory> {
+/// letter more, less or other, or two letters in another order, tell it apart. A statement was meant by a word where one stands, and else
+/// an operation or a type.
+pub(crate) fn meant(
+    alloc: Global,
+    word: &str,
+    is_statement: bool,
+) -> Result<Option<String>, OutOfMemory> {
     let small = in_small_letters(alloc, word)?;
     let bare = without_prefix(small.as_str());
-    if is_floating(bare) {
-        return Ok(None);
-    }
-    if let Some(known) = known_as(bare) {
+    let known = if is_statement {
+        statement_near(bare)
+    } else {
+        value_near(bare)
+    };
+    if let Some(known) = known {
         return where_other(alloc, word, known);
     }
-    let Some(rest) = bare.strip_prefix("i") else {
-        return Ok(None);
-    };
-    match among(&BOTH, rest) {
+    match nonblocking_near(is_statement, bare) {
         Some(known) => {
             let found = format!(in alloc; "i{known}")?;
             where_other(alloc, word, found.as_str())
         }
         None => Ok(None),
     }
+}
+
+// The statement that a word without prefixes is, or is near.
+fn statement_near(word: &str) -> Option<&'static str> {
+    another(&CALLS, word)
+        .or(among(&BOTH, word))
+        .or(among(&STATEMENTS, word))
+}
+
+// The operation or type that a word without prefixes is, or is near.
+fn value_near(word: &str) -> Option<&'static str> {
+    if is_floating(word) {
+        return None;
+    }
+    let bare = word.strip_suffix("_t").unwrap_or(word);
+    another(&TYPES, bare).or(among(&VALUES, word))
+}
+
+// The call whose nonblocking form a statement is, or is near.
+fn nonblocking_near(is_statement: bool, word: &str) -> Option<&'static str> {
+    if !is_statement {
+        return None;
+    }
+    among(&BOTH, word.strip_prefix("i")?)
 }
 
 // The known word, where it isn't the word itself.
@@ -135,15 +158,14 @@ fn without_prefix(word: &str) -> &str {
     word.strip_prefix("comm_").unwrap_or(word)
 }
 
-// The word of a program's type, or a word of scripts.
-fn known_as(word: &str) -> Option<&'static str> {
-    let bare = word.strip_suffix("_t").unwrap_or(word);
-    for (name, ty) in TYPES {
-        if name == bare {
-            return Some(ty);
+// The second word of the pair whose first one this is.
+fn another(pairs: &[(&str, &'static str)], word: &str) -> Option<&'static str> {
+    for (name, known) in pairs {
+        if *name == word {
+            return Some(known);
         }
     }
-    among(&BOTH, word).or(among(&OTHERS, word))
+    None
 }
 
 // The word itself, where it is among these, else one that is near.

@@ -8,7 +8,7 @@ use mpx_post::Draft;
 use mpx_script::{Posting, Script, Statement, statement_lines};
 use std::alloc::Global;
 
-// More results than these are not told.
+// Of more results than these only how many they are is told.
 const MOST_RESULTS: usize = 100;
 
 // What a rank posts to a call on `world`, and the place of its statement.
@@ -19,7 +19,7 @@ struct Part<'s> {
     draft: &'s Draft,
 }
 
-// A result that is past its type, and at which statement of which rank; no number where it is past 128 bits too.
+// A result that is past its type, and at which statement of which rank; no number where it is past 128 bits too, as a product may be.
 #[derive(Clone, Copy, Drop)]
 struct Past {
     rank: u8,
@@ -28,8 +28,8 @@ struct Past {
     exact: Option<i128>,
 }
 
-/// Adds a line for each sum or product of signed numbers whose result is past its type, at most a hundred: the first such number of each
-/// rank's result, and what the type makes of it. It is told of calls on `world` alone.
+/// Adds a line for each sum or product of signed numbers whose result is past its type: the first such number of each rank's
+/// result, and what the type makes of it. Behind a hundred lines one tells how many more there are. It is told of calls on `world` alone.
 pub fn explain_results(
     alloc: Global,
     text: &[u8],
@@ -52,9 +52,7 @@ pub fn explain_results(
                 parts.push(*part)?;
             }
         }
-        if results.len() < MOST_RESULTS {
-            push_past(alloc, &parts, found, &mut results)?;
-        }
+        push_past(alloc, &parts, found, &mut results)?;
     }
     push_lines(alloc, text, &results, told)
 }
@@ -184,6 +182,8 @@ fn add(draft: &Draft, sums: &mut Vec<Option<i128>>) -> Result<(), OutOfMemory> {
         *sum = match *sum {
             Some(sum) if draft.op == Op::Sum => sum.checked_add(*number),
             Some(product) => product.checked_mul(*number),
+            // (a product, since a sum of so few numbers isn't past 128 bits)
+            None if *number == 0 => Some(0),
             None => None,
         };
     }
@@ -248,7 +248,7 @@ fn push_first(
     Ok(())
 }
 
-// Adds a line for each of these.
+// Adds a line for each of the first of these, and how many more there are.
 fn push_lines(
     alloc: Global,
     text: &[u8],
@@ -268,6 +268,11 @@ fn push_lines(
             }
             None => format!(in alloc; "rank {rank}, line {line}: the result is past {ty}\n")?,
         };
+        told.extend_from_slice(text.as_bytes())?;
+    }
+    let more = results.len().saturating_sub(MOST_RESULTS);
+    if more > 0 {
+        let text = format!(in alloc; "and {more} more\n")?;
         told.extend_from_slice(text.as_bytes())?;
     }
     Ok(())
