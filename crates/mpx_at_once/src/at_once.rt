@@ -36,7 +36,7 @@ impl From<AtOnceError> for OutOfMemory {
 
 /// Who stands by in the thread that has tasks done.
 pub trait Stop {
-    /// Tells the tasks under way that they are to end, since others couldn't begin.
+    /// Tells the tasks under way that they are to end, since others couldn't begin, or there is no room for what they give.
     fn stop(&self);
 
     /// What that thread does once all tasks have begun, before it joins them. It may wait for them.

@@ -1,7 +1,7 @@
 //! Tasks that are done at once, each in a thread of its own, and all of them joined.
 //!
 //! In the order of reading: [`Task`] and [`Calling`], what a thread does and what is known of what it gives; [`Stop`], who stands
-//! by, and is told where not all of them can begin; [`all_at_once`], [`map_at_once`] and [`both`].
+//! by, and is told where not all of them can begin or be heard; [`all_at_once`], [`map_at_once`] and [`both`].
 #![tactic(auto)]
 
 mod at_once;

@@ -26,7 +26,7 @@ pub trait Host: Drop {
     /// It may go from one state to another by making so many turns.
     ghost turned: { Self → ℕ → Self → Type 0 };
 
-    /// A turn may be refused for want of memory from one state to another.
+    /// A turn may be refused from one state to another.
     ghost turn_refused: { Self → Self → Type 0 };
 
     /// Posts the draft as the next call on a context, and gives its number. It makes no turn. An `Err` changes nothing: it is the draft's
@@ -67,7 +67,7 @@ pub trait Host: Drop {
         ensures { option_copied result ≡ slice_get (results_on (node self.now) name.now) call };
 
     /// Lets time pass once: others may hear of this process, and it of them. Calls that wait make as many turns as they are given, at
-    /// most. An `Err` is want of memory.
+    /// most. An `Err` is want of memory, or says that the host makes no turn any more.
     fn turn(&mut self, alloc: Global) -> Result<(), OutOfMemory>
         ensures later { Later (node self.old) (node self.new) }
         ensures counted { OnOk result (turned self.old 1 self.new) }

@@ -35,7 +35,8 @@ impl Crew {
                 return true;
             }
             if self.has_stopped() {
-                return false;
+                // (the last may have come since, and its rank given up: then no thread was refused)
+                return self.there.load(Ordering::SeqCst) >= self.processes;
             }
             yield_now();
         }

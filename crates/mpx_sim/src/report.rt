@@ -36,7 +36,7 @@ pub struct Run {
 
 /// Runs a script's ranks, and relays, over an interconnect that loses, repeats and reorders frames.
 ///
-/// In each turn every rank in order goes on with its script until an outcome is missing, and each process drops what all
+/// In each turn every rank goes on with its script until an outcome is missing, and each process drops what all
 /// members have harvested. Then each process whose last list of frames is out makes its next: what others may lack of its
 /// board, in frames of at most 1,048,576 bytes, of which one comes in this turn and one in each turn after it, all to one
 /// process, so many places on as the schedule says that is next. A frame that is drawn to be lost never comes. The frames of
@@ -46,7 +46,7 @@ pub struct Run {
 ///
 /// `script` was read with `ops`, the job's own operations. Of `options` count `relays`, how many processes there are beside the
 /// ranks, with these 64 at most; `turns`, how many are made at most; `loss`, how many frames of a hundred are lost, where 100
-/// loses each; and `seed`, from which all that is drawn follows. That ranks still wait at the end is no error: `report.waiting`
+/// loses each; `seed`, from which all that is drawn follows; and `workers`, in how many threads the processes work. That ranks still wait at the end is no error: `report.waiting`
 /// has them; where turns were left and not every frame is lost, they wait in every run: the lines are all lines of the evaluation, and those
 /// wait that have something left there. An `Err` is want of memory, and leaves nothing of the run.
 pub fn run_sim<R: Threads + Sync>(

@@ -13,8 +13,8 @@ pub struct Options {
     pub relays: u8,
     /// How many turns are made at most: 1 to 10,000,000. In threads each process counts its own.
     pub turns: u32,
-    /// In how many threads the processes of a simulated run work side by side: 1 to 64, or as many as there are processors, where the
-    /// processes are many. It changes nothing of what comes. In threads each process has its own, and it counts for nothing.
+    /// In how many threads the processes of a simulated run work side by side: 1 to 64, or, where there are 32 processes or
+    /// more, at most as many as there are processors. It changes nothing of what comes (tested). In threads each process has its own, and it counts for nothing.
     pub workers: Option<u8>,
 }
 

@@ -27,7 +27,7 @@ pub trait Onlooker: Drop {
     /// The run goes on, and is so far. This is told at least every fifth of a second.
     fn goes_on(&mut self, far: SoFar);
 
-    /// All threads have ended.
+    /// Each process has done what it does. It isn't told where a thread is refused.
     fn over(&mut self);
 }
 
