@@ -118,12 +118,6 @@ fn behind_zero(bytes: &[u8]) -> Option<&[u8]>
 {
     match bytes {
         [] => None,
-        [form, rest @ ..] => {
-            if *form == 0 {
-                Some(rest)
-            } else {
-                None
-            }
-        }
+        [form, rest @ ..] => { if *form == 0 { Some(rest) } else { None } }
     }
 }

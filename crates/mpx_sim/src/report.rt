@@ -46,9 +46,10 @@ pub struct Run {
 ///
 /// `script` was read with `ops`, the job's own operations. Of `options` count `relays`, how many processes there are beside the
 /// ranks, with these 64 at most; `turns`, how many are made at most; `loss`, how many frames of a hundred are lost, where 100
-/// loses each; `seed`, from which all that is drawn follows; and `workers`, in how many threads the processes work. That ranks still wait at the end is no error: `report.waiting`
-/// has them; where turns were left and not every frame is lost, they wait in every run: the lines are all lines of the evaluation, and those
-/// wait that have something left there. An `Err` is want of memory, and leaves nothing of the run.
+/// loses each; `seed`, from which all that is drawn follows; and `workers`, in how many threads the processes work. That ranks still
+/// wait at the end is no error: `report.waiting` has them; where turns were left and not every frame is lost, they wait in every
+/// run: the lines are all lines of the evaluation, and those wait that have something left there. An `Err` is want of memory, and
+/// leaves nothing of the run.
 pub fn run_sim<R: Threads + Sync>(
     rt: &R,
     alloc: Global,
