@@ -10,7 +10,7 @@ use Rattle.mpx_bus.specs.Ports.{PortView}
 use Rattle.mpx_script.specs.ScriptView.{ScriptView}
 use Rattle.mpx_meaning.specs.Evaluation.{State, IsEvaluation}
 use Rattle.mpx_meaning.specs.Transcripts.{rank_text, text_upto}
-use Rattle.mpx_meaning.specs.Reports.{lines_in}
+use Rattle.mpx_meaning.specs.Reports.{is_left, lines_in, which}
 use Rattle.mpx_eval.specs.Evaluated.{IsEvaluated}
 use Rattle.mpx_statement.specs.declared.job.Options.{Options}
 use Rattle.mpx_sim.specs.Ends.{AllMadeOr}
@@ -90,7 +90,7 @@ may_tell_in_threads true options threads = tt
 may_tell_in_threads false options threads = threads
 
 -- what is printed of lines, and of those who wait for a cause
-module _ (ops : List Operation) (options : Options) (script : ScriptView) (transcripts : List (List (List ℕ))) (waiting : List ℕ) (size : length transcripts ≡ script.ranks)
+module _ (ops : List Operation) (options : Options) (script : ScriptView) (transcripts : List (List (List ℕ))) (waiting : List ℕ) (size : length transcripts ≡ script.ranks) (in_order : (waits : ℕ → Bool) × (waiting ≡ which waits script.ranks))
     (begins : (e : State) → IsEvaluationOf ops script e → Begin transcripts e) (done : (e : State) → IsEvaluationOf ops script e → AreWhole transcripts waiting e)
     (waits : (e : State) → IsEvaluationOf ops script e → EachWaits waiting script.ranks e) (cause : Cause) (may : MayTell options cause) (all : cause ≡ InEveryRun → (e : State) → IsEvaluationOf ops script e → AreAll transcripts waiting script.ranks e)
     (end : End) (text : List ℕ) (lines : text ≡ text_upto (lines_at transcripts) script.ranks) (ends : EndsSo end waiting) (by : IsBy cause end) where
@@ -98,6 +98,7 @@ module _ (ops : List Operation) (options : Options) (script : ScriptView) (trans
   of_run = record {
     ranks_are = size;
     lines = lines;
+    in_order = in_order;
     ends = ends;
     cause = may_end options end cause by may;
     begins = begins;
@@ -122,7 +123,7 @@ module _ (ops : List Operation) (options : Options) (script : ScriptView) (nodes
     waiting = waiting;
     turns = turns;
     run = run;
-    prints = of_run ops options script transcripts waiting run.ranks_are begins done (simulated_waits ops script options.relays nodes transcripts waiting run) (cause_of turns options) (may_tell turns options alone)
+    prints = of_run ops options script transcripts waiting run.ranks_are ((λ p. is_left (run.system.ranks p).todo), run.waiting_are) begins done (simulated_waits ops script options.relays nodes transcripts waiting run) (cause_of turns options) (may_tell turns options alone)
         (λ e. let left = turns_are_left turns options e in all left.0 left.1) end text lines ends by;
     after = after;
     ended = ended;
@@ -147,7 +148,7 @@ module _ (ops : List Operation) (options : Options) (script : ScriptView) (table
     waiting = waiting;
     rests = rests;
     run = run;
-    prints = of_run ops options script transcripts waiting run.ranks_are begins done (threaded_waits ops script options.relays table ports transcripts waiting rests run)
+    prints = of_run ops options script transcripts waiting run.ranks_are ((λ p. is_left (run.ranks p).todo), run.waiting_are) begins done (threaded_waits ops script options.relays table ports transcripts waiting rests run)
         (thread_cause rests) (may_tell_in_threads rests options threads) (λ e. all (was_at_rest rests e)) end text lines ends by;
     cause = by;
   }

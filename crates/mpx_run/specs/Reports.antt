@@ -1,10 +1,10 @@
 -- The text of a run and of an evaluation, how it ends, and why.
-use Rattle.std.specs.Prelude.{◌≡◌, ◌≢◌, ℕ, ◌<◌, ◌≤◌, true, false, List, [], length, Option, None, Some, IfSome, slice_get, unwrap_or}
+use Rattle.std.specs.Prelude.{◌≡◌, ◌≢◌, ℕ, ◌<◌, ◌≤◌, Bool, true, false, List, [], length, Option, None, Some, IfSome, slice_get, unwrap_or}
 use Rattle.mpx_num.specs.declared.own.Operation.{Operation}
 use Rattle.mpx_statement.specs.declared.job.Options.{Options}
 use Rattle.mpx_script.specs.ScriptView.{ScriptView}
 use Rattle.mpx_meaning.specs.Evaluation.{State}
-use Rattle.mpx_meaning.specs.Reports.{is_left, lines_in, waiting_in}
+use Rattle.mpx_meaning.specs.Reports.{is_left, lines_in, waiting_in, which}
 use Rattle.mpx_meaning.specs.Transcripts.{text_upto}
 use Rattle.mpx_system.specs.Runs.{AreWhole, Begin, IsEvaluationOf}
 use Rattle.mpx_run.specs.declared.end.Cause.{Cause}
@@ -52,12 +52,13 @@ pub record IsEvaluatedText (ops : List Operation) (script : ScriptView) (end : E
   pub all : IsAllOf script end text evaluation
   pub cause : IfSome (told_cause end) (λ told. told ≡ InEveryRun)
 
--- the text and the end of a run with these options: the lines of its ranks, rank by rank, and who waits. The lines begin the evaluation's; those of a rank that doesn't
+-- the text and the end of a run with these options: the lines of its ranks, rank by rank, and which of these wait, in rising order. The lines begin the evaluation's; those of a rank that doesn't
 -- wait are all that it has there, and who has something left there waits. Where nobody waits the text is the evaluation's, and where it is told that those who wait do
 -- in every run, text and end are
 pub record IsOfRun (ops : List Operation) (options : Options) (script : ScriptView) (transcripts : List (List (List ℕ))) (waiting : List ℕ) (end : End) (text : List ℕ) : Type 0 where
   pub ranks_are : length transcripts ≡ script.ranks
   pub lines : text ≡ text_upto (λ p. unwrap_or (slice_get transcripts p) []) script.ranks
+  pub in_order : (waits : ℕ → Bool) × (waiting ≡ which waits script.ranks)
   pub ends : EndsSo end waiting
   pub cause : IfSome (told_cause end) (MayTell options)
   pub begins : (evaluation : State) → IsEvaluationOf ops script evaluation → Begin transcripts evaluation
