@@ -21,6 +21,7 @@ enum { MEMBERS = 64 };                  /* what gossipmpi has at most */
 extern __thread int inside;             /* of an MPI that calls itself by its public names */
 extern long most_items;
 extern int notes_messages;
+long number_asked(int rank, const char *name, long most, long without, const char *wanted);      /* of the environment */
 void *room_for(size_t size);
 void put_text(const char *text);
 void put_digits(int64_t number);

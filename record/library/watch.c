@@ -71,23 +71,11 @@ static void *watch(void *unused)
     return unused;
 }
 
-/* 0 is off, and so is what is no number, which is told. */
-static int seconds_asked(int rank)
-{
-    const char *words = getenv("RECORD_HANG");
-    char *end;
-    if (!words || !*words) return 0;
-    long number = strtol(words, &end, 10);
-    if (!*end && number >= 0 && number <= 1000000) return number;
-    if (!rank) fprintf(stderr, "record: RECORD_HANG=%s is no whole number of seconds: no hang is ended\n", words);
-    return 0;
-}
-
 void watch_hang(const char *at, int rank, int ranks)
 {
     pthread_t thread;
     sigset_t all, old;
-    seconds = seconds_asked(rank);
+    seconds = number_asked(rank, "RECORD_HANG", 1000000, 0, "seconds: no hang is ended");
     if (!seconds) return;
     snprintf(folder, sizeof folder, "%s", at);
     own_rank = rank;

@@ -263,18 +263,39 @@ static void make_folder(const char *folder)
     mkdir(path, 0777);
 }
 
+/* A whole number from 0 to `most`. `without` where the variable isn't set or is empty, and where it is no such number, which rank 0 tells. */
+long number_asked(int rank, const char *name, long most, long without, const char *wanted)
+{
+    const char *words = getenv(name);
+    char *end;
+    if (!words || !*words) return without;
+    long number = strtol(words, &end, 10);
+    if (end != words && !*end && number >= 0 && number <= most) return number;
+    if (!rank) fprintf(stderr, "record: %s=%s is no whole number of %s\n", name, words, wanted);
+    return without;
+}
+
+/* 1 is on; 0 and empty are off, and so is anything else, which rank 0 tells. */
+static int is_asked(int rank, const char *name)
+{
+    const char *words = getenv(name);
+    if (!words || !*words || !strcmp(words, "0")) return 0;
+    if (!strcmp(words, "1")) return 1;
+    if (!rank) fprintf(stderr, "record: %s=%s is neither 1 nor 0: it is off\n", name, words);
+    return 0;
+}
+
 static void open_record(void)
 {
-    const char *folder = getenv("RECORD_FOLDER"), *items = getenv("RECORD_ITEMS"), *buffer = getenv("RECORD_BUFFER");
-    const char *messages = getenv("RECORD_MESSAGES");
+    const char *folder = getenv("RECORD_FOLDER");
     char path[4096], version[MPI_MAX_LIBRARY_VERSION_STRING + 1];
     int rank, ranks, size = 0;
     if (!folder || !*folder) folder = "recorded";
-    if (items) most_items = atol(items);
-    is_buffered = buffer && *buffer == '1';
-    notes_messages = messages && *messages == '1';
     PMPI_Comm_rank(MPI_COMM_WORLD, &rank);
     PMPI_Comm_size(MPI_COMM_WORLD, &ranks);
+    most_items = number_asked(rank, "RECORD_ITEMS", 1000000000, most_items, "items up to 1000000000: 65536 is taken");
+    is_buffered = is_asked(rank, "RECORD_BUFFER");
+    notes_messages = is_asked(rank, "RECORD_MESSAGES");
     make_folder(folder);
     snprintf(path, sizeof path, "%s/rank.%d", folder, rank);
     file = open(path, O_RDWR | O_CREAT | O_TRUNC | O_CLOEXEC, 0666);

@@ -15,20 +15,22 @@ UNSEEN = dict(psend_init='partitioned', precv_init='partitioned', session_init='
 class Calls:
     """`rows` has each call's parts by rank of the world; `order` a communicator's members, by rank in it; `requests` the call of each
     rank's request, `waits` the waits for it; `unnamed` counts the calls on communicators that have no name here, with the reason;
-    `refused` has the parts that this MPI refused for their arguments, which are no calls then."""
+    `refused` has the parts that this MPI refused for their arguments, which are no calls then; `known` each rank's communicators by its names."""
 
     def __init__(self, record):
         self.record, self.rows, self.requests = record, collections.OrderedDict(), {}
         self.waits = collections.defaultdict(list)
         self.members, self.order = collections.defaultdict(set), collections.defaultdict(dict)
         self.maker, self.names, self.unnamed = {}, {WORLD: 'world'}, collections.Counter()
-        self.children, self.refused = collections.defaultdict(list), []
+        self.children, self.refused, self.known = collections.defaultdict(list), [], []
         for rank, parts in enumerate(record.parts): self.take_rank(rank, parts)
+        self.name_communicators()
         for (communicator, _), row in self.rows.items():
             for part in row.values(): self.await_group(communicator, part)
 
     def take_rank(self, rank, parts):
         known, numbers, unnamed = {'world': WORLD}, collections.Counter(), collections.Counter()
+        self.known.append(known)
         self.members[WORLD].add(rank)
         self.order[WORLD][rank] = rank
         for part in parts:
@@ -72,6 +74,18 @@ class Calls:
         if child not in self.maker: self.children[part.key].append(child)
         self.maker.setdefault(child, part.key)
         self.names.setdefault(child, part.name)
+
+    def name_communicators(self):
+        """A communicator has one name in a report: its first rank's. It is `c3@1`, as what rank 1 calls c3, where that name is another's that has
+        a rank in common with it. Others, as the halves of a split, may have one name."""
+        taken = collections.defaultdict(set)
+        for communicator, name in list(self.names.items()):
+            members = self.members[communicator]
+            if taken[name] & members: self.names[communicator] = '%s@%d' % (name, min(members))
+            else: taken[name] |= members
+        for known, parts in zip(self.known, self.record.parts):
+            for part in parts:
+                if part.kind not in WAITS and part.communicator in known: part.named = self.names[known[part.communicator]]
 
     def await_group(self, communicator, part):
         """Who was to come to a create_group."""

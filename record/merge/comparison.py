@@ -9,15 +9,33 @@ TOLD_RANKS = 8
 ADDRESS = re.compile('0x[0-9a-f]+')
 
 
+# A script of one barrier, and what the program says of it.
+KNOWN = dict(gossipmpi=('ranks 1\n0: barrier world\n', '0: ok\n'),
+             waits=('ranks 2\n0: barrier world\n', 'rank 0, line 2: barrier world, call 0: no post of 1 (finished)\n'))
+
+
 class Programs:
     """The programs gossipmpi and waits; the second may be missing."""
 
     def __init__(self, gossipmpi, waits):
-        self.gossipmpi, self.waits = gossipmpi, waits
+        self.gossipmpi, self.waits, self.known = gossipmpi, waits, set()
+
+    def check(self, name, words):
+        """That it is this program, once: another one, as /bin/true, would find no difference."""
+        script, wanted = KNOWN[name]
+        if name in self.known: return
+        run = subprocess.run(words, input=script, capture_output=True, text=True, errors='replace')
+        if run.stdout != wanted:
+            said = (run.stdout or run.stderr).strip().split('\n')[0][:80]
+            raise Unreadable('the program %s isn\'t %s: of a script of one barrier it printed %s, with status %d, where %s prints "%s"; --%s names another'
+                             % (words[0], name, '"%s"' % said if said else 'nothing', run.returncode, name, wanted.strip(), name))
+        self.known.add(name)
 
     def evaluate(self, script):
         """Of each rank its lines, and which ranks wait."""
-        try: run = subprocess.run([self.gossipmpi, 'eval'], input=script.text, capture_output=True, text=True)
+        try:
+            self.check('gossipmpi', [self.gossipmpi, 'eval'])
+            run = subprocess.run([self.gossipmpi, 'eval'], input=script.text, capture_output=True, text=True)
         except OSError as error:
             raise Unreadable('no program %s (%s): record/README.md says how it is built, and --gossipmpi names another' % (self.gossipmpi, error.strerror))
         if run.returncode not in (0, 3):
@@ -31,7 +49,9 @@ class Programs:
 
     def ask_waits(self, script):
         """The lines of `waits`, or None where it isn't at hand."""
-        try: run = subprocess.run([self.waits], input=script.text, capture_output=True, text=True)
+        try:
+            self.check('waits', [self.waits])
+            run = subprocess.run([self.waits], input=script.text, capture_output=True, text=True)
         except (OSError, TypeError): return None
         return run.stdout.splitlines() if run.returncode in (0, 3) else None
 

@@ -36,14 +36,14 @@ def amount_of(numbers): return numbers.count(' ') + 1 if numbers else 0
 class Part:
     """One rank's part of a call, or its wait for one. `items` are numbers with blanks between; `sent` and `awaited` what stands in a line
     `types`; `spelled`, where the script has other numbers than the program, gives the program's for one of the script's; `plain` is
-    how it was told before its numbers became bytes."""
+    how it was told before its numbers became bytes; `named` what a report calls its communicator, where that is known."""
     __slots__ = ('rank id tag thread place kind nonblocking communicator root operation type lists items name request'
-                 ' result key graph words sent awaited slips shown spelled position plain').split()
+                 ' result key graph words sent awaited slips shown spelled position plain named').split()
 
     def __init__(self, rank, ident, tag, place, kind, rest=''):
         self.rank, self.id, self.tag, self.place = rank, ident, tag, place
         self.communicator = self.root = self.operation = self.type = self.name = self.request = None
-        self.result = self.key = self.graph = self.sent = self.awaited = self.shown = self.spelled = self.words = self.plain = None
+        self.result = self.key = self.graph = self.sent = self.awaited = self.shown = self.spelled = self.words = self.plain = self.named = None
         self.lists, self.items, self.nonblocking, self.thread, self.slips = [], '', False, 1, ()
         self.kind = kind
         if kind.startswith('i') and kind[1:] in FIELDS: self.kind, self.nonblocking = kind[1:], True
@@ -111,13 +111,14 @@ class Part:
 
     def told(self, most):
         """For a report, with so many numbers at most."""
-        if self.tag == 'left': return ' '.join(word for word in self.words[:5] if word != '-')
-        if self.tag != 'call': return ' '.join(self.words)
+        if self.tag != 'call':
+            words = self.words[:1] + [self.named] + self.words[2:] if self.named else self.words
+            return ' '.join(word for word in words[:5] if word != '-') if self.tag == 'left' else ' '.join(words)
         if self.kind == 'wait': return 'wait ' + self.request
         type_word, lists, items = self.shown or (self.type, self.lists, self.items)
         if type_word in BITS: items = floats.shown([int(word) for word in items.split()], type_word)
         here, self.lists = self.lists, lists
-        words = [self.name_of_kind(), self.communicator] + self.fields(type_word)
+        words = [self.name_of_kind(), self.named or self.communicator] + self.fields(type_word)
         self.lists = here
         some = items.split(' ', most)
         if len(some) > most: some[most:] = ['..', '(%d numbers)' % amount_of(items)]
@@ -126,7 +127,7 @@ class Part:
     def told_types(self, most):
         """For a report of types: what it sends and awaits, in the place of its numbers."""
         if self.sent is None or self.tag != 'call': return self.plain or self.told(most)
-        words = [self.name_of_kind(), self.communicator] + [word for word in (self.root, self.operation) if word]
+        words = [self.name_of_kind(), self.named or self.communicator] + [word for word in (self.root, self.operation) if word]
         is_root = self.kind == 'bcast' and self.items
         for verb, side in (('sends', self.sent), ('sends' if is_root else 'awaits', self.awaited)):
             if side != '-': words += [verb, ', '.join(side.split(',')[:most])]

@@ -69,11 +69,14 @@ class Waiting:
         return None
 
     def translate(self, script, part, text):
-        """A line of `waits`, with places in the program for lines of the script, ranks of the world, and the record's number of the call."""
+        """A line of `waits`, with places in the program for lines of the script, ranks of the world, and the record's communicator and number of
+        the call."""
         call = self.calls.requests.get((part.rank, part.request)) if part.kind == 'wait' else part
         what, _, members = text.partition(': no post of ')
         what = re.sub(r'of line (\d+)', lambda line: self.at(script, int(line[1])), what)
-        if call and call.key: what = re.sub(r'\bcall \d+', 'call %d' % call.key[1], what)
+        if call and call.key:
+            what = re.sub(r'\bcall \d+', 'call %d' % call.key[1], what)
+            what = re.sub(r'^(\w+ \w+, for \w+) \w+' if part.kind == 'wait' else r'^(\w+) \w+', r'\1 ' + call.named, what)
         missing = []
         for first, last, state, line in re.findall(r'(\d+)(?: to (\d+))? \((finished|line (\d+))\)', members):
             for place in range(int(first), int(last or first) + 1):

@@ -29,7 +29,7 @@ pub(crate) fn push_held(board: &Board, text: &mut Vec<u8>) -> io::Result<()> {
     Ok(())
 }
 
-/// Adds the last of these calls alone, or `-`.
+/// Adds the last of these calls alone, which is of the last communicator by name, or `-`.
 pub(crate) fn push_newest(board: &Board, text: &mut Vec<u8>) -> io::Result<()> {
     let mut any = false;
     for (name, known) in board.pair().first.entries() {

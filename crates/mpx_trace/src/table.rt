@@ -8,8 +8,9 @@ use mpx_sim::{FrameSeen, Observer, Progress};
 use std::alloc::Global;
 use std::io::{self, Write};
 
-/// Shows a simulated run as a table in Markdown, a row for each turn: of each process which posts of the newest call it held when it
-/// last took a frame (`-` before it took one), and then which frames brought something new of that, and which lines ranks got.
+/// Shows a simulated run as a table in Markdown, a row for each turn: of each process which posts it held of one call when it last took a
+/// frame (`-` before it took one), and then which frames brought something new of that, and which lines ranks got. The call is the last
+/// one of the last communicator by name of which it held any, so with several communicators not always the newest.
 #[derive(Drop)]
 pub struct Table<W: Write> {
     alloc: Global,
