@@ -88,6 +88,9 @@ pub(crate) fn meant(
 ) -> Result<Option<String>, OutOfMemory> {
     let small = in_small_letters(alloc, word)?;
     let bare = without_prefix(small.as_str());
+    if is_statement && is_nonblocking(bare) {
+        return where_other(alloc, word, bare);
+    }
     let known = if is_statement {
         statement_near(bare)
     } else {
@@ -121,12 +124,24 @@ fn value_near(word: &str) -> Option<&'static str> {
     another(&TYPES, bare).or(among(&VALUES, word))
 }
 
-// The call whose nonblocking form a statement is, or is near.
+// Whether a statement is the nonblocking form of a call.
+fn is_nonblocking(word: &str) -> bool {
+    match word.strip_prefix("i") {
+        Some(call) => BOTH.contains(&call),
+        None => false,
+    }
+}
+
+// The call whose nonblocking form a statement is near.
 fn nonblocking_near(is_statement: bool, word: &str) -> Option<&'static str> {
     if !is_statement {
         return None;
     }
-    among(&BOTH, word.strip_prefix("i")?)
+    let call = word.strip_prefix("i")?;
+    match another(&CALLS, call) {
+        Some(known) if BOTH.contains(&known) => Some(known),
+        _ => among(&BOTH, call),
+    }
 }
 
 // The known word, where it isn't the word itself.

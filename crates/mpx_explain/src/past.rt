@@ -1,7 +1,8 @@
 //! Sums and products that are past the range of their signed type.
 
+use crate::numbering::marked;
 use join_core::OutOfMemory;
-use mpx_eval::{Complaint, Findings};
+use mpx_eval::Findings;
 use mpx_kind::{Call, Reduction};
 use mpx_num::{Op, Ty, into_range, is_in_range};
 use mpx_post::Draft;
@@ -11,12 +12,13 @@ use std::alloc::Global;
 // Of more results than these only how many they are is told.
 const MOST_RESULTS: usize = 100;
 
-// What a rank posts to a call on `world`, and the place of its statement.
+// What a rank posts to a call on `world`, the place of its statement, and whether the call is a fault, be it told in a line or not.
 #[derive(Clone, Copy, Drop)]
 struct Part<'s> {
     rank: u8,
     statement: usize,
     draft: &'s Draft,
+    is_fault: bool,
 }
 
 // A result that is past its type, and at which statement of which rank; no number where it is past 128 bits too, as a product may be.
@@ -52,7 +54,7 @@ pub fn explain_results(
                 parts.push(*part)?;
             }
         }
-        push_past(alloc, &parts, found, &mut results)?;
+        push_past(alloc, &parts, &mut results)?;
     }
     push_lines(alloc, text, &results, told)
 }
@@ -66,9 +68,12 @@ fn posted<'s>(
 ) -> Result<Vec<Part<'s>>, OutOfMemory> {
     let statements = script.statements(rank);
     let last = last_made(found, rank);
+    let refused = marked(alloc, script, rank, &found.complaints, b"refused ")?;
+    let told = marked(alloc, script, rank, &found.complaints, b"fault ")?;
+    let unheard = marked(alloc, script, rank, &found.unheard, b"fault ")?;
     let mut parts = Vec::new(alloc);
     for (statement, made) in statements.iter().enumerate() {
-        if statement > last || complains(&found.complaints, rank, statement, b"refused ") {
+        if statement > last || is_marked(&refused, statement) {
             continue;
         }
         if let Some(draft) = on_world(made) {
@@ -76,10 +81,15 @@ fn posted<'s>(
                 rank,
                 statement,
                 draft,
+                is_fault: is_marked(&told, statement) || is_marked(&unheard, statement),
             })?;
         }
     }
     Ok(parts)
+}
+
+fn is_marked(marks: &[bool], place: usize) -> bool {
+    marks.get(place).copied().unwrap_or(false)
 }
 
 // The place of the last statement that a rank has come to.
@@ -90,13 +100,6 @@ fn last_made(found: &Findings, rank: u8) -> usize {
         }
     }
     usize::MAX
-}
-
-// Whether a line of these begins so and is of this statement.
-fn complains(calls: &[Complaint], rank: u8, statement: usize, start: &[u8]) -> bool {
-    calls.iter().any(|call| {
-        call.rank == rank && call.statement == statement && call.text.as_bytes().starts_with(start)
-    })
 }
 
 // What a statement posts on `world`.
@@ -120,7 +123,6 @@ fn on_world(statement: &Statement) -> Option<&Draft> {
 fn push_past(
     alloc: Global,
     parts: &[Part<'_>],
-    found: &Findings,
     results: &mut Vec<Past>,
 ) -> Result<(), OutOfMemory> {
     let Some(first) = parts.first() else {
@@ -129,7 +131,7 @@ fn push_past(
     let Some(reduction) = reduced(first.draft) else {
         return Ok(());
     };
-    if is_fault(found, first) {
+    if first.is_fault {
         return Ok(());
     }
     let mut sums: Vec<Option<i128>> = Vec::new(alloc);
@@ -161,12 +163,6 @@ fn reduced(draft: &Draft) -> Option<Reduction> {
     } else {
         None
     }
-}
-
-// Whether the call is a fault, be it told in a line or not.
-fn is_fault(found: &Findings, part: &Part<'_>) -> bool {
-    complains(&found.complaints, part.rank, part.statement, b"fault ")
-        || complains(&found.unheard, part.rank, part.statement, b"fault ")
 }
 
 // Takes what a rank gives into the sums or products.
