@@ -1,5 +1,5 @@
 //! What goes from process to process in a run.
-ghost use Rattle.std.specs.Prelude.{◌≡◌, ◌<◌, ◌↔◌, ◌≤◌, ◌++◌, ◌∷◌, [], ◌⊎◌, All, IfOk, IsTrue, List, OnOk, Some, map, slice_get, ℕ};
+ghost use Rattle.std.specs.Prelude.{◌≡◌, ◌<◌, ◌↔◌, ◌≤◌, ◌++◌, ◌∷◌, [], ◌⊎◌, All, IfOk, IsFalse, IsTrue, List, OnOk, Some, map, slice_get, ℕ};
 ghost use Rattle.std.proofs.Common.{set};
 ghost use Rattle.std.specs.List.Sorted.{IsPermutation};
 ghost use Rattle.mpx_num.specs.declared.own.Operation.{Operation};
@@ -57,7 +57,8 @@ impl Network {
 
     /// The frames that are still to come: none, where those of this turn have come one after the other.
     pub(crate) fn coming(&self, in_order: bool) -> &[FrameUnderWay]
-        ensures { (result.now ≡ []) ⊎ (result.now ≡ self.now.frames.items) }
+        ensures some { (result.now ≡ []) ⊎ (result.now ≡ self.now.frames.items) }
+        ensures all { IsFalse in_order → result.now ≡ self.now.frames.items }
     {
         if in_order { &[] } else { &self.frames }
     }
