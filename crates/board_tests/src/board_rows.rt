@@ -313,7 +313,7 @@ const BOARDS: [(&str, &[BoardStep]); 7] = [
 
 #[test]
 fn boards_go_so(rt: HostRuntime) -> Result<(), Fail> {
-    for (shown, steps) in BOARDS {
+    for &(shown, steps) in BOARDS.iter() {
         board_of(&rt, rt.alloc(), shown, steps)?;
     }
     Ok(())

@@ -91,7 +91,7 @@ fn lengths(alloc: Global, count: u32) -> Result<(Option<usize>, usize), Fail>
 // Four boards, and as many names as a list may have, and one more.
 #[test]
 fn boards_are_written_out(rt: HostRuntime) -> Result<(), Fail> {
-    for (shown, steps, wanted) in WRITTEN {
+    for &(shown, steps, wanted) in WRITTEN.iter() {
         let board = board_of(&rt, rt.alloc(), shown, steps)?;
         assert!(rt; is_written(rt.alloc(), &board, wanted)?, "{shown}");
         assert!(rt; is_read(rt.alloc(), wanted, &board)?, "{shown}");
