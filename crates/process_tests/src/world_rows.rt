@@ -130,6 +130,12 @@ type Seen = (&'static [(u8, Look)], &'static [(u8, u8)]);
 
 const NOTHING: Seen = (&[], &[]);
 
+// The whole board of each of three ranks that have posted is its one part.
+const ONE_PART_EACH: &[(u8, Look)] = &[(0, Look::OnePart), (1, Look::OnePart), (2, Look::OnePart)];
+
+// Of a rank and of a relay that have done nothing.
+const TOO_LONG: &[(u8, Look)] = &[(1, Look::DoesNotFit), (3, Look::DoesNotFit)];
+
 // What the rows show, how many ranks and processes the world has, the rows, and what is seen then.
 const WORLDS: [(&str, u8, u8, &[Row], Seen); 6] = [
     (
@@ -144,9 +150,15 @@ const WORLDS: [(&str, u8, u8, &[Row], Seen); 6] = [
         3,
         6,
         PARTS,
-        (&[], &[(3, 4), (2, 5)]),
+        (ONE_PART_EACH, &[(3, 4), (2, 5)]),
     ),
-    ("gatherings, prunings and cuts", 3, 4, OTHERS, NOTHING),
+    (
+        "gatherings, prunings and cuts",
+        3,
+        4,
+        OTHERS,
+        (TOO_LONG, &[]),
+    ),
     (
         "a thousand parts of which none is taken",
         3,
