@@ -119,9 +119,9 @@ kept_none (Ok push) a b same none = tt
 kept_none (Err e) a b same none = ap (λ (v : PortView). v.kept) same ∙ none
 
 pub turn_pushes : {A : Type 0} (r : Result A OutOfMemory) (pop : Pop) (pushed : Result Push OutOfMemory) (a popped b : PortView) → is_err r ≡ (wanted_memory pop || is_err pushed) → Later (node_in a) (node_in popped) → IfOk pushed (λ push. PushesNext 1048576 push popped b)
-    → OnOk r ((push : Push) × ((at : PortView) × (Later (node_in a) (node_in at) × PushesNext 1048576 push at b)))
+    → OnOk r ((push : Push) × (at : PortView) × Later (node_in a) (node_in at) × PushesNext 1048576 push at b)
 turn_pushes (Err e) pop pushed a popped b is later next = tt
-turn_pushes (Ok u) pop (Ok push) a popped b is later next = (push, (popped, (later, next)))
+turn_pushes (Ok u) pop (Ok push) a popped b is later next = (push, popped, later, next)
 turn_pushes (Ok u) (O.Took frame) (Err e) a popped b is later next = absurd (false≢true is)
 turn_pushes (Ok u) O.Empty (Err e) a popped b is later next = absurd (false≢true is)
 turn_pushes (Ok u) (O.OutOfMemory frame) (Err e) a popped b is later next = absurd (false≢true is)
