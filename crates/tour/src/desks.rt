@@ -1,14 +1,15 @@
 //! Desks of nodes, and what goes between them.
-ghost use Rattle.std.specs.Prelude.{◌≡◌, ◌<◌, ◌≤◌, IfOk, OnOk};
+ghost use Rattle.std.specs.Prelude.{◌≡◌, ◌<◌, ◌≤◌, IfOk};
 ghost use Rattle.mpx_board.specs.Looks.{look};
 ghost use Rattle.mpx_node.specs.Shown.{node_of};
 
+use crate::calls::post_sum;
 use crate::stop::Stop;
 use mpx_board::Board;
-use mpx_comm::Desk;
+use mpx_comm::{Comm, Desk};
 use mpx_group::Proc;
 use mpx_node::{Finished, Node, PartError};
-use mpx_num::Numbers;
+use mpx_num::Ops;
 use mpx_value::Outcome;
 use std::alloc::Global;
 
@@ -24,8 +25,8 @@ pub fn desk_of(alloc: Global, me: u8, ranks: u8) -> Result<Desk<Node>, Stop>
     Ok(Desk::new(alloc, node))
 }
 
-/// Each takes the other's board.
-pub fn swap(alloc: Global, left: &mut Desk<Node>, right: &mut Desk<Node>) -> Result<(), Stop> {
+// Each takes the other's board.
+fn swap(alloc: Global, left: &mut Desk<Node>, right: &mut Desk<Node>) -> Result<(), Stop> {
     left.take(alloc, right.host().board())?;
     right.take(alloc, left.host().board())?;
     Ok(())
@@ -42,13 +43,6 @@ pub fn board_of(alloc: Global, node: &Node) -> Result<Board, Stop>
     }
 }
 
-/// The numbers, as calls take them.
-pub fn numbers(alloc: Global, list: &[i128]) -> Result<Numbers, Stop>
-    ensures { IfOk result (λ numbers. numbers ≡ list.now) }
-{
-    Ok(Numbers::new(alloc, Vec::from_slice(alloc, list)?)?)
-}
-
 /// The first number that a call gave.
 pub fn number_of(finished: &Finished) -> Result<i128, Stop> {
     match &finished.outcome {
@@ -62,4 +56,27 @@ pub fn number_in(finished: Finished) -> Result<i128, Stop> {
     let number = number_of(&finished);
     drop(finished);
     number
+}
+
+// Both post a number, and have each other's board: the sum at the left one.
+fn sum_of_both(
+    alloc: Global,
+    left: &mut Desk<Node>,
+    right: &mut Desk<Node>,
+    ops: &Ops,
+) -> Result<i128, Stop> {
+    let sum = post_sum(alloc, left, &Comm::world(alloc, 2, 0), 1, ops)?;
+    post_sum(alloc, right, &Comm::world(alloc, 2, 1), 2, ops)?;
+    swap(alloc, left, right)?;
+    number_in(left.wait(alloc, sum, 0, ops)?)
+}
+
+/// The sum of two ranks' numbers, whose boards the program carries by hand.
+pub fn sum_by_hand(alloc: Global, ops: &Ops) -> Result<i128, Stop> {
+    let mut left = desk_of(alloc, 0, 2)?;
+    let mut right = desk_of(alloc, 1, 2)?;
+    let sum = sum_of_both(alloc, &mut left, &mut right, ops);
+    drop(left);
+    drop(right);
+    sum
 }

@@ -1,15 +1,17 @@
-//! The program `tour`: the calls of `docs/CALLING.md` by two ranks in one program. It prints a line for each.
+//! The program `tour`: what `docs/CALLING.md` tells of, by ranks in threads, and by ranks whose boards the program carries by hand.
 #![tactic(auto)]
 
-mod asking;
+mod calls;
 mod desks;
 mod inbox;
-mod making;
 mod nodes;
+mod numbers;
 mod own;
+mod primes;
+mod shares;
 mod stop;
-mod threads;
 mod tour;
+mod waiting;
 
 use mpx_num::{Ops, OwnOp};
 use own::Last;

@@ -104,6 +104,12 @@ pub fn own_nodes(alloc: Global, ops: &Ops) -> Result<(Node, Node), Stop>
 /// The sum at each of two own nodes.
 pub fn sums_of_own_nodes(alloc: Global, ops: &Ops) -> Result<(i128, i128), Stop> {
     let (left, right) = own_nodes(alloc, ops)?;
-    let sums = (sum_at(alloc, &left)?, sum_at(alloc, &right)?);
-    Ok(sums)
+    let sums = sums_at(alloc, &left, &right);
+    drop(left);
+    drop(right);
+    sums
+}
+
+fn sums_at(alloc: Global, left: &Node, right: &Node) -> Result<(i128, i128), Stop> {
+    Ok((sum_at(alloc, left)?, sum_at(alloc, right)?))
 }

@@ -2,6 +2,7 @@
 use join_core::OutOfMemory;
 use mpx_comm::{CallError, WaitError};
 use mpx_post::PostError;
+use mpx_ranks::RanksError;
 use std::alloc::{AllocError, AllocFailed};
 use std::io;
 use thiserror::Error;
@@ -76,6 +77,15 @@ impl<R: Drop> From<WaitError<R>> for Stop {
         match error {
             WaitError::StillWaiting(_) => Stop::NoAnswer,
             WaitError::OutOfMemory(_) => Stop::OutOfMemory,
+        }
+    }
+}
+
+impl From<RanksError> for Stop {
+    fn from(error: RanksError) -> Stop {
+        match error {
+            RanksError::OutOfMemory => Stop::OutOfMemory,
+            RanksError::BadCount | RanksError::NoThread => Stop::NoAnswer,
         }
     }
 }

@@ -1,85 +1,70 @@
 //! The tour's lines.
-use crate::asking::{any_sum, refusal, sum_from_inbox, two_sums};
-use crate::desks::desk_of;
-use crate::making::{group, neighbours, split_apart, split_by_key};
+use crate::calls::{Calls, Got};
+use crate::desks::sum_by_hand;
 use crate::nodes::sums_of_own_nodes;
-use crate::own::combined;
+use crate::primes::print_primes;
 use crate::stop::Stop;
-use crate::threads::sum_in_threads;
-use mpx_comm::{Comm, Desk};
-use mpx_node::Node;
+use crate::waiting::sum_from_inbox;
 use mpx_num::Ops;
+use mpx_ranks::ranks;
 use std::alloc::Global;
 use std::io::Write;
 use std::sync::Wait;
 use std::thread::Threads;
 
-// A line of two numbers.
-fn print_two<W: Write>(out: &mut W, word: &str, numbers: (i128, i128)) -> Result<(), Stop> {
-    let (first, last) = numbers;
-    writeln!(out, "{word} {first} {last}")?;
+// What each of three ranks got.
+fn all_got<R: Threads + Wait + Sync>(
+    rt: &R,
+    alloc: Global,
+    ops: &Ops,
+) -> Result<Vec<Result<Got, Stop>>, Stop> {
+    let ran = ranks(rt, alloc, 3, 0, &Calls, ops)?;
+    drop(ran.nodes);
+    Ok(ran.answers)
+}
+
+// The line of a rank.
+fn print_got<W: Write>(out: &mut W, rank: usize, got: &Got) -> Result<(), Stop> {
+    let (first, last) = got.sums;
+    writeln!(
+        out,
+        "rank {rank}: sums {first} {last}, split {:?}, group {:?}, ring {}, own {}",
+        got.split, got.group, got.heard, got.own
+    )?;
     Ok(())
 }
 
-// The lines of requests.
-fn print_requests<W: Write>(
-    alloc: Global,
-    left: &mut Desk<Node>,
-    right: &mut Desk<Node>,
-    worlds: (&Comm, &Comm),
-    out: &mut W,
-    ops: &Ops,
-) -> Result<(), Stop> {
-    print_two(out, "sum", two_sums(alloc, left, right, worlds, ops)?)?;
-    let (call, sum) = any_sum(alloc, right, ops)?;
-    print_two(out, "any", (i128::from(call), sum))?;
-    let refused = refusal(alloc, left, worlds.0, ops)?;
-    writeln!(out, "refused {refused}")?;
-    let (sum, boards) = sum_from_inbox(alloc, ops)?;
-    print_two(out, "inbox", (sum, boards as i128))
+fn print_ranks<W: Write>(out: &mut W, answers: &[Result<Got, Stop>]) -> Result<(), Stop> {
+    for (rank, answer) in answers.iter().enumerate() {
+        match answer {
+            Ok(got) => print_got(out, rank, got)?,
+            Err(_) => return Err(Stop::NoAnswer),
+        }
+    }
+    Ok(())
 }
 
-// The lines of communicators.
-fn print_communicators<W: Write>(
-    alloc: Global,
-    left: &mut Desk<Node>,
-    right: &mut Desk<Node>,
-    worlds: (&Comm, &Comm),
-    out: &mut W,
-    ops: &Ops,
-) -> Result<(), Stop> {
-    let (size, rank) = split_by_key(alloc, left, right, worlds, ops)?;
-    print_two(out, "split", (i128::from(size), i128::from(rank)))?;
-    let none = split_apart(alloc, left, right, worlds, ops)?;
-    writeln!(out, "null {none}")?;
-    let (size, rank) = group(alloc, left, right, worlds, ops)?;
-    print_two(out, "group", (i128::from(size), i128::from(rank)))?;
-    print_two(out, "graph", neighbours(alloc, left, right, worlds, ops)?)
-}
-
-fn print_all<W: Write>(
-    alloc: Global,
-    left: &mut Desk<Node>,
-    right: &mut Desk<Node>,
-    out: &mut W,
-    ops: &Ops,
-) -> Result<(), Stop> {
-    let (here, there) = (Comm::world(alloc, 2, 0), Comm::world(alloc, 2, 1));
-    print_requests(alloc, left, right, (&here, &there), out, ops)?;
-    print_communicators(alloc, left, right, (&here, &there), out, ops)?;
-    let both = combined(alloc, left, right, (&here, &there), ops)?;
-    print_two(out, "own", both)
-}
-
-// The line of threads.
-fn print_threads<R: Threads + Wait + Sync, W: Write>(
+// The lines of calls.
+fn print_calls<R: Threads + Wait + Sync, W: Write>(
     rt: &R,
     alloc: Global,
     out: &mut W,
     ops: &Ops,
 ) -> Result<(), Stop> {
-    let (sum, both) = sum_in_threads(rt, alloc, ops)?;
-    print_two(out, "threads", (sum, i128::from(both)))
+    let answers = all_got(rt, alloc, ops)?;
+    let printed = print_ranks(out, &answers);
+    drop(answers);
+    printed
+}
+
+// The lines of what goes by hand.
+fn print_by_hand<W: Write>(alloc: Global, out: &mut W, ops: &Ops) -> Result<(), Stop> {
+    writeln!(out, "by hand {}", sum_by_hand(alloc, ops)?)?;
+    let (sum, boards) = sum_from_inbox(alloc, ops)?;
+    writeln!(out, "inbox {sum} {boards}")?;
+    let (left, right) = sums_of_own_nodes(alloc, ops)?;
+    writeln!(out, "nodes {left} {right}")?;
+    Ok(())
 }
 
 /// Prints the tour.
@@ -89,13 +74,8 @@ pub fn print_tour<R: Threads + Wait + Sync, W: Write>(
     out: &mut W,
     ops: &Ops,
 ) -> Result<(), Stop> {
-    let mut left = desk_of(alloc, 0, 2)?;
-    let mut right = desk_of(alloc, 1, 2)?;
-    let answer = print_all(alloc, &mut left, &mut right, out, ops);
-    drop(left);
-    drop(right);
-    answer?;
-    print_two(out, "nodes", sums_of_own_nodes(alloc, ops)?)?;
-    print_threads(rt, alloc, out, ops)?;
+    print_calls(rt, alloc, out, ops)?;
+    print_primes(rt, alloc, out, ops)?;
+    print_by_hand(alloc, out, ops)?;
     Ok(out.flush()?)
 }
