@@ -2,6 +2,7 @@
 #![tactic(auto)]
 
 use mpx_comm::{Comm, Desk, Host};
+use mpx_node::Finished;
 use mpx_num::{Numbers, Op, Ops, Ty};
 use mpx_ranks::{Program, RanksError, numbers_of, ranks};
 use std::alloc::Global;
@@ -43,10 +44,8 @@ fn sum_of<H: Host>(
     ops: &Ops,
 ) -> Option<Vec<i128>> {
     let mine = Numbers::one(mine);
-    let sum = desk
-        .allreduce(alloc, world, Op::Sum, Ty::I64, mine, TURNS, ops)
-        .ok()?;
-    Vec::from_slice(alloc, numbers_of(&sum).ok()?).ok()
+    let sum = desk.allreduce(alloc, world, Op::Sum, Ty::I64, mine, TURNS, ops);
+    numbers_in(alloc, sum.ok()?)
 }
 
 // The communicator of all ranks that give this colour.
@@ -58,7 +57,9 @@ fn half_of<H: Host>(
     ops: &Ops,
 ) -> Option<Comm> {
     let split = desk.split(alloc, world, Some(colour), 0, TURNS, ops).ok()?;
-    Comm::of(alloc, &split).ok()?
+    let half = Comm::of(alloc, &split);
+    drop(split);
+    half.ok()?
 }
 
 // What the ranks of the communicator give, at its rank 0; nothing at the others.
@@ -70,8 +71,18 @@ fn gathered<H: Host>(
     ops: &Ops,
 ) -> Option<Vec<i128>> {
     let mine = Numbers::one(mine);
-    let all = desk.gather(alloc, half, 0, Ty::I64, mine, TURNS, ops).ok()?;
-    Vec::from_slice(alloc, numbers_of(&all).ok()?).ok()
+    let all = desk.gather(alloc, half, 0, Ty::I64, mine, TURNS, ops);
+    numbers_in(alloc, all.ok()?)
+}
+
+// The numbers that a call gave. Its result is dropped here, so that no exit of another function drops it.
+fn numbers_in(alloc: Global, finished: Finished) -> Option<Vec<i128>> {
+    let numbers = match numbers_of(&finished) {
+        Ok(numbers) => Vec::from_slice(alloc, numbers).ok(),
+        Err(_) => None,
+    };
+    drop(finished);
+    numbers
 }
 
 fn main(rt: HostRuntime) -> Result<ExitCode, RanksError> {
