@@ -1,9 +1,9 @@
-//! Whether what a run prints begins the script's evaluation, however early it ends.
-use crate::lines::{word_at, words_of};
+//! Whether what a run prints begins the script's evaluation, however early it ends; and the status of a call alone.
+use crate::lines::{ended, word_at, words_of};
 use mpx_num::Ops;
 use mpx_program::run_job;
 use std::alloc::Global;
-use std::io;
+use std::io::{self, Write};
 use std::sync::Wait;
 use std::thread::Threads;
 
@@ -16,32 +16,78 @@ pub fn begins<T: Threads + Wait + Sync>(
     script: &[u8],
     ops: &Ops,
 ) -> io::Result<Vec<u8>> {
-    let run = words_of(alloc, line, 2)?;
-    let mut text = printed(rt, alloc, &run, script, ops)?;
-    let eval = words_of(alloc, b"eval", 0)?;
-    let whole = printed(rt, alloc, &eval, script, ops)?;
-    if begin(&text, &whole) {
-        text.clear();
-        text.extend_from_slice(b"begins\n= 0\n")?;
-    } else {
-        text.extend_from_slice(b"= 1\n")?;
-    }
-    Ok(text)
+    let mut text = Vec::new(alloc);
+    let mut whole = Vec::new(alloc);
+    let made = made_both(rt, alloc, line, script, &mut text, &mut whole, ops);
+    let is_begun = begin(&text, &whole);
+    drop(whole);
+    let told = match made {
+        Ok(()) => tell_begun(&mut text, is_begun),
+        Err(error) => Err(error),
+    };
+    ended(text, told)
 }
 
-// What the call prints.
-fn printed<T: Threads + Wait + Sync>(
+// The text of what is begun gives way to a word.
+fn tell_begun(text: &mut Vec<u8>, is_begun: bool) -> io::Result<()> {
+    if is_begun {
+        text.clear();
+        Ok(text.extend_from_slice(b"begins\n= 0\n")?)
+    } else {
+        Ok(text.extend_from_slice(b"= 1\n")?)
+    }
+}
+
+// Makes the call, and then the evaluation.
+fn made_both<T: Threads + Wait + Sync>(
     rt: &T,
     alloc: Global,
-    words: &[String],
+    line: &[u8],
+    script: &[u8],
+    text: &mut Vec<u8>,
+    whole: &mut Vec<u8>,
+    ops: &Ops,
+) -> io::Result<()> {
+    made(rt, alloc, line, 2, script, text, ops)?;
+    made(rt, alloc, b"eval", 0, script, whole, ops)?;
+    Ok(())
+}
+
+// Makes the call that the line's words from this place on ask for. What it prints is added to the text; its status is given.
+fn made<T: Threads + Wait + Sync>(
+    rt: &T,
+    alloc: Global,
+    line: &[u8],
+    from: usize,
+    script: &[u8],
+    text: &mut Vec<u8>,
+    ops: &Ops,
+) -> io::Result<u8> {
+    let words = words_of(alloc, line, from)?;
+    let mut said = Vec::new(alloc);
+    let mut reader = script;
+    let exit = run_job(rt, alloc, &words, &mut reader, text, &mut said, ops);
+    drop(said);
+    drop(words);
+    Ok(exit.status)
+}
+
+/// `status WORDS`: the status alone, where what is printed beside it hangs on which thread comes first.
+pub fn status<T: Threads + Wait + Sync>(
+    rt: &T,
+    alloc: Global,
+    line: &[u8],
     script: &[u8],
     ops: &Ops,
 ) -> io::Result<Vec<u8>> {
-    let mut out = Vec::new(alloc);
-    let mut said = Vec::new(alloc);
-    let mut reader = script;
-    let _exit = run_job(rt, alloc, words, &mut reader, &mut out, &mut said, ops);
-    Ok(out)
+    let mut text = Vec::new(alloc);
+    let made = made(rt, alloc, line, 2, script, &mut text, ops);
+    text.clear();
+    let told = match made {
+        Ok(status) => writeln!(text, "= {status}"),
+        Err(error) => Err(error),
+    };
+    ended(text, told)
 }
 
 // Whether each rank's lines in the text are the first of its lines in the whole; both go rank by rank.

@@ -1,13 +1,13 @@
 //! What a row asks for: a call of the program, with streams as they mostly are or with such as fail, or what no call shows.
-use crate::begins::begins;
+use crate::begins::{begins, status};
 use crate::dead::dead;
 use crate::gated_runs::{both_asked, counted, strange_job, told_meanwhile};
-use crate::lines::{number_of, word_at, words_of};
-use crate::statements::{last_statement, sizes, statements};
+use crate::lines::{ended, joined, many_words, number_of, word_at, words_of};
+use crate::statements::{Asked, told_of};
 use crate::streams::{Failing, Holding, Limited};
 use crate::terminals::{Leaping, Shown};
 use mpx_num::Ops;
-use mpx_program::{refuse, run_job, run_job_observed};
+use mpx_program::{refuse, run_job_observed};
 use mpx_script::ReadScriptError;
 use mpx_shell::Seen;
 use mpx_words::not_text;
@@ -26,11 +26,11 @@ pub fn told<T: Threads + Wait + Sync>(
 ) -> io::Result<Vec<u8>> {
     let word = word_at(line, 1);
     if word == b"statements".as_slice() {
-        statements(alloc, script, ops)
+        told_of(alloc, script, Asked::Statements, ops)
     } else if word == b"sizes".as_slice() {
-        sizes(alloc, script, ops)
+        told_of(alloc, script, Asked::Sizes, ops)
     } else if word == b"last".as_slice() {
-        last_statement(alloc, script, ops)
+        told_of(alloc, script, Asked::Last, ops)
     } else if word == b"job".as_slice() {
         strange_job(rt, alloc, word_at(line, 2), script, ops)
     } else if word == b"gate".as_slice() {
@@ -54,7 +54,8 @@ pub fn told<T: Threads + Wait + Sync>(
     }
 }
 
-// A call, with the streams that the first word tells.
+// A call, with the streams that the first word tells. `terminal WORDS` is shown on a terminal, whose clock leaps on by two seconds at each
+// look; `many N WORDS` has `--seed 1` so many times behind its words.
 fn streamed<T: Threads + Wait + Sync>(
     rt: &T,
     alloc: Global,
@@ -77,19 +78,39 @@ fn streamed<T: Threads + Wait + Sync>(
     } else if word == b"status".as_slice() {
         status(rt, alloc, line, script, ops)
     } else if word == b"terminal".as_slice() {
-        on_terminal(rt, alloc, line, script, ops)
+        called(rt, alloc, words_of(alloc, line, 2)?, script, true, ops)
     } else if word == b"many".as_slice() {
-        with_many(rt, alloc, line, script, first, ops)
+        called(
+            rt,
+            alloc,
+            many_words(alloc, line, first)?,
+            script,
+            false,
+            ops,
+        )
     } else {
-        let mut out = Vec::new(alloc);
-        let mut reader = script;
-        let said = called(rt, alloc, line, 1, &mut reader, &mut out, ops)?;
-        ended(out, &said)
+        called(rt, alloc, words_of(alloc, line, 1)?, script, false, ops)
     }
 }
 
-// Makes the call that the line's words from this place on ask for. Gives what the standard error is told, and the status.
-fn called<T: Threads + Wait + Sync, R: Read, W: Write>(
+// Makes the call that these words ask for, shown on what is a terminal or isn't.
+fn called<T: Threads + Wait + Sync>(
+    rt: &T,
+    alloc: Global,
+    words: Vec<String>,
+    script: &[u8],
+    is_terminal: bool,
+    ops: &Ops,
+) -> io::Result<Vec<u8>> {
+    let mut out = Vec::new(alloc);
+    let mut reader = script;
+    let said = shown_on(rt, alloc, &words, &mut reader, &mut out, is_terminal, ops);
+    drop(words);
+    joined(Ok(out), said)
+}
+
+// Makes the call that the line's words from this place on ask for, over these streams. Gives what the standard error is told, and the status.
+fn said_by<T: Threads + Wait + Sync, R: Read, W: Write>(
     rt: &T,
     alloc: Global,
     line: &[u8],
@@ -99,19 +120,9 @@ fn called<T: Threads + Wait + Sync, R: Read, W: Write>(
     ops: &Ops,
 ) -> io::Result<Vec<u8>> {
     let words = words_of(alloc, line, from)?;
-    called_by(rt, alloc, &words, reader, out, ops)
-}
-
-// Makes the call that these words ask for. Gives what the standard error is told, and the status.
-fn called_by<T: Threads + Wait + Sync, R: Read, W: Write>(
-    rt: &T,
-    alloc: Global,
-    words: &[String],
-    reader: &mut R,
-    out: &mut W,
-    ops: &Ops,
-) -> io::Result<Vec<u8>> {
-    shown_on(rt, alloc, words, reader, out, false, ops)
+    let said = shown_on(rt, alloc, &words, reader, out, false, ops);
+    drop(words);
+    said
 }
 
 // The same, where the run is shown on what is a terminal or isn't: what it was shown comes first, and then what the standard error is told.
@@ -132,56 +143,16 @@ fn shown_on<T: Threads + Wait + Sync, R: Read, W: Write>(
     let clock = Leaping::new();
     let mut seen = Seen::of(words, alloc, &clock, shown);
     let exit = run_job_observed(rt, alloc, words, reader, out, &mut said, &mut seen, ops);
-    with_status(seen.into_writer().text, &said, exit.status)
+    let mut shown = seen.into_writer().text;
+    let pushed = push_said(&mut shown, &said, exit.status);
+    drop(said);
+    ended(shown, pushed)
 }
 
-// `terminal WORDS`: what is told of the run as it goes on a terminal, whose clock leaps on by two seconds at each look.
-fn on_terminal<T: Threads + Wait + Sync>(
-    rt: &T,
-    alloc: Global,
-    line: &[u8],
-    script: &[u8],
-    ops: &Ops,
-) -> io::Result<Vec<u8>> {
-    let words = words_of(alloc, line, 2)?;
-    let mut out = Vec::new(alloc);
-    let mut reader = script;
-    let said = shown_on(rt, alloc, &words, &mut reader, &mut out, true, ops)?;
-    ended(out, &said)
-}
-
-// What was shown of a run and then said, with the status.
-fn with_status(shown: Vec<u8>, said: &[u8], status: u8) -> io::Result<Vec<u8>> {
-    let mut shown = shown;
-    shown.extend_from_slice(said)?;
-    writeln!(shown, "= {status}")?;
-    Ok(shown)
-}
-
-// `many N WORDS`: behind the words `--seed 1` stands so many times.
-fn with_many<T: Threads + Wait + Sync>(
-    rt: &T,
-    alloc: Global,
-    line: &[u8],
-    script: &[u8],
-    count: usize,
-    ops: &Ops,
-) -> io::Result<Vec<u8>> {
-    let mut words = words_of(alloc, line, 3)?;
-    for _ in 0..count {
-        words.push(String::from_str(alloc, "--seed")?)?;
-        words.push(String::from_str(alloc, "1")?)?;
-    }
-    let mut out = Vec::new(alloc);
-    let mut reader = script;
-    let said = called_by(rt, alloc, &words, &mut reader, &mut out, ops)?;
-    ended(out, &said)
-}
-
-// One after the other.
-fn ended(mut text: Vec<u8>, end: &[u8]) -> io::Result<Vec<u8>> {
-    text.extend_from_slice(end)?;
-    Ok(text)
+// What was said, and the status.
+fn push_said(text: &mut Vec<u8>, said: &[u8], status: u8) -> io::Result<()> {
+    text.extend_from_slice(said)?;
+    writeln!(text, "= {status}")
 }
 
 // `reader N WORDS`: the reader's call N fails. How many bytes were not read stands behind what is printed.
@@ -195,9 +166,9 @@ fn from_failing<T: Threads + Wait + Sync>(
 ) -> io::Result<Vec<u8>> {
     let mut reader = Failing { bytes, calls };
     let mut out = Vec::new(alloc);
-    let said = called(rt, alloc, line, 3, &mut reader, &mut out, ops)?;
-    writeln!(out, "{} bytes left", reader.bytes.len())?;
-    ended(out, &said)
+    let said = said_by(rt, alloc, line, 3, &mut reader, &mut out, ops);
+    let left = writeln!(out, "{} bytes left", reader.bytes.len());
+    joined(ended(out, left), said)
 }
 
 // `endless WORDS`: the reader gives `#` without end.
@@ -209,8 +180,8 @@ fn from_endless<T: Threads + Wait + Sync>(
 ) -> io::Result<Vec<u8>> {
     let mut reader = io::repeat(b'#');
     let mut out = Vec::new(alloc);
-    let said = called(rt, alloc, line, 2, &mut reader, &mut out, ops)?;
-    ended(out, &said)
+    let said = said_by(rt, alloc, line, 2, &mut reader, &mut out, ops);
+    joined(Ok(out), said)
 }
 
 // `writer ROOM PIECE WORDS`: the writer takes so many bytes in all, and so many a call.
@@ -228,8 +199,8 @@ fn into_limited<T: Threads + Wait + Sync>(
         room,
     };
     let mut reader = script;
-    let said = called(rt, alloc, line, 4, &mut reader, &mut writer, ops)?;
-    ended(writer.held, &said)
+    let said = said_by(rt, alloc, line, 4, &mut reader, &mut writer, ops);
+    joined(Ok(writer.held), said)
 }
 
 // `holding 0 WORDS`: the writer gives on what is flushed alone; `holding 1 WORDS`: and its flush fails.
@@ -247,8 +218,8 @@ fn into_holding<T: Threads + Wait + Sync>(
         fails,
     };
     let mut reader = script;
-    let said = called(rt, alloc, line, 3, &mut reader, &mut writer, ops)?;
-    ended(writer.out, &said)
+    let said = said_by(rt, alloc, line, 3, &mut reader, &mut writer, ops);
+    joined(Ok(writer.into_text()), said)
 }
 
 // `length WORDS`: in place of what is printed, how long it is.
@@ -261,33 +232,17 @@ fn length<T: Threads + Wait + Sync>(
 ) -> io::Result<Vec<u8>> {
     let mut out = Vec::new(alloc);
     let mut reader = script;
-    let said = called(rt, alloc, line, 2, &mut reader, &mut out, ops)?;
-    ended(
-        format!(in alloc; "{} bytes\n", out.len())?.into_bytes(),
-        &said,
-    )
-}
-
-// `status WORDS`: the status alone, where what is printed beside it hangs on which thread comes first.
-fn status<T: Threads + Wait + Sync>(
-    rt: &T,
-    alloc: Global,
-    line: &[u8],
-    script: &[u8],
-    ops: &Ops,
-) -> io::Result<Vec<u8>> {
-    let words = words_of(alloc, line, 2)?;
-    let mut out = Vec::new(alloc);
-    let mut said = Vec::new(alloc);
-    let mut reader = script;
-    let exit = run_job(rt, alloc, &words, &mut reader, &mut out, &mut said, ops);
-    Ok(format!(in alloc; "= {}\n", exit.status)?.into_bytes())
+    let said = said_by(rt, alloc, line, 2, &mut reader, &mut out, ops);
+    let bytes = out.len();
+    out.clear();
+    let told = writeln!(out, "{bytes} bytes");
+    joined(ended(out, told), said)
 }
 
 // `no-text`: what is said where a word of the call isn't UTF-8.
 fn no_text(alloc: Global) -> io::Result<Vec<u8>> {
     let mut said = Vec::new(alloc);
     let exit = refuse(&not_text(alloc), &mut said);
-    writeln!(said, "= {}", exit.status)?;
-    Ok(said)
+    let told = writeln!(said, "= {}", exit.status);
+    ended(said, told)
 }

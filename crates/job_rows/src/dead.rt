@@ -1,12 +1,13 @@
 //! What the boards of a simulated run say at its end of contexts that were freed.
 ghost use Rattle.std.specs.Prelude.{◌≡◌};
 
-use crate::lines::{number_of, word_at};
+use crate::lines::{ended, number_of, word_at};
 use join_nest::Lift;
 use mpx_board::Board;
+use mpx_node::Node;
 use mpx_num::Ops;
 use mpx_run::{Options, run_sim};
-use mpx_script::{Script, read_script};
+use mpx_script::{ReadScriptError, Script, read_script};
 use std::alloc::Global;
 use std::io::{self, Write};
 use std::thread::Threads;
@@ -38,6 +39,13 @@ fn push_board(text: &mut Vec<u8>, process: usize, board: &Board) -> io::Result<(
     writeln!(text, "process {process}: {contexts} contexts, {dead} dead")
 }
 
+fn push_nodes(text: &mut Vec<u8>, nodes: &[Node]) -> io::Result<()> {
+    for (process, node) in nodes.iter().enumerate() {
+        push_board(text, process, node.board())?;
+    }
+    Ok(())
+}
+
 fn push_run<T: Threads + Sync>(
     rt: &T,
     alloc: Global,
@@ -52,10 +60,25 @@ fn push_run<T: Threads + Sync>(
     let Ok(run) = run_sim(rt, alloc, script, &options(seed), ops) else {
         return writeln!(text, "out of memory");
     };
-    for (process, node) in run.nodes.iter().enumerate() {
-        push_board(text, process, node.board())?;
+    let pushed = push_nodes(text, &run.nodes);
+    drop(run);
+    pushed
+}
+
+// What is told of a script that was read.
+fn push_dead<T: Threads + Sync>(
+    rt: &T,
+    alloc: Global,
+    text: &mut Vec<u8>,
+    read: &Result<Script, ReadScriptError>,
+    seed: usize,
+    ops: &Ops,
+) -> io::Result<()> {
+    match read {
+        Ok(script) => push_run(rt, alloc, text, script, seed, ops)?,
+        Err(error) => writeln!(text, "{error}")?,
     }
-    Ok(())
+    Ok(text.extend_from_slice(b"= 0\n")?)
 }
 
 /// `dead SEED`: of each process how many contexts its board knows at the end of such a run, and how many of these are dead there.
@@ -67,17 +90,9 @@ pub fn dead<T: Threads + Sync>(
     ops: &Ops,
 ) -> io::Result<Vec<u8>> {
     let mut text = Vec::new(alloc);
-    match read_script(alloc, script, ops) {
-        Ok(script) => push_run(
-            rt,
-            alloc,
-            &mut text,
-            &script,
-            number_of(word_at(line, 2)),
-            ops,
-        )?,
-        Err(error) => writeln!(text, "{error}")?,
-    }
-    text.extend_from_slice(b"= 0\n")?;
-    Ok(text)
+    let read = read_script(alloc, script, ops);
+    let seed = number_of(word_at(line, 2));
+    let pushed = push_dead(rt, alloc, &mut text, &read, seed, ops);
+    drop(read);
+    ended(text, pushed)
 }

@@ -1,5 +1,6 @@
 //! Runs that a row makes by the library: with options that can't be, and in threads with a gate that holds or ends them.
 use crate::gates::{Both, Counting, UntilTold};
+use crate::lines::{ended, joined};
 use crate::terminals::{AllBegun, Leaping};
 use mpx_num::Ops;
 use mpx_program::{status_of, write_message};
@@ -44,14 +45,19 @@ pub fn strange_job<T: Threads + Wait + Sync>(
     let mut reader = script;
     let mut out = Vec::new(alloc);
     let answer = run_text(rt, alloc, &job, &mut reader, &mut out, ops);
-    with_answer(out, &answer)
+    with_answer(out, answer)
 }
 
 // What a job printed, with the message and the status of its answer.
-fn with_answer(mut text: Vec<u8>, answer: &Result<End, RunError>) -> io::Result<Vec<u8>> {
-    write_message(answer, &mut text)?;
-    writeln!(text, "= {}", status_of(answer, false))?;
-    Ok(text)
+fn with_answer(mut text: Vec<u8>, answer: Result<End, RunError>) -> io::Result<Vec<u8>> {
+    let pushed = push_answer(&mut text, &answer);
+    drop(answer);
+    ended(text, pushed)
+}
+
+fn push_answer(text: &mut Vec<u8>, answer: &Result<End, RunError>) -> io::Result<()> {
+    write_message(answer, text)?;
+    writeln!(text, "= {}", status_of(answer, false))
 }
 
 /// `both`: a run in threads in which ranks 0 and 1 are held until both have asked for their first frame.
@@ -61,12 +67,20 @@ pub fn both_asked<T: Threads + Wait + Sync>(
     script: &[u8],
     ops: &Ops,
 ) -> io::Result<Vec<u8>> {
-    let both = Both::new();
-    let mut out = gated(rt, alloc, script, 0, &both, ops)?;
-    if !both.were_asked() {
-        writeln!(out, "not asked")?;
+    let gate = Both::new();
+    let mut out = Vec::new(alloc);
+    let answer = in_threads(rt, alloc, script, 0, &mut out, &mut Unobserved, &gate, ops);
+    let told = push_asked(&mut out, &answer, gate.were_asked());
+    drop(answer);
+    ended(out, told)
+}
+
+fn push_asked(text: &mut Vec<u8>, answer: &Result<End, RunError>, asked: bool) -> io::Result<()> {
+    push_answer(text, answer)?;
+    if asked {
+        return Ok(());
     }
-    Ok(out)
+    writeln!(text, "not asked")
 }
 
 /// `gate`: a run of three ranks and two relays in threads, which a gate ends at the fifth push of rank 0; `steps`: the same with a gate
@@ -79,9 +93,25 @@ pub fn counted<T: Threads + Wait + Sync>(
     ops: &Ops,
 ) -> io::Result<Vec<u8>> {
     let counting = Counting::new(alloc, 5, gives_up)?;
-    let mut out = gated(rt, alloc, script, 2, &counting, ops)?;
-    counting.tell(TURNS, &mut out)?;
-    Ok(out)
+    let mut out = Vec::new(alloc);
+    let told = push_counted(rt, alloc, script, &counting, &mut out, ops);
+    drop(counting);
+    ended(out, told)
+}
+
+fn push_counted<T: Threads + Wait + Sync>(
+    rt: &T,
+    alloc: Global,
+    script: &[u8],
+    counting: &Counting,
+    out: &mut Vec<u8>,
+    ops: &Ops,
+) -> io::Result<()> {
+    let answer = in_threads(rt, alloc, script, 2, out, &mut Unobserved, counting, ops);
+    let told = push_answer(out, &answer);
+    drop(answer);
+    told?;
+    counting.tell(TURNS, out)
 }
 
 /// `meanwhile`: what is told on a terminal of a run in threads that is held until all its calls have begun.
@@ -96,37 +126,16 @@ pub fn told_meanwhile<T: Threads + Wait + Sync>(
     let mut begun = AllBegun::new(alloc, &clock, &gate);
     let mut out = Vec::new(alloc);
     let answer = in_threads(rt, alloc, script, 0, &mut out, &mut begun, &gate, ops);
-    out.extend_from_slice(&begun.into_text())?;
-    with_answer(out, &answer)
+    joined(
+        joined(Ok(out), Ok(begun.into_text())),
+        with_answer(Vec::new(alloc), answer),
+    )
 }
 
 // How many turns a process makes at most in a run that has a gate.
 const TURNS: u32 = 20_000;
 
-// A run in threads that this gate may end.
-fn gated<T: Threads + Wait + Sync, G: Gate + Sync>(
-    rt: &T,
-    alloc: Global,
-    script: &[u8],
-    relays: u8,
-    gate: &G,
-    ops: &Ops,
-) -> io::Result<Vec<u8>> {
-    let mut out = Vec::new(alloc);
-    let answer = in_threads(
-        rt,
-        alloc,
-        script,
-        relays,
-        &mut out,
-        &mut Unobserved,
-        gate,
-        ops,
-    );
-    with_answer(out, &answer)
-}
-
-// The same, while somebody looks on: what is printed goes to `out`.
+// A run in threads that this gate may end, while somebody looks on: what is printed goes to `out`.
 fn in_threads<T: Threads + Wait + Sync, G: Gate + Sync>(
     rt: &T,
     alloc: Global,

@@ -1,6 +1,6 @@
 //! The program `job_rows`: reads rows on the standard input and prints what each comes to. A row is a line `> WORDS` and
 //! a script, which ends before the line feed in front of the next row; a line `>* WORDS` has a script that is made of pieces
-//! ([`lines::of_pieces`]); a line `>> WORDS` asks for the script above once more. Behind each row's own line stand the text
+//! ([`lines::push_all_pieces`]); a line `>> WORDS` asks for the script above once more. Behind each row's own line stand the text
 //! that is printed, what the standard error is told, and `= STATUS`, or `= as above`, where the script's row before came to the
 //! same. Words that are no call of the program, as `statements` or `reader 5 run`, are told in [`calls`]. Of each script the first run
 //! that ends well is made in threads too, and where an evaluation ends well before any run, a run is made ([`more_runs`]): where
@@ -19,7 +19,7 @@ mod streams;
 mod terminals;
 
 use crate::calls::told;
-use crate::lines::of_pieces;
+use crate::lines::{ended, push_all_pieces};
 use crate::more_runs::MoreRuns;
 use mpx_affine::Affine;
 use mpx_num::{Ops, OwnOp};
@@ -85,18 +85,32 @@ impl Rows {
         ops: &Ops,
     ) -> io::Result<()> {
         if self.call.starts_with(b">* ") {
-            self.script = of_pieces(alloc, &self.script)?;
+            self.take_pieces(alloc)?;
         }
         self.text.extend_from_slice(&self.call)?;
         self.text.push(b'\n')?;
         let came = told(rt, alloc, &self.call, &self.script, ops)?;
-        if came == self.last {
-            self.text.extend_from_slice(b"= as above\n")?;
-        } else {
-            self.text.extend_from_slice(&came)?;
-        }
+        let pushed = self.push_came(&came);
         self.last = came;
+        pushed?;
         self.run_more(rt, alloc, ops)
+    }
+
+    // Makes the script of its pieces.
+    fn take_pieces(&mut self, alloc: Global) -> io::Result<()> {
+        let mut script = Vec::new(alloc);
+        let pushed = push_all_pieces(&mut script, &self.script);
+        self.script = ended(script, pushed)?;
+        Ok(())
+    }
+
+    // Adds what the call comes to.
+    fn push_came(&mut self, came: &[u8]) -> io::Result<()> {
+        if came == self.last.as_slice() {
+            Ok(self.text.extend_from_slice(b"= as above\n")?)
+        } else {
+            Ok(self.text.extend_from_slice(came)?)
+        }
     }
 
     // Adds what another run comes to, where that isn't the same.
@@ -109,11 +123,19 @@ impl Rows {
         let again = self
             .more
             .make(rt, alloc, &self.call, &self.script, &self.last, ops)?;
-        if let Some(again) = again {
-            self.text.extend_from_slice(b"in another run:\n")?;
-            self.text.extend_from_slice(&again)?;
+        match again {
+            Some(again) => {
+                let pushed = self.push_again(&again);
+                drop(again);
+                pushed
+            }
+            None => Ok(()),
         }
-        Ok(())
+    }
+
+    fn push_again(&mut self, again: &[u8]) -> io::Result<()> {
+        self.text.extend_from_slice(b"in another run:\n")?;
+        Ok(self.text.extend_from_slice(again)?)
     }
 
     /// Does what the line asks for.
@@ -162,10 +184,28 @@ fn print_rows<T: Threads + Wait + Sync, R: Read, W: Write>(
     ops: &Ops,
 ) -> io::Result<()> {
     let mut text = Vec::new(alloc);
-    reader.read_to_end(&mut text)?;
+    let printed = match reader.read_to_end(&mut text) {
+        Ok(_) => print_text(rt, alloc, &text, writer, ops),
+        Err(error) => Err(error),
+    };
+    drop(text);
+    printed
+}
+
+fn print_text<T: Threads + Wait + Sync, W: Write>(
+    rt: &T,
+    alloc: Global,
+    text: &[u8],
+    writer: &mut W,
+    ops: &Ops,
+) -> io::Result<()> {
     let mut rows = Rows::new(alloc);
-    read_all(rt, alloc, &mut rows, &text, ops)?;
-    writer.write_all(&rows.text)?;
+    let printed = match read_all(rt, alloc, &mut rows, text, ops) {
+        Ok(()) => writer.write_all(&rows.text),
+        Err(error) => Err(error),
+    };
+    drop(rows);
+    printed?;
     writer.flush()
 }
 

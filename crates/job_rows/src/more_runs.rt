@@ -69,7 +69,7 @@ impl MoreRuns {
         } else if is_evaluation(line) && !self.is_run && script.len() <= LONGEST {
             self.is_run = true;
             self.simulated = self.simulated.saturating_add(1);
-            other_than(came, told(rt, alloc, b"> run", script, ops)?)
+            other_than(came, told(rt, alloc, b"> run", script, ops))
         } else {
             Ok(None)
         }
@@ -86,14 +86,24 @@ fn run_in_threads<T: Threads + Wait + Sync>(
     ops: &Ops,
 ) -> io::Result<Option<Vec<u8>>> {
     let mut call = Vec::new(alloc);
+    let again = match push_threaded(&mut call, line) {
+        Ok(()) => told(rt, alloc, &call, script, ops),
+        Err(error) => Err(error),
+    };
+    drop(call);
+    other_than(came, again)
+}
+
+fn push_threaded(call: &mut Vec<u8>, line: &[u8]) -> io::Result<()> {
     call.extend_from_slice(line)?;
-    call.extend_from_slice(b" --threads --turns 10000000")?;
-    other_than(came, told(rt, alloc, &call, script, ops)?)
+    Ok(call.extend_from_slice(b" --threads --turns 10000000")?)
 }
 
 // What another run came to, where that isn't the same.
-fn other_than(came: &[u8], again: Vec<u8>) -> io::Result<Option<Vec<u8>>> {
+fn other_than(came: &[u8], again: io::Result<Vec<u8>>) -> io::Result<Option<Vec<u8>>> {
+    let again = again?;
     if again.as_slice() == came {
+        drop(again);
         return Ok(None);
     }
     Ok(Some(again))

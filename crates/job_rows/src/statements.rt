@@ -1,7 +1,8 @@
 //! Scripts that are read, as text: a line for each statement, with all that it says.
+use crate::lines::ended;
 use mpx_num::Ops;
 use mpx_post::{Draft, DraftedGraph, DraftedNeighbour};
-use mpx_script::{Posting, Question, Script, Statement, Word, read_script};
+use mpx_script::{Posting, Question, ReadScriptError, Script, Statement, Word, read_script};
 use std::alloc::Global;
 use std::io::{self, Write};
 
@@ -101,8 +102,17 @@ fn push_sort(text: &mut Vec<u8>, statement: &Statement) -> io::Result<()> {
     }
 }
 
+// What the statement drafts.
+fn push_drafted<E>(text: &mut Vec<u8>, draft: &Result<Option<Draft>, E>) -> io::Result<()> {
+    match draft {
+        Ok(Some(draft)) => push_draft(text, draft),
+        Ok(None) => Ok(()),
+        Err(_) => Ok(text.extend_from_slice(b" no memory")?),
+    }
+}
+
 // All that the statement says: what it is, the names that it binds, and what it drafts.
-fn push_statement(alloc: Global, text: &mut Vec<u8>, statement: &Statement) -> io::Result<()> {
+fn push_statement(text: &mut Vec<u8>, statement: &Statement) -> io::Result<()> {
     push_sort(text, statement)?;
     if let Some(word) = statement.target() {
         push_word(text, " to", word)?;
@@ -110,75 +120,90 @@ fn push_statement(alloc: Global, text: &mut Vec<u8>, statement: &Statement) -> i
     if let Some(word) = statement.request() {
         push_word(text, " as", word)?;
     }
-    match statement.draft() {
-        Ok(Some(draft)) => push_draft(text, &draft),
-        Ok(None) => Ok(()),
-        Err(_) => text
-            .extend_from_slice(b" no memory")
-            .map_err(io::Error::from),
-    }
+    let draft = statement.draft();
+    let pushed = push_drafted(text, &draft);
+    drop(draft);
+    pushed
 }
 
-fn push_rank(alloc: Global, text: &mut Vec<u8>, script: &Script, rank: u8) -> io::Result<()> {
+fn push_rank(text: &mut Vec<u8>, script: &Script, rank: u8) -> io::Result<()> {
     for statement in script.statements(rank) {
         write!(text, "{rank}: ")?;
-        push_statement(alloc, text, statement)?;
+        push_statement(text, statement)?;
         text.push(b'\n')?;
     }
     Ok(())
 }
 
-fn push_script(alloc: Global, text: &mut Vec<u8>, script: &Script) -> io::Result<()> {
+fn push_script(text: &mut Vec<u8>, script: &Script) -> io::Result<()> {
     writeln!(text, "{} ranks", script.ranks())?;
     for rank in 0..script.ranks() {
-        push_rank(alloc, text, script, rank)?;
+        push_rank(text, script, rank)?;
     }
     // no other rank has any statement
-    push_rank(alloc, text, script, script.ranks())?;
-    push_rank(alloc, text, script, 255)
+    push_rank(text, script, script.ranks())?;
+    push_rank(text, script, 255)
 }
 
-/// The script's ranks and their statements, or why it is refused, as a row.
-pub fn statements(alloc: Global, script: &[u8], ops: &Ops) -> io::Result<Vec<u8>> {
-    let mut text = Vec::new(alloc);
-    match read_script(alloc, script, ops) {
-        Ok(script) => push_script(alloc, &mut text, &script)?,
+fn push_sizes(text: &mut Vec<u8>, script: &Script) -> io::Result<()> {
+    writeln!(
+        text,
+        "{} ranks, {} and {} statements",
+        script.ranks(),
+        script.statements(0).len(),
+        script.statements(63).len(),
+    )
+}
+
+fn push_last(text: &mut Vec<u8>, script: &Script) -> io::Result<()> {
+    if let Some(statement) = script.statements(0).last() {
+        push_statement(text, statement)?;
+    }
+    text.push(b'\n')?;
+    Ok(())
+}
+
+/// What is told of a script that is read.
+#[derive(Clone, Copy)]
+pub enum Asked {
+    /// `statements`: its ranks and their statements.
+    Statements,
+    /// `sizes`: how long it is, how many ranks it has and how many statements the first and the 64th of them have.
+    Sizes,
+    /// `last`: all that the last statement of the first rank says.
+    Last,
+}
+
+fn push_asked(text: &mut Vec<u8>, script: &Script, asked: Asked) -> io::Result<()> {
+    match asked {
+        Asked::Statements => push_script(text, script),
+        Asked::Sizes => push_sizes(text, script),
+        Asked::Last => push_last(text, script),
+    }
+}
+
+// That, or why the script is refused, as a row.
+fn push_read(
+    text: &mut Vec<u8>,
+    length: usize,
+    read: &Result<Script, ReadScriptError>,
+    asked: Asked,
+) -> io::Result<()> {
+    if matches!(asked, Asked::Sizes) {
+        write!(text, "{length} bytes, ")?;
+    }
+    match read {
+        Ok(script) => push_asked(text, script, asked)?,
         Err(error) => writeln!(text, "{error}")?,
     }
-    text.extend_from_slice(b"= 0\n")?;
-    Ok(text)
+    Ok(text.extend_from_slice(b"= 0\n")?)
 }
 
-/// `sizes`: how long the script is, how many ranks it has and how many statements the first and the 64th of them have, or why
-/// it is refused.
-pub fn sizes(alloc: Global, script: &[u8], ops: &Ops) -> io::Result<Vec<u8>> {
+/// Reads the script, and tells that of it, or why it is refused, as a row.
+pub fn told_of(alloc: Global, script: &[u8], asked: Asked, ops: &Ops) -> io::Result<Vec<u8>> {
     let mut text = Vec::new(alloc);
-    write!(text, "{} bytes, ", script.len())?;
-    match read_script(alloc, script, ops) {
-        Ok(script) => write!(
-            text,
-            "{} ranks, {} and {} statements",
-            script.ranks(),
-            script.statements(0).len(),
-            script.statements(63).len(),
-        )?,
-        Err(error) => write!(text, "{error}")?,
-    }
-    text.extend_from_slice(b"\n= 0\n")?;
-    Ok(text)
-}
-
-/// `last`: all that the last statement of the first rank says.
-pub fn last_statement(alloc: Global, script: &[u8], ops: &Ops) -> io::Result<Vec<u8>> {
-    let mut text = Vec::new(alloc);
-    match read_script(alloc, script, ops) {
-        Ok(script) => {
-            if let Some(statement) = script.statements(0).last() {
-                push_statement(alloc, &mut text, statement)?;
-            }
-        }
-        Err(error) => write!(text, "{error}")?,
-    }
-    text.extend_from_slice(b"\n= 0\n")?;
-    Ok(text)
+    let read = read_script(alloc, script, ops);
+    let pushed = push_read(&mut text, script.len(), &read, asked);
+    drop(read);
+    ended(text, pushed)
 }

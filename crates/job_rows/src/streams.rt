@@ -49,6 +49,14 @@ pub struct Holding {
     pub fails: bool,
 }
 
+impl Holding {
+    /// What it has given on.
+    pub fn into_text(self) -> Vec<u8> {
+        drop(self.held);
+        self.out
+    }
+}
+
 impl Write for Holding {
     fn write(&mut self, buf: &[u8]) -> io::Result<usize> {
         self.held.extend_from_slice(buf)?;
