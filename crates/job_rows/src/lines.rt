@@ -49,29 +49,31 @@ fn push_end(text: &mut Vec<u8>, end: io::Result<Vec<u8>>) -> io::Result<()> {
 /// The words of a call of the program: its name, and the line's words from this place on.
 pub fn words_of(alloc: Global, line: &[u8], from: usize) -> Result<Vec<String>, AllocError> {
     let mut words = Vec::new(alloc);
-    let pushed = push_words(alloc, &mut words, line, from);
-    words_where(words, pushed)
-}
-
-/// The words of a call from the third on, and behind them `--seed 1` so many times.
-pub fn many_words(alloc: Global, line: &[u8], count: usize) -> Result<Vec<String>, AllocError> {
-    let mut words = words_of(alloc, line, 3)?;
-    let pushed = push_seeds(alloc, &mut words, count);
-    words_where(words, pushed)
-}
-
-// The words, where all were pushed.
-fn words_where(
-    words: Vec<String>,
-    pushed: Result<(), AllocError>,
-) -> Result<Vec<String>, AllocError> {
-    match pushed {
+    match push_words(alloc, &mut words, line, from) {
         Ok(()) => Ok(words),
         Err(error) => {
             drop(words);
             Err(error)
         }
     }
+}
+
+/// The words of a call from the third on, and behind them `--seed 1` so many times.
+pub fn many_words(alloc: Global, line: &[u8], count: usize) -> io::Result<Vec<String>> {
+    let mut whole = Vec::new(alloc);
+    let pushed = push_seeds(&mut whole, line, count);
+    let whole = ended(whole, pushed)?;
+    let words = words_of(alloc, &whole, 3);
+    drop(whole);
+    Ok(words?)
+}
+
+fn push_seeds(whole: &mut Vec<u8>, line: &[u8], count: usize) -> io::Result<()> {
+    whole.extend_from_slice(line)?;
+    for _ in 0..count {
+        whole.extend_from_slice(b" --seed 1")?;
+    }
+    Ok(())
 }
 
 fn push_words(
@@ -85,14 +87,6 @@ fn push_words(
         if i >= from && !word.is_empty() {
             push_word(words, String::from_utf8_lossy(alloc, word)?)?;
         }
-    }
-    Ok(())
-}
-
-fn push_seeds(alloc: Global, words: &mut Vec<String>, count: usize) -> Result<(), AllocError> {
-    for _ in 0..count {
-        push_word(words, String::from_str(alloc, "--seed")?)?;
-        push_word(words, String::from_str(alloc, "1")?)?;
     }
     Ok(())
 }
