@@ -276,6 +276,7 @@ fn with_port<L: PortLock>(
     ensures port { result.port ≡ port }
     ensures gossip { result.gossip ≡ gossip }
     ensures worked { (relays : ℕ) → HasWorked script.now relays L.setup L.me port (lines_in result) result.waits result.calls.items }
+    ensures whole { AllHeld (node_in port) told.now → (lines_in result ≡ map string_bytes lines.items) × (result.waits ≡ waits) × (result.calls.items ≡ calls.items) }
 {
     if told.are_held(port.node()) {
         return Worked {
