@@ -118,7 +118,7 @@ pub kept_none : (r : Result Push OutOfMemory) (a b : PortView) → OnErr r (b �
 kept_none (Ok push) a b same none = tt
 kept_none (Err e) a b same none = ap (λ (v : PortView). v.kept) same ∙ none
 
-pub turn_pushes : (r : Result (Unit {0}) OutOfMemory) (pop : Pop) (pushed : Result Push OutOfMemory) (a popped b : PortView) → is_err r ≡ (wanted_memory pop || is_err pushed) → Later (node_in a) (node_in popped) → IfOk pushed (λ push. PushesNext 1048576 push popped b)
+pub turn_pushes : {A : Type 0} (r : Result A OutOfMemory) (pop : Pop) (pushed : Result Push OutOfMemory) (a popped b : PortView) → is_err r ≡ (wanted_memory pop || is_err pushed) → Later (node_in a) (node_in popped) → IfOk pushed (λ push. PushesNext 1048576 push popped b)
     → OnOk r ((push : Push) × ((at : PortView) × (Later (node_in a) (node_in at) × PushesNext 1048576 push at b)))
 turn_pushes (Err e) pop pushed a popped b is later next = tt
 turn_pushes (Ok u) pop (Ok push) a popped b is later next = (push, (popped, (later, next)))
@@ -126,9 +126,9 @@ turn_pushes (Ok u) (O.Took frame) (Err e) a popped b is later next = absurd (fal
 turn_pushes (Ok u) O.Empty (Err e) a popped b is later next = absurd (false≢true is)
 turn_pushes (Ok u) (O.OutOfMemory frame) (Err e) a popped b is later next = absurd (false≢true is)
 
-pub turn_wanted : (r : Result (Unit {0}) OutOfMemory) (pop : Pop) (pushed : Result Push OutOfMemory) (a popped b : PortView) → is_err r ≡ (wanted_memory pop || is_err pushed) → PopsOne pop a popped → OnErr pushed (b.kept ≡ []) → OnErr r (HasWanted a b)
+pub turn_wanted : {A : Type 0} (r : Result A OutOfMemory) (pop : Pop) (pushed : Result Push OutOfMemory) (a popped b : PortView) → is_err r ≡ (wanted_memory pop || is_err pushed) → PopsOne pop a popped → OnErr pushed (b.kept ≡ []) → OnErr r (HasWanted a b)
 turn_wanted (Ok u) pop pushed a popped b is answer none = tt
-turn_wanted (Err e) (O.OutOfMemory frame) pushed a popped b is answer none = inl (frame, (popped, answer))
+turn_wanted (Err e) (O.OutOfMemory frame) pushed a popped b is answer none = inl (frame, popped, answer)
 turn_wanted (Err e) (O.Took frame) (Err w) a popped b is answer none = inr none
 turn_wanted (Err e) O.Empty (Err w) a popped b is answer none = inr none
 turn_wanted (Err e) (O.Took frame) (Ok push) a popped b is answer none = absurd (false≢true (sym is))

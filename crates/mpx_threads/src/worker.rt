@@ -1,9 +1,11 @@
 //! A process of a run: a rank works in two threads over one port, a relay in one.
 ghost use Rattle.std.specs.Prelude.{◌≡◌, ◌+◌, ◌<◌, ◌≤◌, ℕ, IfOk, [], length, map, string_bytes};
 ghost use Rattle.mpx_bus.specs.Buses.{table_of};
+ghost use Rattle.mpx_bus.specs.Ports.{node_in};
 ghost use Rattle.mpx_shared.specs.LawfulPorts.{IsLawful, made_in};
 ghost use Rattle.mpx_threads.specs.Gates.{GivesUpWithin};
 ghost use Rattle.mpx_threads.specs.Plans.{Plans};
+ghost use Rattle.mpx_threads.specs.ToldCalls.{AllHeld};
 ghost use Rattle.mpx_threads.specs.Work.{GossipEndsSo, HasCome, HasWorked, IsNewLedger, IsReadyProcess, IsWorked, lines_in};
 
 use crate::carry::{Carried, carry_out};
