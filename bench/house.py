@@ -3,16 +3,20 @@
 
     bench/house.py            checks; exit status 1 where something differs
     bench/house.py --write    writes docs/house.svg, and the table of rooms in docs/ARCHITECTURE.md
+    bench/house.py --seen     runs one allreduce of one and of three ranks by out/look/gossipmpi under valgrind, and says which crates' code it entered
 
 It checks that each crate stands in a room, and on crates above it in crates.txt alone; that the crates and functions of the way below are there; and
 that the picture and the table are what it would write. Where a crate comes or goes, --write is enough.
 
-The way was read in the sources at 50ce7a5e, and held against callgrind's list of functions for the run without a frame. A compiler puts small
-functions into their callers, so no tool tells it whole."""
+Of the way, which crates are entered is what --seen says (29 November 2026, 50ce7a5e): the program of bench/look keeps each function apart. Of join_core a
+run without a frame enters only what drops its values. The steps back were read in the sources."""
 import html
 import pathlib
 import re
+import shutil
+import subprocess
 import sys
+import tempfile
 
 ROOT = pathlib.Path(__file__).resolve().parent.parent
 PAGE, PICTURE = ROOT / "docs" / "ARCHITECTURE.md", ROOT / "docs" / "house.svg"
@@ -145,6 +149,29 @@ def picture(found):
     return "\n".join(out) + "\n"
 
 
+def seen(program, ranks):
+    """The crates whose functions a run of one allreduce enters."""
+    script = f"ranks {ranks}\n*: allreduce world sum i64 1\n"
+    with tempfile.TemporaryDirectory() as room:
+        words = ["valgrind", "--tool=callgrind", f"--callgrind-out-file={room}/out", str(program), "run", "--workers", "1"]
+        subprocess.run(words, input=script, stdout=subprocess.DEVNULL, stderr=subprocess.DEVNULL, universal_newlines=True, check=True)
+        names = re.findall(r"^c?fn=\(\d+\) (\w+)::(.*)$", (pathlib.Path(room) / "out").read_text(), re.M)
+    return {crate for crate, _ in names} | {inner for _, rest in names for inner in re.findall(r"^(\w+)\+\+\w+\+\+.*Destruct", rest)}
+
+
+def differs():
+    """Where the way isn't what is seen."""
+    program = ROOT / "out" / "look" / "gossipmpi"
+    if not program.exists() or not shutil.which("valgrind"):
+        yield "--seen wants out/look/gossipmpi, which bench/look builds, and valgrind"
+        return
+    crates = {crate for _, _, ours in rooms((ROOT / "crates.txt").read_text())[0] for crate in ours}
+    for ranks, told in ((1, {*ENTERED}), (3, {*ENTERED, *FRAMED})):
+        entered = seen(program, ranks) & crates
+        yield from (f"{crate} is entered by {ranks} ranks, and isn't told" for crate in sorted(entered - told))
+        yield from (f"{crate} is told, and isn't entered by {ranks} ranks" for crate in sorted(told - entered))
+
+
 def main(words):
     found, faults = rooms((ROOT / "crates.txt").read_text())
     crates = {crate for _, _, crates in found for crate in crates}
@@ -152,6 +179,7 @@ def main(words):
     for start, goal, name in BACK:
         sources = (file.read_text() for file in (ROOT / "crates" / goal / "src").rglob("*.rt"))
         faults += [] if any(f"fn {name}" in text for text in sources) else [f"{goal} has no function {name}, to which {start} goes back"]
+    faults += differs() if words == ["--seen"] else []
     if faults:
         print("\n".join(faults))
         return 1
