@@ -3,6 +3,7 @@
 
     bench/house.py            checks; exit status 1 where something differs
     bench/house.py --write    writes docs/house.svg, and the table of rooms in docs/ARCHITECTURE.md
+    bench/house.py --crates   the crates by rooms, each with what it says of itself
     bench/house.py --seen     runs one allreduce of one and of three ranks by out/look/gossipmpi under valgrind, and says which crates' code it entered
 
 It checks that each crate stands in a room, and on crates above it in crates.txt alone; that the crates and functions of the way below are there; and
@@ -179,6 +180,9 @@ def main(words):
     for start, goal, name in BACK:
         sources = (file.read_text() for file in (ROOT / "crates" / goal / "src").rglob("*.rt"))
         faults += [] if any(f"fn {name}" in text for text in sources) else [f"{goal} has no function {name}, to which {start} goes back"]
+    if words == ["--crates"]:
+        print("\n".join(f"{crate:18} {first_line(crate)}" for _, _, crates in found for crate in crates))
+        return 0
     faults += differs() if words == ["--seen"] else []
     if faults:
         print("\n".join(faults))
