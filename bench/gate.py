@@ -1,15 +1,16 @@
 #!/usr/bin/env python3
 """Runs the gate, and tells how many minutes of one processor each crate took: its proof, its tests, its wrong bodies.
 
-    bench/gate.py            runs `rt ci` at the top, whose output goes to the standard error; the table comes behind it
+    bench/gate.py            runs `rt ci` at the top; the table comes behind its output, and then its last line once more
     bench/gate.py COMMAND..  another command in its place, as `rt must-fail mpx_fold`
 
-It looks twice a second at what the command started, so that each process's last half second is missed: two in a hundred."""
+It looks once a second at what the command started, so that each process's last second is missed: three in a hundred. The exit status is the command's."""
 import collections
 import os
 import pathlib
 import subprocess
 import sys
+import threading
 import time
 
 TOP = pathlib.Path(__file__).resolve().parent.parent
@@ -54,24 +55,39 @@ def look(top, works, spent):
             spent[key] = ticks
 
 
-def main(words):
-    began = time.time()
-    running = subprocess.Popen(words or ["rt", "ci"], cwd=TOP, stdout=sys.stderr, stdin=subprocess.DEVNULL)
-    works, spent = {}, {}
-    while running.poll() is None:
-        look(running.pid, works, spent)
-        time.sleep(0.5)
+def table(works, spent):
+    """The minutes of each crate, the dearest first, and their sum."""
     minutes = collections.Counter()
     for key, ticks in spent.items():
         minutes[works[key] or ("rt", "proof")] += ticks / TICKS / 60
     crates = sorted({crate for crate, _ in minutes}, key=lambda it: -sum(minutes[it, part] for part in PARTS))
-    print("| crate | " + " | ".join(PARTS) + " | all |")
-    for crate in crates:
-        each = [minutes[crate, part] for part in PARTS]
-        print(f"| {crate} | " + " | ".join(f"{it:.1f}" if it else "-" for it in each) + f" | {sum(each):.1f} |")
-    sums = [sum(minutes[crate, part] for crate in crates) for part in PARTS]
-    print("| all | " + " | ".join(f"{it:.1f}" for it in sums) + f" | {sum(sums):.1f} |")
-    print(f"{(time.time() - began) / 60:.1f} minutes, status {running.returncode}")
+    rows = [(crate, [minutes[crate, part] for part in PARTS]) for crate in crates]
+    rows.append(("all", [sum(each[at] for _, each in rows) for at in range(len(PARTS))]))
+    lines = ["| crate | " + " | ".join(PARTS) + " | all |"]
+    for crate, each in rows:
+        lines.append(f"| {crate} | " + " | ".join(f"{it:.1f}" if it else "-" for it in each) + f" | {sum(each):.1f} |")
+    return lines
+
+
+def watch(running, works, spent):
+    """Adds up what the command's processes take, until it ends."""
+    while running.poll() is None:
+        look(running.pid, works, spent)
+        time.sleep(1)
+
+
+def main(words):
+    began = time.time()
+    running = subprocess.Popen(words or ["rt", "ci"], cwd=TOP, stdout=subprocess.PIPE, stderr=subprocess.STDOUT, stdin=subprocess.DEVNULL, universal_newlines=True, errors="replace")
+    works, spent, last = {}, {}, ""
+    watching = threading.Thread(target=watch, args=(running, works, spent))
+    watching.start()
+    for last in running.stdout:
+        print(last, end="", flush=True)
+    watching.join()
+    print("\n".join(table(works, spent)))
+    print(f"{(time.time() - began) / 60:.1f} minutes on the clock of {len(os.sched_getaffinity(0))} processors, status {running.returncode}")
+    print(last.rstrip("\n"))
     return running.returncode
 
 

@@ -1,4 +1,5 @@
-"""The toolchain's own Python, as bench/prove and bench/wrong.py use it: the crates of this repository with the words of a check, and what `rt ci` kept."""
+"""The toolchain's own Python, as bench/prove and bench/wrong.py use it: the crates of this repository with the words of a check, and what `rt ci` kept.
+A toolchain whose `rt ci` keeps nothing (rattle-kit-13b) is served too: there only what bench/prove built itself is taken."""
 import importlib.machinery
 import importlib.util
 import json
@@ -38,21 +39,26 @@ class Kit:
     def take(self):
         """Links the libraries that `rt ci` kept of just these files into the crates' out/, and gives the names of those that have none. One that
         bench/prove built of these files stays."""
-        kept, lacking = self.rt.Kept(list(self.crates.values())), []
+        kept, lacking = self.kept(), []
         for crate in sorted((it for it in self.crates.values() if not it.is_program), key=lambda it: len(it.below())):
             if any(it.name in lacking for it in crate.below()) or not self.takes(kept, crate):
                 lacking.append(crate.name)
         return lacking
 
+    def kept(self):
+        """What `rt ci` kept of these crates; none where it keeps nothing."""
+        return self.rt.Kept(list(self.crates.values())) if hasattr(self.rt, "Kept") else None
+
     def takes(self, kept, crate):
         """Whether the crate has a library of just these files now."""
+        if kept is None:
+            return self.is_own(crate)
         key = kept.key(crate)
         at, folder, mark = kept.place(crate, False, key), f"{crate.folder}/out/rlib", f"{crate.folder}/out/rlib/kept"
         if not os.path.isdir(at):
-            if text_of(f"{folder}/built") == self.sum_of(crate):
+            if self.is_own(crate):
                 kept.is_built(crate)
                 return True
-            shutil.rmtree(folder, ignore_errors=True)
             return False
         if text_of(mark) != key:
             shutil.rmtree(folder, ignore_errors=True)
@@ -66,10 +72,19 @@ class Kit:
         kept.is_built(crate)
         return True
 
+    def is_own(self, crate):
+        """Whether bench/prove built the crate's library of just these files. One of other files is removed."""
+        folder = f"{crate.folder}/out/rlib"
+        is_own = os.path.isdir(crate.rlib) and text_of(f"{folder}/built") == self.sum_of(crate)
+        if not is_own:
+            shutil.rmtree(folder, ignore_errors=True)
+        return is_own
+
     def sum_of(self, crate):
         """Of all that the crate's library is built of."""
         libraries = [text_of(f"{it.rlib}/format") or it.name for it in crate.below()]
-        return self.lib.hashlib.sha256("\0".join([self.rt.own_sum(crate), *libraries]).encode()).hexdigest()
+        own = self.rt.own_sum(crate) if hasattr(self.rt, "own_sum") else crate.stamp()
+        return self.lib.hashlib.sha256("\0".join([own, *libraries]).encode()).hexdigest()
 
     def check(self, crate, words, folder=None, **how):
         """Runs the checker on the crate, or on a copy of it in another folder."""

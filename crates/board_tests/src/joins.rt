@@ -1,12 +1,11 @@
-//! Joins, at once and made ready first, deltas, cuts and parts of boards.
-use crate::board_rows::{BoardStep, board_of, go_on};
+//! Joins of boards, at once and made ready first, and cuts.
+use crate::board_rows::{BoardStep, boards_of};
 use join_core::{Exact, Join, OutOfMemory};
 use mpx_board::Board;
+use mpx_name::Name;
 use std::alloc::Global;
-use std::process::Abort;
 use std::test::Fail;
-use test_drafts::contexts::{On, WORLD, name_of, post_of};
-use test_drafts::proc;
+use test_drafts::contexts::On;
 
 // Posts of calls 3 and 6.
 const LATE: &[BoardStep] = &[
@@ -23,33 +22,15 @@ const DROPPED: &[BoardStep] = &[
 ];
 
 const STAYS_DROPPED: &[BoardStep] = &[
+    BoardStep::Members(3),
+    BoardStep::Front(0, 5),
+    BoardStep::Front(1, 5),
+    BoardStep::Front(2, 5),
+    BoardStep::Prunes(5, Ok(())),
+    BoardStep::Adds(6, 1, &[7], Ok(())),
     BoardStep::HasDropped(5),
     BoardStep::Lacks(3, 1),
-    BoardStep::Holds(6, 1),
 ];
-
-// Whether the join of both is this board, whichever way it is made.
-fn is_join(alloc: Global, board: &Board, a: &Board, b: &Board) -> Result<bool, OutOfMemory> {
-    Ok(board.same(&a.joined(alloc, b)?) && board.same(&b.joined(alloc, a)?))
-}
-
-fn takes_late_posts(
-    rt: &impl Abort,
-    alloc: Global,
-    board: &mut Board,
-    part: &Board,
-) -> Result<bool, Fail> {
-    board.take(alloc, part)?;
-    go_on(rt, alloc, board, "stays dropped", STAYS_DROPPED)?;
-    Ok(is_join(alloc, board, board, part)?)
-}
-
-// What one side has dropped doesn't come back, whichever way boards are joined.
-fn stays_dropped(rt: &impl Abort, alloc: Global) -> Result<bool, Fail> {
-    let part = board_of(rt, alloc, "late", LATE)?;
-    let mut board = board_of(rt, alloc, "dropped", DROPPED)?;
-    takes_late_posts(rt, alloc, &mut board, &part)
-}
 
 const HARVESTED: &[BoardStep] = &[
     BoardStep::Members(3),
@@ -57,105 +38,155 @@ const HARVESTED: &[BoardStep] = &[
     BoardStep::Front(2, 2),
 ];
 
-// The join of a list of boards, in this order.
-fn all_of(alloc: Global, parts: &[&Board]) -> Result<Board, OutOfMemory> {
+const LATE_AND_HARVESTED: &[BoardStep] = &[
+    BoardStep::Members(3),
+    BoardStep::Front(0, 1),
+    BoardStep::Front(2, 2),
+    BoardStep::Adds(3, 1, &[7], Ok(())),
+    BoardStep::Adds(6, 1, &[7], Ok(())),
+];
+
+// A part of a context that the board has, of one that it lacks, and of acknowledgements.
+const OF_TWO: &[BoardStep] = &[
+    BoardStep::Front(1, 4),
+    BoardStep::Acknowledges(0, 1, 2),
+    BoardStep::On(On::Below(1)),
+    BoardStep::Adds(4, 1, &[7], Ok(())),
+];
+
+const OF_TWO_AND_HARVESTED: &[BoardStep] = &[
+    BoardStep::Members(3),
+    BoardStep::Front(0, 1),
+    BoardStep::Front(1, 4),
+    BoardStep::Front(2, 2),
+    BoardStep::Acknowledges(0, 1, 2),
+    BoardStep::On(On::Below(1)),
+    BoardStep::Adds(4, 1, &[7], Ok(())),
+];
+
+// The first child is dead: its posts come to nothing.
+pub const DEAD_CHILD: &[BoardStep] = &[
+    BoardStep::On(On::Below(1)),
+    BoardStep::Members(2),
+    BoardStep::Kills(Ok(())),
+    BoardStep::Lacks(0, 0),
+];
+
+const POSTS_ON_THE_CHILD: &[BoardStep] = &[
+    BoardStep::On(On::Below(1)),
+    BoardStep::Adds(0, 0, &[7], Ok(())),
+    BoardStep::Adds(0, 1, &[8], Ok(())),
+];
+
+// Two boards, and their join.
+const JOINS: [(&str, [&[BoardStep]; 3]); 4] = [
+    (
+        "what is dropped stays dropped",
+        [DROPPED, LATE, STAYS_DROPPED],
+    ),
+    ("a part", [HARVESTED, LATE, LATE_AND_HARVESTED]),
+    ("two contexts", [HARVESTED, OF_TWO, OF_TWO_AND_HARVESTED]),
+    (
+        "what is dead stays dead",
+        [DEAD_CHILD, POSTS_ON_THE_CHILD, DEAD_CHILD],
+    ),
+];
+
+// Whether the join of both is this board, whichever way it is made.
+fn is_join(alloc: Global, a: &Board, b: &Board, wanted: &Board) -> Result<bool, OutOfMemory> {
+    Ok(wanted.same(&a.joined(alloc, b)?) && wanted.same(&b.joined(alloc, a)?))
+}
+
+// Whether the part, taken once and once more, makes this board.
+fn is_taken(alloc: Global, a: &Board, part: &Board, wanted: &Board) -> Result<bool, OutOfMemory> {
+    let mut board = a.copy(alloc)?;
+    board.take(alloc, part)?;
+    board.take(alloc, part)?;
+    Ok(board.same(wanted))
+}
+
+// Whether the part, made ready, which changes nothing, and then put in, makes this board.
+fn is_prepared(
+    alloc: Global,
+    a: &Board,
+    part: &Board,
+    wanted: &Board,
+) -> Result<bool, OutOfMemory> {
+    let mut board = a.copy(alloc)?;
+    let prepared = board.prepare(alloc, part)?;
+    let stays = board.same(a);
+    board.put_prepared(prepared);
+    Ok(stays && board.same(wanted))
+}
+
+// Whether the join of these boards is this one.
+fn is_of_all(alloc: Global, parts: &[&Board], wanted: &Board) -> Result<bool, OutOfMemory> {
     let mut boards = Vec::new(alloc);
     for part in parts {
         boards.push(part.copy(alloc)?)?;
     }
-    Board::take_all(alloc, &boards)
+    Ok(wanted.same(&Board::take_all(alloc, &boards)?))
 }
 
-// Whether the join of the join and of what the first lacks of the second is as large.
-fn is_served(alloc: Global, once: &Board, a: &Board, b: &Board) -> Result<bool, OutOfMemory> {
-    let nothing = once.delta(alloc, once)?;
+// Whether a board lacks nothing of itself, and the join with what the other lacks of it is as large.
+fn is_served(alloc: Global, a: &Board, b: &Board, wanted: &Board) -> Result<bool, OutOfMemory> {
+    let nothing = a.delta(alloc, a)?.same(&Board::new(alloc));
     let lacking = a.delta(alloc, b)?;
-    Ok(nothing.same(&Board::new(alloc)) && is_join(alloc, once, b, &lacking)?)
+    Ok(nothing && wanted.same(&b.joined(alloc, &lacking)?))
 }
 
-fn is_least_above(alloc: Global, a: &Board, b: &Board) -> Result<bool, OutOfMemory> {
-    let once = all_of(alloc, &[b, a, b])?;
-    let other = all_of(alloc, &[a, b, a])?;
-    let above = a.leq(&once) && b.leq(&once) && !once.leq(a);
-    Ok(once.same(&other) && above && is_served(alloc, &once, a, b)?)
+// Whether this is the least board above both.
+fn is_least_above(
+    alloc: Global,
+    a: &Board,
+    b: &Board,
+    wanted: &Board,
+) -> Result<bool, OutOfMemory> {
+    Ok(
+        a.leq(wanted)
+            && b.leq(wanted)
+            && is_join(alloc, a, b, wanted)?
+            && is_taken(alloc, a, b, wanted)?
+            && is_prepared(alloc, a, b, wanted)?
+            && is_of_all(alloc, &[a, b, a], wanted)?
+            && is_of_all(alloc, &[b, a], wanted)?
+            && is_served(alloc, a, b, wanted)?,
+    )
 }
 
-// Lists of boards, and what one lacks of another.
-fn are_joined(rt: &impl Abort, alloc: Global) -> Result<bool, Fail> {
-    let a = board_of(rt, alloc, "harvested", HARVESTED)?;
-    let b = board_of(rt, alloc, "late", LATE)?;
-    Ok(is_least_above(alloc, &a, &b)?)
+// What the board knows of the world is the other board, of one context.
+fn is_cut_to(alloc: Global, board: &Board, wanted: &Board) -> Result<bool, Fail> {
+    let names = vec![in alloc; Name::world(alloc)]?;
+    let cut = board.cut(alloc, &names)?;
+    Ok(cut.same(wanted) && cut.pair().first.len() == 1)
 }
 
-// Tells of the first child.
-fn tells_of_a_child(alloc: Global, board: &mut Board) -> Result<(), Fail> {
-    let child = name_of(alloc, On::Below(1))?;
-    let post = post_of(alloc, &[7])?;
-    Ok(board.add_post(alloc, &child, 4, proc(1), post)?)
-}
-
-// What the board knows of the world.
-fn cut_to_the_world(alloc: Global, board: &Board) -> Result<Board, Fail> {
-    let names = vec![in alloc; name_of(alloc, WORLD)?]?;
-    Ok(board.cut(alloc, &names)?)
-}
-
-// Tells of the child, and cuts that out again.
-fn cuts_out(alloc: Global, board: &mut Board) -> Result<bool, Fail> {
-    let before = board.copy(alloc)?;
-    tells_of_a_child(alloc, board)?;
-    let cut = cut_to_the_world(alloc, board)?;
-    Ok(cut.same(&before) && cut.pair().first.len() == 1)
-}
-
-// A cut has just its contexts.
-fn cuts_the_child(rt: &impl Abort, alloc: Global) -> Result<bool, Fail> {
-    let mut board = board_of(rt, alloc, "harvested", HARVESTED)?;
-    let told = cuts_out(alloc, &mut board);
-    drop(board);
-    told
-}
-
-// Whether the parts of the board make it again.
-fn is_made_again(alloc: Global, board: &Board) -> Result<bool, OutOfMemory> {
-    let parts = board.pair().copy(alloc)?;
-    match Board::of(parts) {
-        Some(again) => Ok(again.same(board)),
-        None => Ok(false),
-    }
-}
-
-fn has_parts(rt: &impl Abort, alloc: Global) -> Result<bool, Fail> {
-    let board = board_of(rt, alloc, "harvested", HARVESTED)?;
-    Ok(is_made_again(alloc, &board)?)
-}
-
-// Makes the part ready, which changes nothing, and then joins it.
-fn joins_prepared(alloc: Global, board: &mut Board, part: &Board) -> Result<bool, OutOfMemory> {
-    let before = board.copy(alloc)?;
-    let prepared = board.prepare(alloc, part)?;
-    let stays = board.same(&before);
-    board.put_prepared(prepared);
-    Ok(stays && is_join(alloc, board, &before, part)?)
-}
-
-const ACKNOWLEDGED: &[BoardStep] = &[BoardStep::Front(1, 4), BoardStep::Acknowledges(0, 1, 2)];
-
-// A part of a context that the board has, of one that it lacks, and of acknowledgements.
-fn is_prepared(rt: &impl Abort, alloc: Global) -> Result<bool, Fail> {
-    let mut board = board_of(rt, alloc, "harvested", HARVESTED)?;
-    let mut part = board_of(rt, alloc, "acknowledged", ACKNOWLEDGED)?;
-    tells_of_a_child(alloc, &mut part)?;
-    Ok(joins_prepared(alloc, &mut board, &part)?)
-}
+const WITH_THE_CHILD: &[BoardStep] = &[
+    BoardStep::Members(3),
+    BoardStep::Front(0, 1),
+    BoardStep::Front(2, 2),
+    BoardStep::On(On::Below(1)),
+    BoardStep::Adds(4, 1, &[7], Ok(())),
+];
 
 #[test]
 fn boards_as_whole_values(rt: HostRuntime) -> Result<(), Fail> {
-    let alloc = rt.alloc();
-    assert!(rt; stays_dropped(&rt, alloc)?, "dropped calls stay dropped");
-    assert!(rt; are_joined(&rt, alloc)?, "lists and deltas");
-    assert!(rt; is_prepared(&rt, alloc)?, "a part made ready");
-    assert!(rt; cuts_the_child(&rt, alloc)?, "a cut");
-    assert!(rt; has_parts(&rt, alloc)?, "parts");
+    for (shown, steps) in JOINS {
+        let boards = boards_of(&rt, rt.alloc(), shown, &steps)?;
+        let [a, b, wanted] = boards.as_slice() else {
+            return Err(Fail::from("three boards"));
+        };
+        assert!(rt; is_least_above(rt.alloc(), a, b, wanted)?, "{shown}");
+    }
+    Ok(())
+}
+
+#[test]
+fn cuts_have_just_their_contexts(rt: HostRuntime) -> Result<(), Fail> {
+    let boards = boards_of(&rt, rt.alloc(), "a cut", &[WITH_THE_CHILD, HARVESTED])?;
+    let [board, wanted] = boards.as_slice() else {
+        return Err(Fail::from("two boards"));
+    };
+    assert!(rt; is_cut_to(rt.alloc(), board, wanted)?);
     Ok(())
 }

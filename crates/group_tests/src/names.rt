@@ -4,7 +4,7 @@ ghost use Rattle.std.specs.Prelude.{◌<◌, ◌^◌};
 use join_core::{Exact, OutOfMemory};
 use mpx_group::{Group, Proc};
 use mpx_name::{Name, NameError, Step};
-use std::alloc::{AllocError, Global};
+use std::alloc::Global;
 use std::test::Fail;
 
 // The gathering of one process below world.
@@ -127,32 +127,5 @@ fn goes_down_eight_steps(rt: HostRuntime) -> Result<(), Fail> {
     assert!(rt; gathering.is_gathering());
     let name = deepest(rt.alloc(), gathering)?;
     assert!(rt; is_deepest(rt.alloc(), &name)?);
-    Ok(())
-}
-
-// Whether the name is that of the newer child below the older one.
-fn is_grandchild(alloc: Global, name: &Name) -> Result<bool, NameError> {
-    let older = Name::world(alloc).child(alloc, 5, 1)?;
-    let newer = older.child(alloc, 0, 2)?;
-    Ok(*name == newer)
-}
-
-fn has_two_steps(name: &Name) -> bool {
-    matches!(
-        name.steps(),
-        [Step::Child { call: 5, .. }, Step::Child { call: 0, .. }]
-    )
-}
-
-fn of_steps(alloc: Global) -> Result<Name, AllocError> {
-    let older = Step::Child { call: 5, colour: 1 };
-    let newer = Step::Child { call: 0, colour: 2 };
-    Ok(Name::of(vec![in alloc; older, newer]?))
-}
-
-#[test]
-fn steps_make_their_name(rt: HostRuntime) -> Result<(), Fail> {
-    let name = of_steps(rt.alloc())?;
-    assert!(rt; is_grandchild(rt.alloc(), &name)? & has_two_steps(&name));
     Ok(())
 }

@@ -1,20 +1,17 @@
 //! The topologies of rows that fit: values from MPI 4.1, sections 8.5.4 and 8.5.5.
-ghost use Rattle.std.specs.Prelude.{◌<◌};
-ghost use Rattle.mpx_post.specs.Agreement.{IsFine};
-
-use crate::misfits::{posts_on, row_of};
+use crate::posted::Posted::{self, Edges, Near};
+use crate::posted::{posts_of, row_of};
 use join_core::OutOfMemory;
 use mpx_birth::{Birth, Neighbour, Topology};
 use mpx_graph::{
     NeighbourCounts, counts, destinations, sources, topology_adjacent, topology_general,
 };
-use mpx_kind::Kind;
 use mpx_match::{Verdict, verdict};
 use mpx_num::Ops;
 use mpx_post::Row;
 use std::alloc::Global;
 use std::test::Fail;
-use test_drafts::{Drafted, GraphDraft, just, kinds};
+use test_drafts::kinds;
 
 // A rank's sources and destinations.
 type Beside = (&'static [u8], &'static [u8]);
@@ -38,97 +35,59 @@ fn is_of(made: &Topology, wanted: &[Beside]) -> bool {
     same
 }
 
-// The topology of a row that fits.
-fn made_of(alloc: Global, row: &Row<'_>) -> Result<Topology, OutOfMemory>
-    requires fine { IsFine row.now }
-{
-    prove!(0 < row.len());
-    if row.post(0).kind() == kinds::DIST_GRAPH {
-        topology_general(alloc, row)
-    } else {
-        topology_adjacent(alloc, row)
-    }
-}
-
-// Whether the row fits the world, and makes this topology.
-fn makes(
+// The topology of the row, where it fits the world.
+fn topology_of(
     alloc: Global,
     world: &Birth,
     row: &Row<'_>,
-    wanted: &[Beside],
-    ops: &Ops,
-) -> Result<bool, Fail> {
-    match verdict(world, row, ops) {
-        Verdict::Fault(_) => Ok(false),
-        Verdict::Fine => Ok(is_of(&made_of(alloc, row)?, wanted)),
+) -> Result<Option<Topology>, OutOfMemory> {
+    match verdict(world, row, &Ops::none(alloc)) {
+        Verdict::Fault(_) => Ok(None),
+        Verdict::Fine => {
+            if row.kind() == kinds::DIST_GRAPH {
+                Ok(Some(topology_general(alloc, row)?))
+            } else {
+                Ok(Some(topology_adjacent(alloc, row)?))
+            }
+        }
     }
 }
 
-// Whether what the ranks of a world of so many post does.
-fn make(
-    alloc: Global,
-    ranks: u8,
-    calls: &[Drafted<'_>],
-    wanted: &[Beside],
-    ops: &Ops,
-) -> Result<bool, Fail> {
-    if ranks == 0 || ranks > 64 {
-        return Ok(false);
-    }
-    let world = Birth::world(alloc, ranks)?;
-    let posts = posts_on(alloc, &world, calls, ops)?;
-    makes(alloc, &world, &row_of(alloc, &posts)?, wanted, ops)
-}
-
-fn graph(kind: Kind, part: GraphDraft<'static>) -> Drafted<'static> {
-    Drafted {
-        graph: Some(part),
-        ..just(kind)
+// Whether what the members of the world post makes a topology with these neighbours.
+fn makes(alloc: Global, world: &Birth, calls: &[Posted], wanted: &[Beside]) -> Result<bool, Fail> {
+    let posts = posts_of(alloc, calls)?;
+    let row = row_of(alloc, world, &posts)?;
+    match topology_of(alloc, world, &row)? {
+        None => Ok(false),
+        Some(made) => Ok(is_of(&made, wanted)),
     }
 }
 
-// Edges of others' too, in this order.
-fn general(edges: &'static [(i128, i128, i128)]) -> Drafted<'static> {
-    let part = GraphDraft {
-        weighted: false,
-        edges,
-        sources: &[],
-        destinations: &[],
-    };
-    graph(kinds::DIST_GRAPH, part)
-}
-
-// The own neighbours.
-fn adjacent(
-    sources: &'static [(i128, i128)],
-    destinations: &'static [(i128, i128)],
-) -> Drafted<'static> {
-    let part = GraphDraft {
-        weighted: false,
-        edges: &[],
-        sources,
-        destinations,
-    };
-    graph(kinds::DIST_GRAPH_ADJACENT, part)
-}
-
-// The edge from rank 1 to rank 2 is given twice, and those to rank 2 stand in the order of who gives them.
-const GIVEN: [Beside; 3] = [(&[], &[2]), (&[], &[2, 2]), (&[1, 2, 0, 1], &[2])];
-
-// One edge from rank 0 to rank 1.
-const NAMED: [Beside; 2] = [(&[], &[1]), (&[0], &[])];
+// What ranks post, and the neighbours of each. The edge from rank 1 to rank 2 is given twice, and those to rank 2 stand in the
+// order of who gives them; one edge that both ends name.
+const GRAPHS: [(&[Posted], &[Beside]); 2] = [
+    (
+        &[
+            Edges(&[(1, 2, 0), (2, 2, 0)]),
+            Edges(&[]),
+            Edges(&[(0, 2, 0), (1, 2, 0)]),
+        ],
+        &[(&[], &[2]), (&[], &[2, 2]), (&[1, 2, 0, 1], &[2])],
+    ),
+    (
+        &[Near(&[], &[(1, 0)]), Near(&[(0, 0)], &[])],
+        &[(&[], &[1]), (&[0], &[])],
+    ),
+];
 
 #[test]
 fn rows_make_topologies(rt: HostRuntime) -> Result<(), Fail> {
-    let alloc = rt.alloc();
-    let ops = Ops::none(alloc);
-    let given = [
-        general(&[(1, 2, 0), (2, 2, 0)]),
-        general(&[]),
-        general(&[(0, 2, 0), (1, 2, 0)]),
-    ];
-    assert!(rt; make(alloc, 3, &given, &GIVEN, &ops)?);
-    let named = [adjacent(&[], &[(1, 0)]), adjacent(&[(0, 0)], &[])];
-    assert!(rt; make(alloc, 2, &named, &NAMED, &ops)?);
+    for (ranks, (calls, wanted)) in [3, 2].into_iter().zip(GRAPHS) {
+        let world = Birth::world(rt.alloc(), ranks)?;
+        assert!(rt;
+            makes(rt.alloc(), &world, calls, wanted)?,
+            "of {ranks} ranks"
+        );
+    }
     Ok(())
 }

@@ -1,5 +1,5 @@
 //! Numbers as text, and lists of them, as no script gives them.
-use mpx_num::{Items, ItemsError, Numbers, Ty, parse_number};
+use mpx_num::{Items, ItemsError, Numbers, Ty, parse_number, print_number};
 use std::alloc::{AllocError, Global};
 use std::test::Fail;
 
@@ -21,29 +21,49 @@ const NO_NUMBERS: [&[u8]; 14] = [
     b"\xc2\xb2",
 ];
 
-// What is read of a million of the digit, with a 9 behind them or none.
-fn read(alloc: Global, digit: u8, nine: bool) -> Result<Option<i128>, AllocError> {
-    let mut text = vec![in alloc; digit; 1000000]?;
-    if nine {
-        text.push(b'9')?;
-    }
-    Ok(parse_number(&text))
-}
+// A digit that stands there a million times, one behind these, and the number.
+const LONG: [(u8, u8, Option<i128>); 3] = [
+    (b'0', b'0', Some(0)),
+    (b'0', b'9', Some(9)),
+    (b'9', b'9', None),
+];
 
 #[test]
 fn reads_numbers(rt: HostRuntime) -> Result<(), Fail> {
     for text in NO_NUMBERS {
-        assert_eq!(rt; parse_number(text), None);
+        assert!(rt; parse_number(text).is_none());
     }
-    for (digit, nine, number) in [
-        (b'0', false, Some(0)),
-        (b'0', true, Some(9)),
-        (b'9', false, None),
-    ] {
-        assert!(rt; read(rt.alloc(), digit, nine)? == number);
+    for (digit, last, number) in LONG {
+        let mut text = vec![in rt.alloc(); digit; 1000000]?;
+        text.push(last)?;
+        assert!(rt; parse_number(&text) == number);
     }
+    let printed = print_number(rt.alloc(), -123456789)?;
+    assert!(rt; printed.as_str() == "-123456789");
     Ok(())
 }
+
+use ItemsError::{ItemOutOfRange, ItemsLength, TooManyItems};
+
+// A type, a number, how often it stands there, and why these are no items. What is told first: numbers out of the type's range,
+// then more than 4,096 items.
+const ITEMS: [(Ty, i128, usize, Option<ItemsError>); 15] = [
+    (Ty::I64, 7, 4096, None),
+    (Ty::I64, 7, 4098, Some(TooManyItems)),
+    (Ty::I64, i128::MAX, 4098, Some(ItemOutOfRange)),
+    (Ty::U8, 7, 4096, None),
+    (Ty::U8, 7, 4098, Some(TooManyItems)),
+    (Ty::TwoInt, 7, 8192, None),
+    (Ty::TwoInt, 7, 8194, Some(TooManyItems)),
+    (Ty::TwoInt, i128::MAX, 8194, Some(ItemOutOfRange)),
+    (Ty::TwoInt, i128::MAX, 3, Some(ItemsLength)),
+    (Ty::TwoInt, i128::MIN, 2, Some(ItemOutOfRange)),
+    (Ty::I8, i128::MIN, 1, Some(ItemOutOfRange)),
+    (Ty::I64, -9223372036854775809, 1, Some(ItemOutOfRange)),
+    (Ty::U64, 18446744073709551616, 1, Some(ItemOutOfRange)),
+    (Ty::U64, i128::MAX, 1, Some(ItemOutOfRange)),
+    (Ty::I8, 7, 0, None),
+];
 
 // Why so many times the number make no items, where they make none.
 fn refusal(
@@ -59,37 +79,15 @@ fn refusal(
     }
 }
 
-fn text(alloc: Global, error: ItemsError) -> Result<String, AllocError> {
-    format!(in alloc; "{}", error)
-}
-
-// What is told first: numbers out of the type's range, then more than 4,096 items.
 #[test]
 fn at_most_4096_items_of_the_range(rt: HostRuntime) -> Result<(), Fail> {
-    use ItemsError::{ItemOutOfRange, ItemsLength, TooManyItems};
-    for (ty, number, times, wanted) in [
-        (Ty::I64, 7, 4096, None),
-        (Ty::I64, 7, 4098, Some(TooManyItems)),
-        (Ty::I64, i128::MAX, 4098, Some(ItemOutOfRange)),
-        (Ty::U8, 7, 4096, None),
-        (Ty::U8, 7, 4098, Some(TooManyItems)),
-        (Ty::TwoInt, 7, 8192, None),
-        (Ty::TwoInt, 7, 8194, Some(TooManyItems)),
-        (Ty::TwoInt, i128::MAX, 8194, Some(ItemOutOfRange)),
-        (Ty::TwoInt, i128::MAX, 3, Some(ItemsLength)),
-        (Ty::TwoInt, i128::MIN, 2, Some(ItemOutOfRange)),
-        (Ty::I8, i128::MIN, 1, Some(ItemOutOfRange)),
-        (Ty::I64, -9223372036854775809, 1, Some(ItemOutOfRange)),
-        (Ty::U64, 18446744073709551616, 1, Some(ItemOutOfRange)),
-        (Ty::U64, i128::MAX, 1, Some(ItemOutOfRange)),
-        (Ty::I8, 7, 0, None),
-    ] {
+    for (ty, number, times, wanted) in ITEMS {
         assert!(rt;
             refusal(rt.alloc(), ty, number, times)? == wanted,
             "{ty:?} {number} {times}"
         );
     }
-    let told = text(rt.alloc(), ItemsError::ItemsLength)?;
+    let told = format!(in rt.alloc(); "{}", ItemsLength)?;
     assert!(rt; told.as_str() == "an odd number of numbers for pairs");
     Ok(())
 }

@@ -1,122 +1,102 @@
 //! Refusals of drafts that no script shows: strangers, calls used up, and contexts of other calls.
-use crate::making::{behind_free, blocks, in_world, on, post_at, reduce, split};
+use self::On::{Freed, Gathering, Open};
+use crate::posted::Posted::{self, Blocks, Items, Just, Split};
+use crate::posted::drafted;
 use mpx_birth::Birth;
 use mpx_kind::Kind;
-use mpx_num::{Ops, Ty};
-use mpx_post::{At, Draft, PostError};
+use mpx_num::{Op, Ops, Ty};
+use mpx_post::PostError::{
+    self, BadGroup, CallsUsedUp, Closed, DepthUsedUp, ItemsLength, NoTopology, NotMember,
+};
+use mpx_post::{At, Draft};
 use std::alloc::Global;
-use std::process::Abort;
-use test_drafts::{Drafted, draft, just, kinds, proc};
+use std::test::Fail;
+use test_drafts::{draft, kinds, proc};
 
-fn refusal(
+// What a context is, to the caller.
+#[derive(Clone, Copy, PartialEq, Eq)]
+enum On {
+    Open,
+    Gathering,
+    // The caller has posted a free.
+    Freed,
+}
+
+// The last call's number, and the one behind it.
+const LAST: u32 = 4294967294;
+
+const PAST: u32 = 4294967295;
+
+// A root that isn't there.
+const ROOT_2: Posted = Blocks(kinds::REDUCE, 2, &[], &[], &[1]);
+
+const ALONG_EDGES: Posted = Blocks(kinds::NEIGHBOR_ALLTOALLV, 0, &[1], &[], &[7]);
+// Half an item, of a number out of range.
+const CUT: Posted = Items(kinds::GATHER, Op::Sum, Ty::TwoInt, &[i128::MAX]);
+
+// A process, the call, how many steps its context's name has, what the context is, what the process drafts, and why it may not
+// post that in a world of two. Of several reasons the first in their order is told: who is no member, then who has posted a
+// free, then what the draft says, then its place.
+const REFUSALS: [(u8, u32, usize, On, Posted, Option<PostError>); 25] = [
+    (2, 0, 0, Open, ROOT_2, Some(NotMember)),
+    (2, 0, 0, Open, ALONG_EDGES, Some(NotMember)),
+    (0, PAST, 0, Open, ALONG_EDGES, Some(NoTopology)),
+    (0, 0, 0, Open, CUT, Some(ItemsLength)),
+    (0, LAST, 0, Open, Just(kinds::BARRIER), None),
+    (0, PAST, 0, Open, Just(kinds::BARRIER), Some(CallsUsedUp)),
+    (0, PAST, 8, Gathering, Just(kinds::DUP), Some(CallsUsedUp)),
+    // On a gathering `create_group` alone is called, and nowhere else.
+    (0, 0, 1, Open, Just(kinds::CREATE_GROUP), Some(BadGroup)),
+    (0, 0, 1, Gathering, Just(kinds::CREATE_GROUP), None),
+    (0, 0, 1, Gathering, Just(kinds::BARRIER), Some(BadGroup)),
+    (0, 0, 1, Gathering, Just(Kind::Free), Some(BadGroup)),
+    (0, 0, 1, Gathering, Just(kinds::DUP), Some(BadGroup)),
+    (0, 0, 1, Gathering, Just(kinds::SPLIT), Some(BadGroup)),
+    (0, 0, 1, Gathering, Just(kinds::CREATE), Some(BadGroup)),
+    (0, 0, 8, Gathering, Just(kinds::DUP), Some(DepthUsedUp)),
+    (0, 0, 7, Gathering, Split(Some(-1), 0), Some(BadGroup)),
+    // A free is posted as any call, on the world too, and nothing behind it.
+    (0, 0, 0, Open, Just(Kind::Free), None),
+    (1, 7, 8, Open, Just(Kind::Free), None),
+    (0, PAST, 0, Open, Just(Kind::Free), Some(CallsUsedUp)),
+    (0, 1, 1, Freed, Just(Kind::Free), Some(Closed)),
+    (1, 1, 1, Freed, Just(kinds::BARRIER), Some(Closed)),
+    (0, 1, 1, Freed, ROOT_2, Some(Closed)),
+    (0, 1, 1, Freed, ALONG_EDGES, Some(Closed)),
+    (0, PAST, 1, Freed, Just(kinds::CREATE_GROUP), Some(Closed)),
+    (2, 1, 1, Freed, ROOT_2, Some(NotMember)),
+];
+
+// Whether what the process drafts is refused so, asked of the draft that is lent, and of the draft that is posted.
+fn is_refused(
     alloc: Global,
     number: u8,
     at: &At,
-    drafted: &Drafted<'_>,
-    ops: &Ops,
-) -> Option<PostError> {
-    match post_at(alloc, number, at, drafted, ops) {
-        Ok(_) => None,
-        Err(refusal) => Some(refusal),
-    }
+    draft: Draft,
+    wanted: Option<PostError>,
+) -> Result<bool, Fail> {
+    let pair = Birth::world(alloc, 2)?;
+    let ops = Ops::none(alloc);
+    let lent = draft.refusal(&pair, proc(number), at, &ops) == wanted;
+    let told = draft.check(alloc, &pair, proc(number), at, &ops).err() == wanted;
+    Ok(lent & told)
 }
 
-fn refusal_of_lent(
-    alloc: Global,
-    number: u8,
-    at: &At,
-    draft: &Draft,
-    ops: &Ops,
-) -> Option<PostError> {
-    match Birth::world(alloc, 2) {
-        Ok(pair) => draft.refusal(&pair, proc(number), at, ops),
-        Err(_) => Some(PostError::OutOfMemory),
-    }
-}
-
-// Why the draft is refused, asked of a draft that is only lent.
-fn refusal_of_draft(
-    alloc: Global,
-    number: u8,
-    at: &At,
-    drafted: &Drafted<'_>,
-    ops: &Ops,
-) -> Option<PostError> {
-    match draft(alloc, drafted) {
-        Ok(draft) => refusal_of_lent(alloc, number, at, &draft, ops),
-        Err(_) => Some(PostError::OutOfMemory),
-    }
-}
-
-// That what each of these processes drafts there is refused so, or not at all.
-fn check_refusals(
-    rt: &impl Abort,
-    alloc: Global,
-    table: &[(u8, At, Drafted<'_>, Option<PostError>)],
-    ops: &Ops,
-) {
-    for (i, row) in table.iter().enumerate() {
-        let (number, at, drafted, wanted) = row;
-        let told = refusal(alloc, *number, at, drafted, ops);
-        let told_of_draft = refusal_of_draft(alloc, *number, at, drafted, ops);
-        assert!(rt; (told == *wanted) & (told_of_draft == *wanted), "row {i}");
-    }
-}
-
-// Of several reasons the first in their order is told: who is no member, then who has posted a free, then what the draft
-// says, then its place.
 #[test]
-fn strangers_calls_used_up_and_contexts(rt: HostRuntime) {
-    use PostError::{
-        BadGroup, CallsUsedUp, Closed, DepthUsedUp, ItemsLength, NoTopology, NotMember,
-    };
-    let (plain, gathering) = (on(0, 1, false), on(0, 1, true));
-    let at = in_world(0);
-    let (last, past) = (in_world(4294967294), in_world(4294967295));
-    let (freed, freed_last) = (behind_free(1), behind_free(4294967295));
-    let along_edges = blocks(kinds::NEIGHBOR_ALLTOALLV, &[1], &[], &[7]);
-    let cut = Drafted {
-        ty: Ty::TwoInt,
-        items: &[i128::MAX],
-        ..just(kinds::GATHER)
-    };
-    check_refusals(
-        &rt,
-        rt.alloc(),
-        &[
-            (2, at, reduce(2), Some(NotMember)),
-            (2, at, along_edges, Some(NotMember)),
-            (0, past, along_edges, Some(NoTopology)),
-            (0, at, cut, Some(ItemsLength)),
-            (0, last, just(kinds::BARRIER), None),
-            (0, past, just(kinds::BARRIER), Some(CallsUsedUp)),
-            (
-                0,
-                on(4294967295, 8, true),
-                just(kinds::DUP),
-                Some(CallsUsedUp),
-            ),
-            // on a gathering `create_group` alone is called, and nowhere else
-            (0, plain, just(kinds::CREATE_GROUP), Some(BadGroup)),
-            (0, gathering, just(kinds::CREATE_GROUP), None),
-            (0, gathering, just(kinds::BARRIER), Some(BadGroup)),
-            (0, gathering, just(Kind::Free), Some(BadGroup)),
-            (0, gathering, just(kinds::DUP), Some(BadGroup)),
-            (0, gathering, just(kinds::SPLIT), Some(BadGroup)),
-            (0, gathering, just(kinds::CREATE), Some(BadGroup)),
-            (0, on(0, 8, true), just(kinds::DUP), Some(DepthUsedUp)),
-            (0, on(0, 7, true), split(Some(-1), 0), Some(BadGroup)),
-            // a free is posted as any call, on the world too, and nothing behind it
-            (0, at, just(Kind::Free), None),
-            (1, on(7, 8, false), just(Kind::Free), None),
-            (0, past, just(Kind::Free), Some(CallsUsedUp)),
-            (0, freed, just(Kind::Free), Some(Closed)),
-            (1, freed, just(kinds::BARRIER), Some(Closed)),
-            (0, freed, reduce(2), Some(Closed)),
-            (0, freed, along_edges, Some(Closed)),
-            (0, freed_last, just(kinds::CREATE_GROUP), Some(Closed)),
-            (2, freed, reduce(2), Some(NotMember)),
-        ],
-        &Ops::none(rt.alloc()),
-    );
+fn strangers_calls_used_up_and_contexts(rt: HostRuntime) -> Result<(), Fail> {
+    for (i, row) in REFUSALS.iter().enumerate() {
+        let (number, call, depth, on, posted, wanted) = *row;
+        let at = At {
+            call,
+            depth,
+            closed: on == Freed,
+            gathering: on == Gathering,
+        };
+        let draft = draft(rt.alloc(), &drafted(&posted))?;
+        assert!(rt;
+            is_refused(rt.alloc(), number, &at, draft, wanted)?,
+            "row {i}"
+        );
+    }
+    Ok(())
 }
