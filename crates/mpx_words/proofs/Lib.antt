@@ -1,3 +1,4 @@
 pub mod WordLemmas
 pub mod Refusals
 pub mod Rows
+pub mod Commands

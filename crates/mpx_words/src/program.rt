@@ -1,6 +1,6 @@
 //! The program's commands and options, as clap explains them.
-ghost use Rattle.std.specs.Prelude.{◌≡◌, [], ◌∷◌, IfOk, Some, codes, false, true};
-ghost use Rattle.clap.specs.Words.{app_of, new_rule, rule_of, shape_of};
+ghost use Rattle.std.specs.Prelude.{◌≡◌, [], ◌∷◌, IfOk, IsOkAnd, Some, codes, false, true};
+ghost use Rattle.clap.specs.Words.{app_of, new_rule, rule_of, shape_of, with_subcommand};
 ghost use Rattle.clap.specs.declared.builder.command.Command.TheViews.{out-Command as fields_of};
 ghost use Rattle.clap.specs.Simple.{new_shape};
 ghost use Rattle.mpx_words.specs.Usage.{bare_usage, common, flag, plain, run, run_draws, run_flags, usage, valued};
@@ -11,10 +11,29 @@ use std::alloc::{AllocError, Global};
 pub(crate) fn program<'a>(alloc: Global) -> Result<Command<'a>, AllocError>
     ensures { IfOk result (λ c. app_of c ≡ usage) }
 {
-    bare_program(alloc)?
-        .subcommand(run(alloc)?)?
-        .subcommand(plain(alloc, "eval", EVAL, STRICT)?)?
-        .subcommand(plain(alloc, "check", CHECK, CERTAIN)?)
+    with_command(
+        with_command(
+            with_command(bare_program(alloc)?, run(alloc))?,
+            plain(alloc, "eval", EVAL, STRICT),
+        )?,
+        plain(alloc, "check", CHECK, CERTAIN),
+    )
+}
+
+// The program with one command more, where that could be made.
+fn with_command<'a>(
+    program: Command<'a>,
+    made: Result<Command<'a>, AllocError>,
+) -> Result<Command<'a>, AllocError>
+    ensures { IfOk result (λ c. IsOkAnd made.entry (λ m. (fields_of m).has_globals ≡ false → app_of c ≡ with_subcommand (app_of program.entry) (shape_of m))) }
+{
+    match made {
+        Ok(command) => program.subcommand(command),
+        Err(e) => {
+            drop(program);
+            Err(e)
+        }
+    }
 }
 
 /// The command of that name by itself, for its usage; the whole program, where there is none.
