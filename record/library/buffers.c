@@ -236,6 +236,28 @@ static int range_of(const Blocks *blocks, int place, uintptr_t *first, uintptr_t
     return *end > *first;
 }
 
+/* Two blocks of one list that have bytes in common. In most lists each block begins behind the one before. */
+int find_overlap(const Blocks *blocks, int *one, int *other)
+{
+    uintptr_t first, end, other_first, other_end, last = 0;
+    int is_rising = 1;
+    for (int i = 0; i < blocks->number && is_rising; i++) {
+        if (!range_of(blocks, i, &first, &end)) continue;
+        is_rising = first >= last;
+        last = end;
+    }
+    for (int i = 0; i < blocks->number && !is_rising; i++) {
+        if (!range_of(blocks, i, &first, &end)) continue;
+        for (int j = i + 1; j < blocks->number; j++) {
+            if (!range_of(blocks, j, &other_first, &other_end) || first >= other_end || other_first >= end) continue;
+            *one = i;
+            *other = j;
+            return 1;
+        }
+    }
+    return 0;
+}
+
 int do_overlap(const Blocks *some, const Blocks *others)
 {
     uintptr_t first, end, other_first, other_end;

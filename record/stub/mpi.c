@@ -76,6 +76,7 @@ DEFINE(Type_create_hindexed, int number, const int lengths[], const MPI_Aint pla
     (void)number; (void)places;
     return PMPI_Type_vector(1, lengths[0], 1, base, new);
 }
+MPI_Fint PMPI_Type_c2f(MPI_Datatype type) { (void)type; return 0; }
 DEFINE(Type_dup, MPI_Datatype type, MPI_Datatype *new) { *new = malloc(sizeof **new); **new = *type; return 0; }
 DEFINE(Type_vector, int blocks, int length, int stride, MPI_Datatype base, MPI_Datatype *new)
 {
