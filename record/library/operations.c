@@ -148,13 +148,22 @@ static int is_same_number(const void *one, const void *other, Type as)
     return here == there || (isnan(here) && isnan(there));
 }
 
-/* Of what isn't known to be the same: zeros of both signs are one, and all NaNs. */
+/* Whether its basic types have floats, or may have. */
+static int has_floats(const Items *items)
+{
+    for (const char *at = items->facts->signature; *at; at += strcspn(at, "+") + (at[strcspn(at, "+")] == '+')) {
+        const char *word = at + strspn(at, "0123456789.");
+        if (*word == 'f' || *word == '?' || *word == 'p' || (*word == 'c' && word[1] >= '0' && word[1] <= '9')) return 1;
+    }
+    return 0;
+}
+
+/* Of reals zeros of both signs are one, and so are all NaNs; of other items with floats nothing is said. */
 static int is_same(const Items *one, const Items *other, Type as)
 {
     int is_real = as == F32 || as == F64, width = as == F32 ? 4 : 8;
     for (long i = 0; is_real && i < one->length; i++) if (!is_same_number(one->base + i * width, other->base + i * width, as)) return 0;
-    if (is_real) return 1;
-    if (as > PAIR && strpbrk(one->facts->signature, "fc?")) return 1;
+    if (is_real || has_floats(one)) return 1;
     Blocks here = block_of(one, 0, 0, one->length), there = block_of(other, 0, 0, other->length);
     int same = hash_of(&here) == hash_of(&there);
     drop_blocks(&here);
@@ -179,6 +188,37 @@ static int unordered_pair(const Operation *operation, const Items *all, Type as)
     return found;
 }
 
+/* From `first` on so many ranks' items, each half by itself, in the order of ranks. */
+static void fold_halves(const Operation *operation, const Items *all, int first, int ranks, Items *folded)
+{
+    if (ranks < 2) { copy_items(folded, all, first); return; }
+    Items left = room_for_items(1, all->length, all->type);
+    fold_halves(operation, all, first, ranks / 2, &left);
+    fold_halves(operation, all, first + ranks / 2, ranks - ranks / 2, folded);
+    apply(operation, &left, 0, folded);
+    free(left.room);
+}
+
+/* Whether other brackets give another result: MPI takes each operation as associative, and of floats none is. */
+static int is_bracketed(const Operation *operation, const Items *all, const Items *folded, Type as)
+{
+    Items left = room_for_items(1, all->length, all->type), next = room_for_items(1, all->length, all->type);
+    int found = 0;
+    if (all->ranks > 2 && !has_floats(all)) {
+        copy_items(&left, all, 0);
+        for (int i = 1; i < all->ranks; i++) {
+            copy_items(&next, all, i);
+            apply(operation, &left, 0, &next);
+            copy_items(&left, &next, 0);
+        }
+        fold_halves(operation, all, 0, all->ranks, &next);
+        found = !is_same(&left, folded, as) || !is_same(&next, folded, as);
+    }
+    free(left.room);
+    free(next.room);
+    return found;
+}
+
 /* Which ranks' contributions this rank's result has, and which part of theirs. */
 static int ranks_folded(const Arguments *a, const Communicator *communicator)
 {
@@ -195,6 +235,7 @@ static void put_fold(int id, const Arguments *a, const Communicator *communicato
     Items folded = room_for_items(1, all->length, all->type);
     copy_items(&folded, all, ranks - 1);
     for (int i = ranks - 2; i >= 0; i--) apply(operation, all, i, &folded);
+    if (ranks == all->ranks && is_bracketed(operation, all, &folded, as)) { put_text("slip"); put_number(id); put_text(" bracketed"); end_line(); }
     if (a->kind == REDUCE_SCATTER_BLOCK) { length = a->receive_count; first = rank * length; }
     if (a->kind == REDUCE_SCATTER) {
         length = number_at(a->receive_counts, rank);

@@ -11,7 +11,8 @@
  *   graph COMMUNICATOR SOURCES DESTINATIONS        the neighbours that dist_graph gave
  *   grid COMMUNICATOR NEGATIVE,POSITIVE ..         the neighbours in each dimension of a grid; - at a border
  *   types ID SENT AWAITED           the counts and basic types of each block of a call: 3*f64,2*f64
- *   slip ID WORD                    what MPI forbids the program: aliased, in_use ID, changed, overlapping BLOCK BLOCK, unordered RANK RANK
+ *   slip ID WORD                    what MPI forbids the program: aliased, in_use ID, changed, overlapping BLOCK BLOCK, unordered RANK RANK,
+ *                                   bracketed (its operation isn't commutative, or associative)
  *   operation ID PLACE op_create commutes|ordered      one of the program's own; own ID OPERATION: the call ID goes by it
  *   fold ID NUMBERS                 what its function gives, called in the order of ranks (with RECORD_OPERATIONS)
  *   freed COMMUNICATOR     note TEXT
@@ -292,8 +293,10 @@ static int is_asked(int rank, const char *name)
 static int asked_operations(int rank)
 {
     const char *words = getenv("RECORD_OPERATIONS");
-    if (words && !strcmp(words, "sums")) return 2;
-    return is_asked(rank, "RECORD_OPERATIONS");
+    if (!words || !*words || !strcmp(words, "0")) return 0;
+    if (!strcmp(words, "1") || !strcmp(words, "sums")) return words[0] == '1' ? 1 : 2;
+    if (!rank) fprintf(stderr, "record: RECORD_OPERATIONS=%s is neither 1, sums nor 0: it is off\n", words);
+    return 0;
 }
 
 static void open_record(void)

@@ -136,7 +136,7 @@ class Choice:
         """MPI_IN_PLACE where only the root may give it."""
         ranks = [rank for rank in sorted(row) if row[rank].is_misplaced()]
         if not ranks: return False
-        root = self.calls.order[key[0]].get(int(row[ranks[0]].root))
+        root = next((rank for place, rank in self.calls.order[key[0]].items() if str(place) == row[ranks[0]].root), '?')
         self.tell_fault(key, 'is the program\'s error: %s give%s MPI_IN_PLACE, which only the root may, rank %s' % (ranks_of(ranks), 's' * (len(ranks) == 1), root))
         return True
 
@@ -167,10 +167,11 @@ class Choice:
     def reason_of_own(self, key, row, part):
         """By an operation of the program's own: its fold, where the recorder made one."""
         record, order = self.record, self.calls.order[key[0]]
-        wrong, fold, ranks = own.unordered(record, row, order), own.Fold(self.calls, row), None
+        unordered, bracketed, fold, ranks = own.unordered(record, row, order), own.bracketed(record, row), own.Fold(self.calls, row), None
+        wrong, what = unordered or bracketed, 'commutative' if unordered else 'associative'
         if part.kind == 'allreduce': ranks = folds.unequal_results(self.calls, row)
         more = [given_at(self.calls, row[rank]) for rank in ranks or ()]
-        if wrong: self.tell_own(key, 'is the program\'s error: its operation isn\'t commutative', more or [(row[min(row)], [])], wrong)
+        if wrong: self.tell_own(key, 'is the program\'s error: its operation isn\'t ' + what, more or [(row[min(row)], [])], wrong)
         elif fold.found: self.tell_results(key, 'differs from a fold by the program\'s own operation', fold.with_last(row))
         elif ranks: self.tell_own(key, 'has other results at other ranks, by an operation of the program\'s own', more, own.why_unequal(record, row))
         if not fold.compared or set(row) != self.calls.members[key[0]]: return own.LEFT if wrong or fold.compared else '%s (%s)' % (own.LEFT, own.ASK)

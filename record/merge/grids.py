@@ -62,7 +62,7 @@ def keeps_order(row, order, grids, result_of):
             if other not in row: return False
             tos = neighbours_of(grids[other])
             sent, nth = blocks_of(row[other], row[other].items.split(), 0, len(tos)), froms[:place].count(froms[place])
-            mine = [at for at, to in enumerate(tos) if to == places[rank]]
+            mine = [at for at, to in enumerate(tos) if to == places.get(rank)]
             if sent is None or nth >= len(mine) or sent[mine[nth]] != block: return False
             seen = True
     return seen

@@ -33,6 +33,12 @@ def unordered(record, row, order):
     return None
 
 
+def bracketed(record, row):
+    """A line where contributions were seen to give another result with other brackets."""
+    if not any(slip[0] == 'bracketed' for part in row.values() for slip in part.slips): return None
+    return '    (%s isn\'t associative, as MPI takes each to be: in the order of ranks, other brackets give another result)' % named(record, row)
+
+
 def why_unequal(record, row):
     """What may be asked of results that differ between ranks."""
     if commutes(row): return '    (%s is declared commutative: an MPI may take any order. Where it isn\'t, that is the program\'s error; %s)' % (named(record, row), ASK)

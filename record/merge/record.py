@@ -8,7 +8,7 @@ NEIGHBOURS = re.compile(r'-w?|\d+(:\d+)?(,\d+(:\d+)?)*')
 PAIR = re.compile(r'(-|\d+),(-|\d+)')
 SIDE = re.compile(r'-|\d+\*[^,]+(,\d+(\*[^,]+)?)*|-\d.*')
 LAST = ('end', 'abort', 'fatal', 'signal', 'exit', 'hang')
-SLIPS = dict(aliased=0, in_use=1, changed=0, overlapping=2, unordered=2)       # each with so many numbers
+SLIPS = dict(aliased=0, in_use=1, changed=0, overlapping=2, unordered=2, bracketed=0)       # each with so many numbers
 
 
 def texts_of(path):

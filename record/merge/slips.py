@@ -81,9 +81,9 @@ class Slips:
             still = [part for part in parts if self.record.ended[part.rank] == 'end' and part.name not in self.record.freed[part.rank]]
             if not still: continue
             freed = [part.rank for part in parts if part.name in self.record.freed[part.rank]]
-            by = ' by %s, though by %s' % (ranks_of(part.rank for part in still), ranks_of(freed)) if freed else ''
-            named['%s (%s)%s' % (self.calls.name_of(communicator), self.record.place_of(still[0]), by)] = None
+            by = '; not by %s, but by %s' % (ranks_of(part.rank for part in still), ranks_of(freed)) if freed else ''
+            named['%s (%s%s)' % (self.calls.name_of(communicator), self.record.place_of(still[0]), by)] = None
         if not named: return []
-        named = sorted(named, key=lambda words: ' by ' not in words)
+        named = sorted(named, key=lambda words: '; not by ' not in words)
         more = ' and %d more' % (len(named) - SHOWN_PLACES) if len(named) > SHOWN_PLACES else ''
         return ['never freed: ' + ', '.join(named[:SHOWN_PLACES]) + more]

@@ -29,7 +29,7 @@ int main(int argc, char **argv)
     MPI_Comm_rank(W, &me); MPI_Comm_size(W, &n);
     for (int i = 0; i < 4; i++) x[i] = (me * 7 + i * 5) % 11;
     for (int i = 0; i < 64; i++) { y[i] = me + i; counts[i] = i % 2; }
-    d[0] = 1.0 / (me + 3); d[1] = me == 0 ? 1e16 : me == n - 1 ? -1e16 : 1;          /* whose sum depends on the order */
+    d[0] = 1.0 / (me + 3); d[1] = me == 1 ? 1e16 : me == 2 ? -1e16 : 1;          /* whose sum depends on the order */
     MPI_Op_create(greatest, 1, &most); MPI_Op_create(sum, 1, &adds); MPI_Op_create(last_of, 0, &last); MPI_Op_create(join, 1, &joins);
     MPI_Allreduce(x, y, 4, MPI_INT, most, W);
     MPI_Reduce(me == 1 ? MPI_IN_PLACE : x, me == 1 ? x : 0, 4, MPI_INT, most, 1, W);
