@@ -134,6 +134,8 @@ long items_in(const Blocks *blocks, Type as);
 int can_read(const Blocks *blocks, Type as);
 int put_items(const Blocks *blocks, Type as);           /* 0 where MPI_Pack refuses */
 uint64_t hash_of(const Blocks *blocks);
+
+/* ---- overlaps.c ---- */
 int do_overlap(const Blocks *some, const Blocks *others);
 int find_overlap(const Blocks *blocks, int *one, int *other);
 

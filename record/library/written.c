@@ -354,8 +354,11 @@ static void check_mpi(void)
 void number_run(void)
 {
     static int is_numbered;
+    MPI_Comm parent = MPI_COMM_NULL;
     if (is_numbered++) return;
     check_mpi();
+    PMPI_Comm_get_parent(&parent);
+    if (parent != MPI_COMM_NULL) return;        /* a spawned process: the files are those of its parents' world */
     run = (long)time(0) * 100000 + getpid() % 100000;
     inside++;
     NEXT(Bcast)(&run, 1, MPI_LONG, 0, MPI_COMM_WORLD);

@@ -53,6 +53,7 @@ class Part:
         else:
             self.words = [kind] + rest.split()
             if len(self.words) > 1: self.communicator = self.words[1]
+            if tag == 'unknown' and self.communicator == 'freed' and len(self.words) != 3: raise ValueError('no name')
         if tag == 'left': self.root, self.operation, self.type, _ = self.words[2:6]
 
     def read_call(self, rest):

@@ -23,6 +23,8 @@ int main(int argc, char **argv)
     MPI_Type_create_resized(column, 0, sizeof(int), &narrow);
     MPI_Type_commit(&narrow);
     MPI_Gatherv(x, 2, MPI_INT, y, ones, near, narrow, 0, W);
+    for (int i = 0; i < n; i++) near[i] = 0;
+    MPI_Gatherv(x, 2, MPI_INT, y, ones, near, narrow, 0, W);
     MPI_Type_free(&column); MPI_Type_free(&narrow);
     MPI_Finalize();
     return 0;

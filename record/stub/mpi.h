@@ -248,6 +248,10 @@ MPI_Fint PMPI_Type_c2f(MPI_Datatype);
 BOTH(Type_free, MPI_Datatype *)
 BOTH(Pack_size, int, MPI_Datatype, MPI_Comm, int *)
 BOTH(Pack, const void *, int, MPI_Datatype, void *, int, int *, MPI_Comm)
+BOTH(Unpack, const void *, int, int *, void *, int, MPI_Datatype, MPI_Comm)
+BOTH(Comm_get_parent, MPI_Comm *)
+int MPI_Comm_set_info(MPI_Comm comm, MPI_Info info);
+int PMPI_Comm_set_info(MPI_Comm comm, MPI_Info info);
 #undef BOTH
 #undef TWICE
 #undef COUNTED
