@@ -214,6 +214,17 @@ static void put_known_neighbours(int number, const int *ranks)
     if (!some) put_word("-");
 }
 
+/* Of a grid each dimension's two neighbours; `-` is a border. */
+static void put_pairs(const Communicator *new)
+{
+    put_text("grid"); put_word(new->name);
+    for (int i = 0; i < new->sources; i++) {
+        put_text(i % 2 ? "," : " ");
+        if (new->from[i] == MPI_PROC_NULL) put_text("-"); else put_digits(new->from[i]);
+    }
+    end_line();
+}
+
 static void put_topology(const Communicator *new)
 {
     if (new->topology != MPI_CART && new->topology != MPI_GRAPH) return;
@@ -222,6 +233,7 @@ static void put_topology(const Communicator *new)
     put_known_neighbours(new->sources, new->from);
     put_known_neighbours(new->destinations, new->to);
     end_line();
+    if (new->topology == MPI_CART) put_pairs(new);
     unlock_record();
 }
 
