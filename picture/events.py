@@ -33,10 +33,12 @@ class Turn:
 
 
 class Run:
-    """All turns of a run, from 1 on, how many processes it has, and of which calls its processes have posts, in the order in which they come."""
+    """All turns of a run, from 1 on, how many processes it has, and of which calls its processes have posts, in the order in which they come.
+    Behind that what else the lines say, as `waiting: 0`."""
 
     def __init__(self):
-        self.turns, self.processes, self.ranks, self.calls = {}, 0, set(), []
+        self.turns, self.processes, self.ranks, self.calls, self.said = {}, 0, set(), [], []
+        self.parts = {}
 
     @property
     def last(self):
@@ -49,14 +51,17 @@ class Run:
 
     def posts(self, text):
         """The calls that a process has posts of, as `world 0: 0 2 | world 1: 0`, and of whom."""
-        calls = {}
-        for part in text.split(" | ") if text != "nothing" else []:
-            call, _, posts = part.partition(":")
-            calls[call] = {int(it) for it in posts.split()}
-            self.ranks |= calls[call]
+        return dict(map(self.part, text.split(" | ") if text != "nothing" else []))
+
+    def part(self, text):
+        """A call and of whom its posts are. The same text comes often, and is read once."""
+        if text not in self.parts:
+            call, _, posts = text.partition(":")
+            self.parts[text] = call, frozenset(map(int, posts.split()))
+            self.ranks |= self.parts[text][1]
             if call not in self.calls:
                 self.calls.append(call)
-        return calls
+        return self.parts[text]
 
     def add(self, line):
         """Whether the line is an event."""
@@ -78,7 +83,11 @@ def read(lines):
     """The run that the lines tell."""
     run, count = Run(), 0
     for line in lines:
-        count += run.add(line.rstrip("\r\n"))
+        line = line.rstrip("\r\n")
+        if run.add(line):
+            count += 1
+        elif line:
+            run.said.append(line)
     if not count:
         raise Unreadable("the trace has no event: is it what 'gossipmpi run --trace' writes on the standard error?")
     return run

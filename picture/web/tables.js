@@ -1,0 +1,95 @@
+"use strict";
+// The tables beneath the picture: they say in text what it shows.
+
+function put(parent, ...children) {
+  parent.replaceChildren(...children);
+}
+
+function make(kind, attributes, ...children) {
+  const made = document.createElement(kind);
+  for (const [name, value] of Object.entries(attributes)) made.setAttribute(name, value);
+  made.append(...children);
+  return made;
+}
+
+function headRow(...names) {
+  return make("thead", {}, make("tr", {}, ...names.map((name) => make("th", { scope: "col" }, name))));
+}
+
+function row(name, ...cells) {
+  return make("tr", {}, make("th", { scope: "row" }, name), ...cells.map((cell) => make("td", {}, cell)));
+}
+
+function table(caption, head, rows) {
+  return make("table", {}, make("caption", {}, caption), head, make("tbody", {}, ...rows));
+}
+
+// What became of each frame of the turn.
+function framesTable(turn) {
+  const { sent, taken } = run.turns[turn - 1] || { sent: [], taken: [] };
+  const rows = sent.filter((frame) => frame[3]).map(([sender, to, bytes]) => [sender, to, "lost", bytes + " bytes"]);
+  for (const [sender, to, again, change] of taken) {
+    const bytes = sent.filter((frame) => !again && frame[0] === sender && frame[1] === to && !frame[3]).map((frame) => frame[2] + " bytes");
+    rows.push([sender, to, (again ? "once more; " : "") + (change.brought.length ? "brings " + bringsOf(change.brought) : "nothing new"), bytes[0] || ""]);
+  }
+  rows.sort((one, other) => one[0] - other[0]);
+  return table("Frames of " + theTurn(turn), headRow("From", "To", "What becomes of it", "Size"), rows.map(([sender, to, ...cells]) => row(nameOf(sender), nameOf(to), ...cells)));
+}
+
+// What every process has of the calls that the picture shows.
+function boardsTable(turn, calls) {
+  const rows = numbers(run.processes).map((process) => row(nameOf(process), ...calls.map((call) => boardWords(process, call, turn))));
+  return table("Whose posts each process has after " + theTurn(turn), headRow("Process", ...calls.map(callName)), rows);
+}
+
+// Who waits for whom. The last turn's are the program's own, where it says them.
+function waitsTable(turn) {
+  if (turn === last && run.waits.length) {
+    const rows = run.waits.map(([rank, call, , words]) => row("rank " + rank, call, words));
+    return table("At the end, as the program says", headRow("Who waits", "In which call", "For the posts of"), rows);
+  }
+  const waits = waitsAfter(turn);
+  if (!waits.length) return make("p", {}, turn === last ? "No rank that has posted is known to lack a post." : "No rank that has posted is known to lack a post after " + theTurn(turn) + ".");
+  const rows = waits.map(([rank, call, made, unmade]) => row("rank " + rank, callName(call), spoken(unmade) || "-", spoken(made) || "-"));
+  return table("After " + theTurn(turn), headRow("Who", "Has posted to", "Lacks, and nobody is seen to have, the posts of", "Lacks, and others have, the posts of"), rows);
+}
+
+// A cell of the chosen process's board: one post.
+function postCell(board, all, rank) {
+  const kind = !has(all, rank) ? "out" : board.dropped ? "over" : has(board.fresh, rank) ? "fresh" : has(board.ranks, rank) ? "has" : "none";
+  const words = { out: "no member", over: "dropped", fresh: "new", has: "has", none: "lacks" }[kind];
+  return make("td", { class: "post " + kind, title: words }, make("span", { class: "unseen" }, words));
+}
+
+// The chosen process's board: a row for each call that it has posts of, or dropped in this turn, newest first.
+function boardTable(process, turn) {
+  const calls = run.calls.map((_, call) => call).filter((call) => {
+    const board = boardOf(process, call, turn);
+    return board.ranks && (!board.dropped || gone[process].get(call) === turn);
+  });
+  const rows = calls.reverse().map((call) => {
+    const board = boardOf(process, call, turn), all = allOf(call);
+    return make("tr", {}, make("th", { scope: "row" }, callName(call)), ...everyone.map((rank) => postCell(board, all, rank)), make("td", {}, boardWords(process, call, turn)));
+  });
+  const over = [...gone[process].values()].filter((when) => when <= turn).length;
+  const caption = `The board of ${nameOf(process)} after ${theTurn(turn)}` + (over ? `; ${counted(over, "call is", "calls are")} dropped by then` : "");
+  if (!rows.length) return make("p", {}, caption + ": it isn't known to have any post.");
+  const head = headRow("Call", ...everyone.map((rank) => make("span", {}, make("span", { class: "unseen" }, "rank "), String(rank))), "In words");
+  return make("div", { class: "scrolls", tabindex: "0", role: "region", "aria-label": caption }, table(caption, head, rows));
+}
+
+// A rank's lines so far; those of this turn are marked. Of many the last ones.
+function lineList(rank, turn, most) {
+  const count = lines[turn][rank], begin = Math.max(0, count - most), list = make("ol", { start: String(begin + 1) });
+  for (const [when, line] of printed[rank].slice(begin, count)) {
+    list.append(when === turn ? make("li", { class: "now" }, make("code", {}, line), make("span", { class: "unseen" }, " (new)")) : make("li", {}, make("code", {}, line)));
+  }
+  return list;
+}
+
+// The transcript: each rank's lines, of many ranks the last three.
+function transcriptTable(turn) {
+  const most = run.ranks <= 8 ? 12 : 3;
+  const rows = everyone.map((rank) => row("rank " + rank, String(lines[turn][rank]), lineList(rank, turn, most)));
+  return table(`What ranks have printed after ${theTurn(turn)}` + (run.ranks <= 8 ? ", the last 12 lines of each" : ", the last 3 lines of each"), headRow("Rank", "Lines", "The last ones"), rows);
+}
