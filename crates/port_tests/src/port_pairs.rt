@@ -114,15 +114,8 @@ fn meet_after<R: Wait>(
     Ok(bus.meet(first, second).both)
 }
 
-fn meet_two<R: Wait>(rt: &R, alloc: Global, harvest: bool, ops: &Ops) -> Result<u64, Fail> {
+// The same of the two ports of a new bus with room for one frame.
+pub fn meet_two<R: Wait>(rt: &R, alloc: Global, harvest: bool, ops: &Ops) -> Result<u64, Fail> {
     let (bus, first, second) = two_ports(alloc, 1, ops)?;
     meet_after(rt, alloc, &bus, first, second, harvest, ops)
-}
-
-#[test]
-fn two_ports_meet_with_what_both_finished(rt: HostRuntime) -> Result<(), Fail> {
-    let ops = Ops::none(rt.alloc());
-    assert_eq!(rt; meet_two(&rt, rt.alloc(), true, &ops)?, 1);
-    assert_eq!(rt; meet_two(&rt, rt.alloc(), false, &ops)?, 0);
-    Ok(())
 }

@@ -9,8 +9,7 @@ use crate::shared_ports::{Shared, post, share};
 use join_core::Exact;
 use mpx_bus::{Bus, Port};
 use mpx_name::Name;
-use mpx_node::Finished;
-use mpx_num::{Items, Listing, Ops};
+use mpx_num::{Listing, Ops};
 use mpx_shared::{PortLock, SharedPort, Ticket, TicketTested};
 use std::alloc::Global;
 use std::marker::Brand;
@@ -19,26 +18,20 @@ use std::sync::ledger::Blank;
 use std::test::Fail;
 use test_drafts::a_sum;
 
-// The number that the port posted itself.
-fn mine_in(alloc: Global, finished: &Finished) -> Option<i128> {
-    let items = Items::spelled(alloc, finished.mine.items()?).ok()?;
-    items.nums().first().copied()
-}
-
-// What the ticket's call gave, where that is told: the own number, and the sum.
+// The sum that the ticket's call gave beside the ticket's post, where that is told.
 fn told<L: PortLock, R: Wait>(
     rt: &R,
     alloc: Global,
     port: &SharedPort<L>,
     ticket: &Ticket,
-) -> Result<Option<(i128, i128)>, Fail> {
+) -> Result<Option<i128>, Fail> {
     let TicketTested::Done(finished) = port.test(rt, alloc, ticket)? else {
         return Ok(None);
     };
     if !finished.mine.same(&ticket.post) {
         return Err(Fail::from("another post"));
     }
-    Ok(mine_in(alloc, &finished).zip(sum_in(&finished)))
+    Ok(sum_in(&finished))
 }
 
 // Whether the port has no such post as the ticket's.
@@ -51,7 +44,7 @@ fn is_strange<L: PortLock, R: Wait>(
     Ok(matches!(port.test(rt, alloc, ticket)?, TicketTested::Strange))
 }
 
-// Both gossip in turn, until both are told the sum beside their own number.
+// Both gossip in turn, until both are told the sum. A ticket of the first is strange to the second.
 fn gossip_on<M: PortLock, N: PortLock, R: Wait>(
     rt: &R,
     alloc: Global,
@@ -64,13 +57,14 @@ fn gossip_on<M: PortLock, N: PortLock, R: Wait>(
     requires first { table_of bus.now ≡ M.table }
     requires second { table_of bus.now ≡ N.table }
 {
+    let strange = is_strange(rt, alloc, second.0, first.1)?;
     for _ in 0..20 {
         first.0.gossip(rt, alloc, bus, 10, ops)?;
         second.0.gossip(rt, alloc, bus, 10, ops)?;
         let one = told(rt, alloc, first.0, first.1)?;
         let two = told(rt, alloc, second.0, second.1)?;
         if one.is_some() && two.is_some() {
-            return Ok(one == Some((7, 15)) && two == Some((8, 15)));
+            return Ok(strange && one == Some(15) && two == Some(15));
         }
     }
     Ok(false)
@@ -100,8 +94,7 @@ fn post_sum<L: PortLock, R: Wait>(
     )?)
 }
 
-// Both post a number. Whether the first port's ticket is strange to the second, before and after its own post, and whether both
-// are told the sum.
+// Both post a number. Whether both are told the sum.
 fn sum_up<M: PortLock, N: PortLock, R: Wait>(
     rt: &R,
     alloc: Global,
@@ -109,7 +102,7 @@ fn sum_up<M: PortLock, N: PortLock, R: Wait>(
     first: &mut Shared<M>,
     second: &mut Shared<N>,
     ops: &Ops,
-) -> Result<(bool, bool), Fail>
+) -> Result<bool, Fail>
     requires list { (⟦<Ops as Listing>⟧.operations ops.now ≡ M.setup.operations) × (⟦<Ops as Listing>⟧.operations ops.now ≡ N.setup.operations) }
     requires first { ((M.all ≡ M.parts) × (0 < M.parts)) × ((M.setup.planned ≡ false) × (table_of bus.now ≡ M.table)) }
     requires second { ((N.all ≡ N.parts) × (0 < N.parts)) × ((N.setup.planned ≡ false) × (table_of bus.now ≡ N.table)) }
@@ -120,7 +113,7 @@ fn sum_up<M: PortLock, N: PortLock, R: Wait>(
     told
 }
 
-// The second posts too. Whether the first's ticket is strange to it, before and after that, and whether both are told the sum.
+// The second posts too. Whether both are told the sum.
 fn with_first<M: PortLock, N: PortLock, R: Wait>(
     rt: &R,
     alloc: Global,
@@ -128,37 +121,18 @@ fn with_first<M: PortLock, N: PortLock, R: Wait>(
     first: (&SharedPort<M>, &Ticket),
     second: &mut Shared<N>,
     ops: &Ops,
-) -> Result<(bool, bool), Fail>
+) -> Result<bool, Fail>
     requires list { (⟦<Ops as Listing>⟧.operations ops.now ≡ M.setup.operations) × (⟦<Ops as Listing>⟧.operations ops.now ≡ N.setup.operations) }
     requires first { table_of bus.now ≡ M.table }
     requires second { ((N.all ≡ N.parts) × (0 < N.parts)) × ((N.setup.planned ≡ false) × (table_of bus.now ≡ N.table)) }
 {
-    let unposted = is_strange(rt, alloc, &second.port, first.1)?;
     let two = post_sum(rt, alloc, second, 8, ops)?;
-    let told = with_both(rt, alloc, bus, first, (&second.port, &two), ops);
+    let told = gossip_on(rt, alloc, bus, first, (&second.port, &two), ops);
     drop(two);
-    let (posted, summed) = told?;
-    Ok((unposted && posted, summed))
+    told
 }
 
-// Whether the first's ticket is strange to the second, and whether both are told the sum.
-fn with_both<M: PortLock, N: PortLock, R: Wait>(
-    rt: &R,
-    alloc: Global,
-    bus: &Bus,
-    first: (&SharedPort<M>, &Ticket),
-    second: (&SharedPort<N>, &Ticket),
-    ops: &Ops,
-) -> Result<(bool, bool), Fail>
-    requires list { (⟦<Ops as Listing>⟧.operations ops.now ≡ M.setup.operations) × (⟦<Ops as Listing>⟧.operations ops.now ≡ N.setup.operations) }
-    requires first { table_of bus.now ≡ M.table }
-    requires second { table_of bus.now ≡ N.table }
-{
-    let posted = is_strange(rt, alloc, second.0, first.1)?;
-    Ok((posted, gossip_on(rt, alloc, bus, first, second, ops)?))
-}
-
-// Shares two new ports: whether a foreign ticket is strange to the second, and whether gossip brings both sums.
+// Shares two new ports. Whether gossip brings both the sum.
 fn share_two<M: PortLock, N: PortLock, R: Wait>(
     rt: &R,
     alloc: Global,
@@ -166,7 +140,7 @@ fn share_two<M: PortLock, N: PortLock, R: Wait>(
     first: (Port, Blank),
     second: (Port, Blank),
     ops: &Ops,
-) -> Result<(bool, bool), Fail>
+) -> Result<bool, Fail>
     requires list { (⟦<Ops as Listing>⟧.operations ops.now ≡ M.setup.operations) × (⟦<Ops as Listing>⟧.operations ops.now ≡ N.setup.operations) }
     requires first_ledger { (first.1.name ≡ M.name) × ((first.1.parts ≡ M.parts) × ((M.all ≡ M.parts) × (0 < M.parts))) }
     requires first_port { (0 ≡ M.me) × (IsLawful M.table M.setup M.me first.0 × ((first.0.journal ≡ M.opening) × (length (made_in first.0) ≡ M.before))) }
@@ -180,17 +154,10 @@ fn share_two<M: PortLock, N: PortLock, R: Wait>(
     sum_up(rt, alloc, bus, &mut first, &mut second, ops)
 }
 
-// Whether a ticket is strange to the other port, and whether both are told the sum.
-fn meet<R: Wait>(rt: &R, alloc: Global, ops: &Ops) -> Result<(bool, bool), Fail> {
+// Whether the two ports of a new bus are told the sum of 7 and 8, and a ticket of one is strange to the other.
+pub fn meet<R: Wait>(rt: &R, alloc: Global, ops: &Ops) -> Result<bool, Fail> {
     let (bus, first, second) = two_ports(alloc, 16, ops)?;
     let first = (first, Blank::new(1));
     let second = (second, Blank::new(1));
     share_two::<Brand, Brand, R>(rt, alloc, &bus, first, second, ops)
-}
-
-#[test]
-fn two_shared_ports_have_one_sum(rt: HostRuntime) -> Result<(), Fail> {
-    let ops = Ops::none(rt.alloc());
-    assert_eq!(rt; meet(&rt, rt.alloc(), &ops)?, (true, true));
-    Ok(())
 }

@@ -105,14 +105,8 @@ fn work<L: PortLock + Send + Sync, R: Threads + Wait + Sync>(
     Ok(port.into_port(poster).node().posted(&Name::world(alloc)))
 }
 
-fn posted<R: Threads + Wait + Sync>(rt: &R, alloc: Global, ops: &Ops) -> Result<u32, Fail> {
+// How many posts the only port of a new bus has made beside its gossip.
+pub fn posted<R: Threads + Wait + Sync>(rt: &R, alloc: Global, ops: &Ops) -> Result<u32, Fail> {
     let (bus, port) = one_port(alloc, 16, ops)?;
     work::<Brand, R>(rt, alloc, &bus, port, Blank::new(1), ops)
-}
-
-#[test]
-fn one_thread_posts_beside_gossip(rt: HostRuntime) -> Result<(), Fail> {
-    let ops = Ops::none(rt.alloc());
-    assert_eq!(rt; posted(&rt, rt.alloc(), &ops)?, 1_000);
-    Ok(())
 }

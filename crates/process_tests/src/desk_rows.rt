@@ -1,359 +1,237 @@
-//! Rows of what ranks call, and what they get.
+//! Desks: requests that are tested, the own post, posts before a birth, deltas, and frames that no process sent.
 ghost use Rattle.std.specs.Prelude.{◌<◌, ◌≤◌};
 
-use crate::desk_acts::{Start, WaitingCall as Called, make_call, post_call};
-use crate::desks::{desk_of, gathering};
-use join_core::Exact;
-use mpx_comm::{CallError, Comm, Desk, Request, Tested, WaitError};
-use mpx_kind::{Call, Mode, Reduction};
-use mpx_node::{Finished, Harvest, Node};
-use mpx_num::{Items, Ops};
+use crate::desks::{Act, Member, Told, gets, give, swap};
+use crate::looks::Look;
+use mpx_board::PruneError;
+use mpx_comm::{Comm, Desk};
+use mpx_group::Proc;
+use mpx_node::{Harvest, Node};
+use mpx_num::Ops;
 use mpx_post::PostError;
-use mpx_value::Outcome;
 use std::alloc::Global;
-use std::mem;
 use std::process::Abort;
 use std::test::Fail;
-use test_drafts::bare;
-use test_drafts::contexts::sum_of;
-
-// What a rank does. Communicators and requests are told by their places in its lists.
-#[derive(Clone, Copy)]
-pub enum DeskAct {
-    // A blocking call on a communicator, without a turn.
-    Calls(usize, Called),
-    Starts(usize, Start),
-    Tests(usize),
-    Waits(usize),
-    // All requests of the list.
-    TestsAll,
-    WaitsAll,
-    TestsAny,
-    // A harvest of the gathering of rank 0 alone below a communicator.
-    HarvestsGathering(usize, u16),
-}
-
-// What it gets.
-#[derive(Clone, Copy)]
-pub enum DeskTold {
-    Refused(PostError),
-    // It is posted and not done: the request is the last one of the list.
-    Open,
-    // It isn't done: each request is handed back, and is the last one of the list.
-    NotYet,
-    NotOpened,
-    Nothing,
-    // These numbers; all requests get the same.
-    Items(&'static [i128]),
-    // The sum, beside the own post of this number.
-    SumOf(i128, i128),
-    // The request at this place is done and gave these numbers; it is answered once more, as the last one of the list.
-    First(usize, &'static [i128]),
-    NoneIsDone,
-    // A communicator of so many members, with this rank and so many steps: the last one of the list.
-    Made(u8, u8, usize),
-    NoComm,
-}
+use test_drafts::contexts::{FRAME, On, WORLD};
+use test_drafts::kinds;
 
 #[derive(Clone, Copy)]
-pub enum DeskRow {
-    Left(DeskAct, DeskTold),
-    Right(DeskAct, DeskTold),
+enum Row {
+    Left(Act, Told),
+    Right(Act, Told),
     // Each takes the other's board.
     Swap,
+    // The other one takes all boards of the one's deltas, of which so many have the first post of process 0.
+    ToRight(usize),
+    ToLeft(usize),
 }
 
-// A rank: its desk, its communicators, of which the first is the world, and its requests.
-#[derive(Drop)]
-pub struct Member {
-    desk: Desk<Node>,
-    comms: Vec<Comm>,
-    requests: Vec<Request>,
-}
+const YES: Told = Told::Is(true);
+
+const NOT_YET: Told = Told::Harvest(Harvest::NotYet);
+
+const NOT_MEMBER: Told = Told::Refused(PostError::NotMember);
+
+// The left rank posts two sums, the right one its part of the first: all are handed back, and the first open one is it. A
+// request that was closed is still answered. The second sum is done once the right rank has posted its part.
+const TESTED: &[Row] = &[
+    Row::Left(Act::Starts(1), Told::Open),
+    Row::Left(Act::Starts(10), Told::Open),
+    Row::Right(Act::Starts(2), Told::Open),
+    Row::Swap,
+    Row::Left(Act::TestsAll, Told::NotYet),
+    Row::Left(Act::TestsAny, Told::First(0)),
+    Row::Left(Act::Tests(1), Told::NotYet),
+    Row::Left(Act::Waits(1), Told::NotYet),
+    Row::Left(Act::Waits(0), Told::Sum(1, 3)),
+    Row::Left(Act::TestsAny, Told::NoneIsDone),
+    Row::Right(Act::Starts(20), Told::Open),
+    Row::Swap,
+    Row::Left(Act::WaitsAll, Told::Sum(10, 30)),
+    Row::Right(Act::Tests(0), Told::Sum(2, 3)),
+    Row::Right(Act::TestsAll, Told::Sum(20, 30)),
+];
+
+// Each has its own post beside the sum.
+const OWN: &[Row] = &[
+    Row::Left(Act::Starts(7), Told::Open),
+    Row::Right(Act::Starts(8), Told::Open),
+    Row::Swap,
+    Row::Left(Act::Tests(0), Told::Sum(7, 15)),
+    Row::Right(Act::Tests(0), Told::Sum(8, 15)),
+];
+
+const CHILD: On = On::Below(1);
+
+// On the child of the world's first call: of call 0 the dups of processes 0 and 1.
+const DUPS_OF_CHILD: &[u8] = &[
+    0x4d, 0x50, 0x58, 0x47, 1, 0, 1, 1, 0, 0, 0, 0, 0, 0, 0, 0, 0, 0, 0, 0, 0, 0, 0, 0, 0, 0, 1, 0,
+    0, 0, 0, 2, 0, 1, 16, 0, 1, 1, 16, 0, 0,
+];
+
+// On the world: the same.
+const DUPS_OF_WORLD: &[u8] = &[
+    0x4d, 0x50, 0x58, 0x47, 1, 0, 1, 0, 0, 0, 0, 0, 0, 0, 0, 0, 0, 1, 0, 0, 0, 0, 2, 0, 1, 16, 0,
+    1, 1, 16, 0, 0,
+];
+
+// Rank 2 of three, which has posted a dup of the world, hears of posts on the child before it knows of the child's birth. Once the birth
+// is known these posts count.
+const EARLY: &[Row] = &[
+    Row::Right(Act::Calls(kinds::DUP), Told::Open),
+    Row::Right(Act::Takes(DUPS_OF_CHILD), YES),
+    Row::Right(Act::Sees(Look::Holds(CHILD, 0, 0)), YES),
+    Row::Right(Act::Sees(Look::Holds(CHILD, 0, 1)), YES),
+    Row::Right(Act::Sees(Look::Unborn(CHILD)), YES),
+    Row::Right(Act::Harvests(CHILD), Told::Harvest(Harvest::NotOpened)),
+    Row::Right(Act::Prunes(CHILD, 0), Told::Prune(Err(PruneError::NoBirth))),
+    Row::Right(Act::Takes(DUPS_OF_WORLD), YES),
+    Row::Right(Act::Harvests(WORLD), Told::Harvest(Harvest::Done(0))),
+    Row::Right(Act::Sees(Look::Unborn(CHILD)), Told::Is(false)),
+    Row::Right(Act::Sees(Look::Holds(CHILD, 0, 1)), YES),
+    Row::Right(Act::Harvests(CHILD), NOT_YET),
+];
+
+// A post that both have is in no delta any more, and stays on the board.
+const DELTAS: &[Row] = &[
+    Row::Left(Act::Calls(kinds::BARRIER), Told::Open),
+    Row::ToRight(1),
+    Row::ToLeft(0),
+    Row::ToRight(0),
+    Row::ToLeft(0),
+    Row::Left(Act::Sees(Look::Holds(WORLD, 0, 0)), YES),
+];
+
+// On world, where all is that is said below: of call 0 the post of process 1, a nonblocking sum of the one item 2 of type i64.
+const POST_OF_RANK_1: &[u8] = &[
+    0x4d, 0x50, 0x58, 0x47, 1, 0, 1, 0, 0, 0, 0, 0, 0, 0, 0, 0, 0, 1, 0, 0, 0, 0, 1, 1, 1, 11, 1,
+    3, 4, 0, 1, 0, 0, 0, 0, 0, 0, 0, 2, 0,
+];
+
+// Members 0, 1 and 2, without a topology.
+const THREE_MEMBERS: &[u8] = &[
+    0x4d, 0x50, 0x58, 0x47, 1, 0, 1, 0, 1, 3, 0, 1, 2, 0, 0, 0, 0, 0, 0, 0, 0, 0, 0, 0,
+];
+
+// World is dead.
+const DEAD: &[u8] = &[0x4d, 0x50, 0x58, 0x47, 2, 0, 1, 0, 1, 0];
+
+// A post of a frame that no process sent clashes with the own one, which is never harvested then. Later calls go on.
+const OTHER_POST: &[Row] = &[
+    Row::Left(Act::Takes(FRAME), YES),
+    Row::Left(Act::Sees(Look::Holds(WORLD, 0, 0)), YES),
+    Row::Left(Act::Starts(1), Told::Open),
+    Row::Left(Act::Sees(Look::Lacks(WORLD, 0, 0)), YES),
+    Row::Left(Act::Takes(POST_OF_RANK_1), YES),
+    Row::Left(Act::Sees(Look::Holds(WORLD, 0, 1)), YES),
+    Row::Left(Act::Harvests(WORLD), NOT_YET),
+    Row::Left(Act::Starts(2), Told::Open),
+    Row::Left(Act::Sees(Look::Holds(WORLD, 1, 0)), YES),
+    Row::Left(Act::Harvests(WORLD), NOT_YET),
+    Row::Left(Act::Sees(Look::OnePart), YES),
+];
+
+// A birth that such a frame made a clash refuses posts.
+const OTHER_BIRTH: &[Row] = &[
+    Row::Left(Act::Starts(1), Told::Open),
+    Row::Left(Act::Takes(POST_OF_RANK_1), YES),
+    Row::Left(Act::Takes(THREE_MEMBERS), YES),
+    Row::Left(Act::Sees(Look::Unborn(WORLD)), YES),
+    Row::Left(Act::Starts(2), NOT_MEMBER),
+    Row::Left(Act::Opens, NOT_MEMBER),
+    Row::Left(Act::Harvests(WORLD), NOT_YET),
+    Row::Left(Act::Prunes(WORLD, 0), Told::Prune(Err(PruneError::NoBirth))),
+    Row::Left(Act::Sees(Look::Holds(WORLD, 0, 0)), YES),
+];
+
+// Of a dead context nothing is known, nothing comes back, and nothing is left to drop.
+const DEAD_EARLY: &[Row] = &[
+    Row::Left(Act::Starts(1), Told::Open),
+    Row::Left(Act::Takes(DEAD), YES),
+    Row::Left(Act::Sees(Look::Unborn(WORLD)), YES),
+    Row::Left(Act::Sees(Look::Lacks(WORLD, 0, 0)), YES),
+    Row::Left(Act::Starts(2), NOT_MEMBER),
+    Row::Left(Act::Opens, NOT_MEMBER),
+    Row::Left(Act::Harvests(WORLD), NOT_YET),
+    Row::Left(Act::Prunes(WORLD, 7), Told::Prune(Ok(()))),
+    Row::Left(Act::Takes(POST_OF_RANK_1), YES),
+    Row::Left(Act::Sees(Look::Lacks(WORLD, 0, 1)), YES),
+];
+
+// What the rows show, how many ranks there are, and the rows.
+const DESKS: [(&str, u8, &[Row]); 7] = [
+    ("tests close all or none", 2, TESTED),
+    ("results have the own post", 2, OWN),
+    ("posts come before a birth", 3, EARLY),
+    ("what both acknowledge is not sent again", 2, DELTAS),
+    ("another post", 2, OTHER_POST),
+    ("another birth", 2, OTHER_BIRTH),
+    ("a dead context", 2, DEAD_EARLY),
+];
 
 fn member_of(alloc: Global, me: u8, ranks: u8) -> Result<Member, Fail>
     requires me { me < ranks }
     requires few { ranks ≤ 64 }
 {
+    let node = Node::new(alloc, Proc::new(me), ranks, ranks)?;
     Ok(Member {
-        desk: desk_of(alloc, me, ranks)?,
-        comms: vec![in alloc; Comm::world(alloc, ranks, me)]?,
+        desk: Desk::new(alloc, node),
+        comm: Comm::world(alloc, ranks, me),
         requests: Vec::new(alloc),
     })
 }
 
-fn keeps_comm(member: &mut Member, comm: Option<Comm>, told: DeskTold) -> Result<bool, Fail> {
-    match (comm, told) {
-        (None, DeskTold::NoComm) => Ok(true),
-        (Some(comm), DeskTold::Made(size, rank, depth)) => {
-            let of = (comm.size(), comm.rank(), comm.name().depth());
-            member.comms.push(comm)?;
-            Ok(of == (size, rank, depth))
-        }
-        _ => Ok(false),
-    }
-}
-
-// Whether the call gave the sum, and the own post is that of the number.
-fn is_sum_of(
-    alloc: Global,
-    finished: &Finished,
-    items: &Items,
-    own: i128,
-    sum: i128,
-) -> Result<bool, Fail> {
-    let given = [own];
-    let mut posted = sum_of(&given);
-    posted.call = Call::Reduction(Reduction::Allreduce, Mode::Nonblocking);
-    let mine = bare(alloc, &posted)?.ok_or("no post")?;
-    Ok(items.nums() == [sum].as_slice() && finished.mine.same(&mine))
-}
-
-// Whether the call gave that.
-fn gave(
-    alloc: Global,
-    member: &mut Member,
-    finished: &Finished,
-    told: DeskTold,
-) -> Result<bool, Fail> {
-    match (&finished.outcome, told) {
-        (Outcome::Items(items), DeskTold::Items(wanted)) => Ok(items.nums() == wanted),
-        (Outcome::Items(items), DeskTold::SumOf(own, sum)) => {
-            is_sum_of(alloc, finished, items, own, sum)
-        }
-        (Outcome::Nothing, DeskTold::Nothing) => Ok(true),
-        _ => keeps_comm(member, Comm::of(alloc, finished)?, told),
-    }
-}
-
-fn keeps(member: &mut Member, request: Request, is_right: bool) -> Result<bool, Fail> {
-    member.requests.push(request)?;
-    Ok(is_right)
-}
-
-fn calls(
-    alloc: Global,
-    member: &mut Member,
-    at: usize,
-    called: Called,
-    told: DeskTold,
-    ops: &Ops,
-) -> Result<bool, Fail> {
-    let Some(comm) = member.comms.get(at) else {
-        return Ok(false);
-    };
-    match make_call(alloc, &mut member.desk, comm, called, ops) {
-        Ok(finished) => gave(alloc, member, &finished, told),
-        Err(CallError::StillWaiting(request)) => {
-            keeps(member, request, matches!(told, DeskTold::Open))
-        }
-        Err(CallError::Refused(refusal)) => {
-            Ok(matches!(told, DeskTold::Refused(wanted) if wanted == refusal))
-        }
-        Err(CallError::OutOfMemory(_)) => Ok(false),
-    }
-}
-
-fn starts(
-    alloc: Global,
-    member: &mut Member,
-    at: usize,
-    started: Start,
-    told: DeskTold,
-    ops: &Ops,
-) -> Result<bool, Fail> {
-    let Some(comm) = member.comms.get(at) else {
-        return Ok(false);
-    };
-    match post_call(alloc, &mut member.desk, comm, started, ops) {
-        Ok(request) => keeps(member, request, matches!(told, DeskTold::Open)),
-        Err(_) => Ok(false),
-    }
-}
-
-// The request at this place, which goes out of the list.
-fn taken(member: &mut Member, at: usize) -> Result<Request, Fail> {
-    if at < member.requests.len() {
-        return Ok(member.requests.remove(at));
-    }
-    Err(Fail::from("no request"))
-}
-
-fn tests(
-    alloc: Global,
-    member: &mut Member,
-    at: usize,
-    told: DeskTold,
-    ops: &Ops,
-) -> Result<bool, Fail> {
-    let request = taken(member, at)?;
-    match member.desk.test(alloc, request, ops) {
-        Ok(Tested::Done(finished)) => gave(alloc, member, &finished, told),
-        Ok(Tested::NotYet(request)) => keeps(member, request, matches!(told, DeskTold::NotYet)),
-        Err(_) => Ok(false),
-    }
-}
-
-fn waits(
-    alloc: Global,
-    member: &mut Member,
-    at: usize,
-    told: DeskTold,
-    ops: &Ops,
-) -> Result<bool, Fail> {
-    let request = taken(member, at)?;
-    match member.desk.wait(alloc, request, 0, ops) {
-        Ok(finished) => gave(alloc, member, &finished, told),
-        Err(WaitError::StillWaiting(request)) => {
-            keeps(member, request, matches!(told, DeskTold::NotYet))
-        }
-        Err(WaitError::OutOfMemory(_)) => Ok(false),
-    }
-}
-
-fn all_gave(
-    alloc: Global,
-    member: &mut Member,
-    all: &[Finished],
-    told: DeskTold,
-) -> Result<bool, Fail> {
-    for finished in all {
-        if !gave(alloc, member, finished, told)? {
-            return Ok(false);
-        }
-    }
-    Ok(!all.is_empty())
-}
-
-fn tests_all(alloc: Global, member: &mut Member, told: DeskTold, ops: &Ops) -> Result<bool, Fail> {
-    let requests = mem::replace(&mut member.requests, Vec::new(alloc));
-    match member.desk.testall(alloc, requests, ops) {
-        Ok(Tested::Done(all)) => all_gave(alloc, member, &all, told),
-        Ok(Tested::NotYet(requests)) => {
-            member.requests = requests;
-            Ok(matches!(told, DeskTold::NotYet))
-        }
-        Err(_) => Ok(false),
-    }
-}
-
-fn waits_all(alloc: Global, member: &mut Member, told: DeskTold, ops: &Ops) -> Result<bool, Fail> {
-    let requests = mem::replace(&mut member.requests, Vec::new(alloc));
-    match member.desk.waitall(alloc, requests, 1, ops) {
-        Ok(all) => all_gave(alloc, member, &all, told),
-        Err(WaitError::StillWaiting(requests)) => {
-            member.requests = requests;
-            Ok(matches!(told, DeskTold::NotYet))
-        }
-        Err(WaitError::OutOfMemory(_)) => Ok(false),
-    }
-}
-
-fn is_first(
-    member: &mut Member,
-    request: Request,
-    finished: &Finished,
-    told: DeskTold,
-) -> Result<bool, Fail> {
-    let DeskTold::First(at, wanted) = told else {
-        return Ok(false);
-    };
-    let is_it = member.requests.get(at) == Some(&request);
-    member.requests.push(request)?;
-    match &finished.outcome {
-        Outcome::Items(items) => Ok(is_it && items.nums() == wanted),
-        _ => Ok(false),
-    }
-}
-
-fn tests_any(alloc: Global, member: &mut Member, told: DeskTold, ops: &Ops) -> Result<bool, Fail> {
-    match member.desk.testany(alloc, ops)? {
-        None => Ok(matches!(told, DeskTold::NoneIsDone)),
-        Some((request, finished)) => is_first(member, request, &finished, told),
-    }
-}
-
-fn harvests_gathering(
-    alloc: Global,
-    member: &mut Member,
-    at: usize,
-    tag: u16,
-    told: DeskTold,
-    ops: &Ops,
-) -> Result<bool, Fail> {
-    let comm = member.comms.get(at).ok_or("no communicator")?;
-    let name = gathering(alloc, comm.name(), tag)?;
-    match member.desk.harvest(alloc, &name, ops)? {
-        Harvest::Done(_) => Ok(false),
-        Harvest::NotYet => Ok(matches!(told, DeskTold::NotYet)),
-        Harvest::NotOpened => Ok(matches!(told, DeskTold::NotOpened)),
-    }
-}
-
-// Whether the rank gets that when it does this.
-fn gets(
-    alloc: Global,
-    member: &mut Member,
-    act: DeskAct,
-    told: DeskTold,
-    ops: &Ops,
-) -> Result<bool, Fail> {
-    match act {
-        DeskAct::Calls(at, called) => calls(alloc, member, at, called, told, ops),
-        DeskAct::Starts(at, started) => starts(alloc, member, at, started, told, ops),
-        DeskAct::Tests(at) => tests(alloc, member, at, told, ops),
-        DeskAct::Waits(at) => waits(alloc, member, at, told, ops),
-        DeskAct::TestsAll => tests_all(alloc, member, told, ops),
-        DeskAct::WaitsAll => waits_all(alloc, member, told, ops),
-        DeskAct::TestsAny => tests_any(alloc, member, told, ops),
-        DeskAct::HarvestsGathering(at, tag) => harvests_gathering(
-            alloc, member, at, tag, told, ops,
-        ),
-    }
-}
-
-fn swap(alloc: Global, left: &mut Desk<Node>, right: &mut Desk<Node>) -> Result<bool, Fail> {
-    left.take(alloc, right.host().board())?;
-    right.take(alloc, left.host().board())?;
-    Ok(true)
-}
-
-fn go_on(
-    rt: &impl Abort,
+// Does what the row says, and answers whether it comes out so.
+fn is_so(
     alloc: Global,
     left: &mut Member,
     right: &mut Member,
-    shown: &str,
-    rows: &[DeskRow],
+    row: Row,
     ops: &Ops,
-) -> Result<(), Fail> {
-    for (at, row) in rows.iter().enumerate() {
-        let is_right = match *row {
-            DeskRow::Left(act, told) => gets(alloc, left, act, told, ops)?,
-            DeskRow::Right(act, told) => gets(alloc, right, act, told, ops)?,
-            DeskRow::Swap => swap(alloc, &mut left.desk, &mut right.desk)?,
-        };
-        assert!(rt; is_right, "{shown}: row {at}");
+) -> Result<bool, Fail> {
+    match row {
+        Row::Left(act, wanted) => Ok(gets(alloc, left, act, ops)? == wanted),
+        Row::Right(act, wanted) => Ok(gets(alloc, right, act, ops)? == wanted),
+        Row::Swap => swap(alloc, &mut left.desk, &mut right.desk),
+        Row::ToRight(posts) => Ok(give(alloc, &mut left.desk, &mut right.desk)? == posts),
+        Row::ToLeft(posts) => Ok(give(alloc, &mut right.desk, &mut left.desk)? == posts),
     }
-    Ok(())
 }
 
-// It all comes out so for the first rank of so many, on the left, and the last one.
-pub fn run(
-    rt: &impl Abort,
+// The place of the first row that doesn't come out so, if there is one.
+fn first_wrong(
     alloc: Global,
-    shown: &str,
-    ranks: u8,
-    rows: &[DeskRow],
+    left: &mut Member,
+    right: &mut Member,
+    rows: &[Row],
     ops: &Ops,
-) -> Result<(), Fail> {
+) -> Result<Option<usize>, Fail> {
+    for (at, row) in rows.iter().enumerate() {
+        if !is_so(alloc, left, right, *row, ops)? {
+            return Ok(Some(at));
+        }
+    }
+    Ok(None)
+}
+
+// The same of the first rank of so many, on the left, and the last one.
+fn run(alloc: Global, ranks: u8, rows: &[Row], ops: &Ops) -> Result<Option<usize>, Fail> {
     if ranks == 0 || ranks > 64 {
         return Err(Fail::from("no ranks"));
     }
     let mut left = member_of(alloc, 0, ranks)?;
     let mut right = member_of(alloc, ranks - 1, ranks)?;
-    let answer = go_on(rt, alloc, &mut left, &mut right, shown, rows, ops);
+    let wrong = first_wrong(alloc, &mut left, &mut right, rows, ops);
     drop(left);
     drop(right);
-    answer
+    wrong
+}
+
+#[test]
+fn desks_go_so(rt: HostRuntime) -> Result<(), Fail> {
+    let ops = Ops::none(rt.alloc());
+    for (shown, ranks, rows) in DESKS {
+        assert_eq!(rt; run(rt.alloc(), ranks, rows, &ops)?, None, "{shown}");
+    }
+    Ok(())
 }

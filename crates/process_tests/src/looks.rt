@@ -1,7 +1,5 @@
 //! What is seen of a node.
 use join_core::Exact;
-use mpx_encode::frame_len;
-use mpx_name::Name;
 use mpx_node::{Finished, Node, PartError};
 use mpx_value::Outcome;
 use std::alloc::Global;
@@ -11,81 +9,63 @@ use test_drafts::proc;
 
 // What is seen, on a context where it is of one.
 #[derive(Clone, Copy)]
-pub enum NodeLook {
-    // A call gave this sum, and so does a copy of its result.
-    Sum(u32, i128),
-    // A call gave this communicator, of so many members, of which the process has this rank.
-    Made(u32, On, u8, u8),
-    // So many calls are posted here.
-    Posted(u32),
+pub enum Look {
+    // The first call gave this sum.
+    Sum(i128),
     // The board has the post of a call by a process.
-    Holds(u32, u8),
-    Lacks(u32, u8),
-    // The board tells how the context came to be.
-    Born,
-    Unborn,
-    // The whole board is its one part, where the limit is its length and not one less.
+    Holds(On, u32, u8),
+    Lacks(On, u32, u8),
+    // The board doesn't tell how the context came to be.
+    Unborn(On),
+    // The whole board is its one part.
     OnePart,
     // Ten bytes are too few for the board.
     DoesNotFit,
 }
 
-fn is_sum(outcome: &Outcome, sum: i128) -> bool {
-    match outcome {
-        Outcome::Items(items) => items.nums() == [sum].as_slice(),
-        _ => false,
+// The first number that a call gave.
+pub fn sum_in(finished: &Finished) -> Option<i128> {
+    match &finished.outcome {
+        Outcome::Items(items) => items.nums().first().copied(),
+        _ => None,
     }
 }
 
-fn gave_sum(alloc: Global, finished: Option<&Finished>, sum: i128) -> bool {
-    let Some(finished) = finished else {
-        return false;
-    };
-    let Ok(copied) = finished.copy(alloc) else {
-        return false;
-    };
-    is_sum(&finished.outcome, sum)
-        && is_sum(&copied.outcome, sum)
-        && copied.mine.same(&finished.mine)
+fn has_sum(alloc: Global, node: &Node, sum: i128) -> Result<bool, Fail> {
+    let name = name_of(alloc, On::Below(0))?;
+    match node.result(&name, 0) {
+        Some(finished) => Ok(sum_in(finished) == Some(sum)),
+        None => Ok(false),
+    }
 }
 
-fn gave_comm(finished: Option<&Finished>, made: &Name, of: (u8, u8)) -> bool {
-    match finished {
-        Some(finished) => match &finished.outcome {
-            Outcome::NewComm { name, size, rank } => *name == *made && (*size, *rank) == of,
-            _ => false,
-        },
-        None => false,
-    }
+fn holds(alloc: Global, node: &Node, on: On, call: u32, by: u8) -> Result<bool, Fail> {
+    let name = name_of(alloc, on)?;
+    Ok(node.board().holds(&name, call, proc(by)).is_some())
+}
+
+fn is_born(alloc: Global, node: &Node, on: On) -> Result<bool, Fail> {
+    let name = name_of(alloc, on)?;
+    Ok(node.board().birth(&name).is_some())
 }
 
 fn is_one_part(alloc: Global, node: &Node) -> Result<bool, Fail> {
     let made = node.parts(alloc, 524_288)?;
-    let len = frame_len(node.board());
-    let part = node.part(alloc, len)?;
-    let refused = node.part(alloc, len.saturating_sub(1)).err();
-    Ok(
-        made.len() == 1
-            && made.iter().all(|one| one.same(node.board()))
-            && part.same(node.board())
-            && refused == Some(PartError::DoesNotFit),
-    )
+    Ok(made.len() == 1 && made.iter().all(|one| one.same(node.board())))
 }
 
-// Whether this is seen of the node, on the context.
-pub fn is_seen(alloc: Global, node: &Node, name: &Name, look: NodeLook) -> Result<bool, Fail> {
+fn fits(alloc: Global, node: &Node, limit: usize) -> bool {
+    !matches!(node.part(alloc, limit), Err(PartError::DoesNotFit))
+}
+
+// Whether this is seen of the node.
+pub fn is_seen(alloc: Global, node: &Node, look: Look) -> Result<bool, Fail> {
     match look {
-        NodeLook::Sum(call, sum) => Ok(gave_sum(alloc, node.result(name, call), sum)),
-        NodeLook::Made(call, on, size, rank) => {
-            let made = name_of(alloc, on)?;
-            Ok(gave_comm(node.result(name, call), &made, (size, rank)))
-        }
-        NodeLook::Posted(number) => Ok(node.posted(name) == number),
-        NodeLook::Holds(call, by) => Ok(node.board().holds(name, call, proc(by)).is_some()),
-        NodeLook::Lacks(call, by) => Ok(node.board().holds(name, call, proc(by)).is_none()),
-        NodeLook::Born => Ok(node.board().birth(name).is_some()),
-        NodeLook::Unborn => Ok(node.board().birth(name).is_none()),
-        NodeLook::OnePart => is_one_part(alloc, node),
-        NodeLook::DoesNotFit => Ok(node.part(alloc, 10).err() == Some(PartError::DoesNotFit)),
+        Look::Sum(sum) => has_sum(alloc, node, sum),
+        Look::Holds(on, call, by) => holds(alloc, node, on, call, by),
+        Look::Lacks(on, call, by) => Ok(!holds(alloc, node, on, call, by)?),
+        Look::Unborn(on) => Ok(!is_born(alloc, node, on)?),
+        Look::OnePart => is_one_part(alloc, node),
+        Look::DoesNotFit => Ok(!fits(alloc, node, 10)),
     }
 }
