@@ -7,11 +7,11 @@ const SIZES = [ // up to so many processes: height of a row, side of a square, w
 
 // Where everything stands, in a picture that is so wide.
 function layoutOf(wide) {
-  const [, row, side, arrowsWide, size] = SIZES.find(([most]) => run.processes <= most), least = wide < 1000 ? 200 : arrowsWide;
+  const [, row, side, arrowsWide, size] = SIZES.find(([most]) => run.processes <= most), least = wide < 1000 ? 180 : arrowsWide;
   const block = Math.max(run.ranks * side, 88) + 20, name = 70, waits = 200;
   const room = wide - name - least - waits - 30;
   const blocks = Math.max(1, Math.min(run.calls.length, 12, Math.floor(room / block)));
-  const arrows = Math.max(least, Math.min(480, least + room - blocks * block));
+  const arrows = wide < 720 ? least : Math.max(least, Math.min(480, least + room - blocks * block));
   const from = name + 8, to = from + arrows, boards = to + 16;
   const left = boards + blocks * block;
   return { row, side, size, block, blocks, from, to, boards, left, top: 62, wide: left + waits, high: 62 + row * run.processes + 8, waits };
@@ -77,9 +77,10 @@ function frameMarks(layout, turn, chosen) {
 // Squares of one kind in one path: of each rank in the list. Whole ones may have a hole; outlines have room for their line.
 function squares(layout, x, y, ranks, kind, hole = 0, inset = 0) {
   if (!ranks.length) return "";
-  const side = layout.side - (layout.side > 10 ? 3 : 1.5);
-  const box = (left, size) => `M${(left - size / 2).toFixed(2)} ${(y - size / 2).toFixed(2)}h${size}v${size}h${-size}z`;
-  const path = ranks.map((rank) => box(x + rank * layout.side + side / 2, side - 2 * inset) + (hole ? box(x + rank * layout.side + side / 2, side * hole) : ""));
+  const side = layout.side - (layout.side > 10 ? 3 : 1.5), middle = x + side / 2;
+  const box = (size) => [-size / 2, ` ${y - size / 2}h${size}v${size}h${-size}z`];
+  const [left, whole] = box(side - 2 * inset), [within, inner] = box(Math.round(side * hole * 4) / 4);
+  const path = ranks.map((rank) => "M" + (middle + rank * layout.side + left) + whole + (hole ? "M" + (middle + rank * layout.side + within) + inner : ""));
   return `<path d="${path.join("")}" class="${kind}"/>`;
 }
 

@@ -5,7 +5,7 @@ const at = (name) => document.getElementById(name);
 const shown = { turn: 0, process: -1, call: -1, timer: 0 };
 
 function layoutNow() {
-  return layoutOf(Math.max(720, at("picture").clientWidth));
+  return layoutOf(Math.max(600, at("picture").clientWidth));
 }
 
 // Shows the turn everywhere. What stands in a closed part is made when that is opened.
@@ -101,7 +101,7 @@ function fill() {
   numbers(run.processes).forEach((process) => at("process").append(make("option", { value: String(process) }, nameOf(process))));
   if (run.said.length) at("said").append(make("h3", {}, "What the program says at the end"), make("pre", { class: "scrolls", tabindex: "0" }, run.said.join("\n")));
   at("script").hidden = !run.script;
-  at("script").lastElementChild.append(...run.script.split("\n").map((line) => make("li", {}, make("code", {}, line))));
+  at("script").lastElementChild.append(...run.script.trimEnd().split("\n").map((line) => make("li", {}, make("code", {}, line))));
   at("theme").setAttribute("aria-pressed", String(matchMedia("(prefers-color-scheme: dark)").matches));
 }
 

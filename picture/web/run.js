@@ -8,6 +8,7 @@ const held = numbers(run.processes).map(() => new Map()); // of each process by 
 const gone = numbers(run.processes).map(() => new Map()); // of each process by call: the turn in which it was dropped
 const newest = [0]; // by turn: the call that was heard of last
 const lines = [numbers(run.ranks).map(() => 0)]; // by turn: how many lines each rank has
+let waitsAt = {}; // who waits, as it was asked last
 const printed = numbers(run.ranks).map(() => []); // of each rank: [turn, line]
 
 function numbers(count) {
@@ -18,12 +19,10 @@ function bit(rank) {
   return 1n << BigInt(rank);
 }
 
-function has(ranks, rank) {
-  return (ranks >> BigInt(rank)) & 1n;
-}
-
+// The ranks of a set, in their order. Two numbers of 32 bits are quicker than one of 64.
 function listed(ranks) {
-  return everyone.filter((rank) => has(ranks, rank));
+  const low = Number(ranks & 0xffffffffn), high = Number(ranks >> 32n);
+  return everyone.filter((rank) => (rank < 32 ? low >>> rank : high >>> (rank - 32)) & 1);
 }
 
 function allOf(call) {
@@ -98,6 +97,7 @@ function lacksOf(rank, call, turn) {
 
 // Every rank that lacks posts after a turn: [rank, call, the ranks whose posts another process has, the ranks of which no post is seen].
 function waitsAfter(turn) {
+  if (waitsAt.turn === turn) return waitsAt.waits;
   const waits = [];
   for (const rank of everyone) {
     for (let call = 0; call <= newest[turn] && call < run.calls.length; call++) {
@@ -107,6 +107,7 @@ function waitsAfter(turn) {
       if (lacks.length) waits.push([rank, call, made, lacks.filter((other) => !made.includes(other))]);
     }
   }
+  waitsAt = { turn, waits };
   return waits;
 }
 

@@ -56,7 +56,7 @@ function waitsTable(turn) {
 
 // A cell of the chosen process's board: one post.
 function postCell(board, all, rank) {
-  const kind = !has(all, rank) ? "out" : board.dropped ? "over" : has(board.fresh, rank) ? "fresh" : has(board.ranks, rank) ? "has" : "none";
+  const one = bit(rank), kind = !(all & one) ? "out" : board.dropped ? "over" : board.fresh & one ? "fresh" : board.ranks & one ? "has" : "none";
   const words = { out: "no member", over: "dropped", fresh: "new", has: "has", none: "lacks" }[kind];
   return make("td", { class: "post " + kind, title: words }, make("span", { class: "unseen" }, words));
 }
@@ -74,8 +74,9 @@ function boardTable(process, turn) {
   const over = [...gone[process].values()].filter((when) => when <= turn).length;
   const caption = `The board of ${nameOf(process)} after ${theTurn(turn)}` + (over ? `; ${counted(over, "call is", "calls are")} dropped by then` : "");
   if (!rows.length) return make("p", {}, caption + ": it isn't known to have any post.");
-  const head = headRow("Call", ...everyone.map((rank) => make("span", {}, make("span", { class: "unseen" }, "rank "), String(rank))), "In words");
-  return make("div", { class: "scrolls", tabindex: "0", role: "region", "aria-label": caption }, table(caption, head, rows));
+  const isSeen = (rank) => run.ranks <= 16 || rank % 8 === 0;
+  const head = headRow("Call", ...everyone.map((rank) => make("span", {}, make("span", { class: "unseen" }, "rank "), make("span", isSeen(rank) ? {} : { class: "unseen" }, String(rank)))), "In words");
+  return make("div", { class: run.ranks <= 16 ? "scrolls" : "scrolls many", tabindex: "0", role: "region", "aria-label": caption }, table(caption, head, rows));
 }
 
 // A rank's lines so far; those of this turn are marked. Of many the last ones.
