@@ -174,7 +174,7 @@ class Choice:
         if wrong: self.tell_own(key, 'is the program\'s error: its operation isn\'t ' + what, more or [(row[min(row)], [])], wrong)
         elif fold.found: self.tell_results(key, 'differs from a fold by the program\'s own operation', fold.with_last(row))
         elif ranks: self.tell_own(key, 'has other results at other ranks, by an operation of the program\'s own', more, own.why_unequal(record, row))
-        if not fold.compared or set(row) != self.calls.members[key[0]]: return own.LEFT if wrong or fold.compared else '%s (%s)' % (own.LEFT, own.ASK)
+        if not fold.compared or set(row) != self.calls.members[key[0]]: return own.why_left(record, row)
         if fold.unjudged and not self.is_sum(row, part): return own.LEFT + ' on floats, whose order of adding is open'
         if fold.unjudged:
             reach = folds.Reach(self.calls, row, order, 'sum')

@@ -33,6 +33,11 @@ def unordered(record, row, order):
     return None
 
 
+def why_left(record, row):
+    if not record.has_folds: return '%s (%s)' % (LEFT, ASK)
+    return LEFT + (', of which no nonblocking call is folded' if any(part.nonblocking for part in row.values()) else ', not folded')
+
+
 def bracketed(record, row):
     """A line where contributions were seen to give another result with other brackets."""
     if not any(slip[0] == 'bracketed' for part in row.values() for slip in part.slips): return None
