@@ -176,7 +176,7 @@ static int write_in_full(Call *call, const Arguments *a, const Communicator *com
         put_text(" -> q"); put_digits(call->request);
     }
     end_line();
-    if (call->type == RAW && a->kind != BARRIER) put_types(call->id, a, communicator, parts);
+    if ((call->type == RAW || (call->type == U8 && is_own(a))) && a->kind != BARRIER) put_types(call->id, a, communicator, parts);
     note_own_amounts(call->id, a, parts);
     note_overlaps(call->id, a, parts);
     note_use(call->id, parts);

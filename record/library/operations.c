@@ -148,14 +148,16 @@ static int is_same_number(const void *one, const void *other, Type as)
     return here == there || (isnan(here) && isnan(there));
 }
 
-/* Whether its basic types have floats, or may have. */
+/* Whether its basic types have floats, or may have: bytes alone may be a structure with its gaps. */
 static int has_floats(const Items *items)
 {
+    int is_plain = 1;
     for (const char *at = items->facts->signature; *at; at += strcspn(at, "+") + (at[strcspn(at, "+")] == '+')) {
         const char *word = at + strspn(at, "0123456789.");
         if (*word == 'f' || *word == '?' || *word == 'p' || (*word == 'c' && word[1] >= '0' && word[1] <= '9')) return 1;
+        if (strncmp(word, "byte", 4) && strncmp(word, "char", 4)) is_plain = 0;
     }
-    return 0;
+    return is_plain;
 }
 
 /* Of reals zeros of both signs are one, and so are all NaNs; of other items with floats nothing is said. */

@@ -170,12 +170,15 @@ class Choice:
         unordered, bracketed, fold, ranks = own.unordered(record, row, order), own.bracketed(record, row), own.Fold(self.calls, row), None
         wrong, what = unordered or bracketed, 'commutative' if unordered else 'associative'
         if part.kind == 'allreduce': ranks = folds.unequal_results(self.calls, row)
+        if ranks and own.is_opaque(part):
+            self.slips.group(part, 'its results differ between ranks, in bytes that may be gaps of a structure')
+            ranks = None
         more = [given_at(self.calls, row[rank]) for rank in ranks or ()]
         if wrong: self.tell_own(key, 'is the program\'s error: its operation isn\'t ' + what, more or [(row[min(row)], [])], wrong)
         elif fold.found: self.tell_results(key, 'differs from a fold by the program\'s own operation', fold.with_last(row))
         elif ranks: self.tell_own(key, 'has other results at other ranks, by an operation of the program\'s own', more, own.why_unequal(record, row))
-        if not fold.compared or set(row) != self.calls.members[key[0]]: return own.LEFT if wrong or fold.compared else '%s (%s)' % (own.LEFT, own.ASK)
-        if fold.unjudged and not self.is_sum(row, part): return own.LEFT + ' on floats, whose order of adding is open'
+        if not fold.compared or set(row) != self.calls.members[key[0]]: return own.why_left(record, row)
+        if fold.unjudged and not self.is_sum(row, part): return own.LEFT + (' on bytes that may be a structure' if own.is_opaque(part) else ' on floats, whose order of adding is open')
         if fold.unjudged:
             reach = folds.Reach(self.calls, row, order, 'sum')
             if reach.found: self.tell_results(key, 'is out of the reach of any order of its operands (the tool\'s own arithmetic, not proved)', reach.found)

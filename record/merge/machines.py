@@ -2,10 +2,12 @@
 import json
 from xml.sax.saxutils import escape, quoteattr
 
+from .outcome import is_own
+
 
 def as_json(outcome, told, status):
     """`told` has the title and the lines of each call that differs."""
-    differences = [dict(title=title, lines=[line.strip() for line in lines]) for title, lines in told]
+    differences = [dict(title=title, own_error=is_own(title), lines=[line.strip() for line in lines]) for title, lines in told]
     return json.dumps(dict(
         status=status, mpi=outcome.record.mpi, ranks=outcome.record.size, calls=outcome.calls, checked=outcome.checked,
         held_to_bounds=outcome.held, results=outcome.comparison.compared, differences=differences,

@@ -9,8 +9,8 @@ SHOWN_NOTES, SHOWN_BOUNDS = 20, 6
 
 def is_own(title):
     """Whether a title blames the program."""
-    return 'the program\'s error' in title or 'the program\'s buffers' in title or title.startswith(('doesn\'t fit', 'is left out, but')) or any(
-        words in title for words in ('types that don\'t match', 'a buffer was in use'))
+    return any(words in title for words in ('the program\'s error', 'caller\'s error', 'the program\'s buffers', 'doesn\'t fit together', 'is left out, but',
+                                            'types that don\'t match', 'a buffer was in use'))
 
 
 def counted(number, what):

@@ -18,9 +18,15 @@ def commutes(row): return any(part.own and part.own.words[1] == 'commutes' for p
 
 def has_floats(part):
     """Whether its items have, or may have, floats within."""
-    if part.type != 'bytes': return part.type not in WHOLE
-    return any(name not in WHOLE + ('byte', 'char', 'bool', 'logical', 'wchar') for block in types.blocks_of(part.sent) or [(1, '?')]
-               for _, name in types.runs_of((1, block[1])))
+    if part.sent is None: return part.type not in WHOLE
+    names = {name for block in types.blocks_of(part.sent) or [(1, '?')] for _, name in types.runs_of((1, block[1]))}
+    return is_opaque(part) or not names <= {*WHOLE, 'byte', 'char', 'bool', 'logical', 'wchar'}
+
+
+def is_opaque(part):
+    """Whether it gives bytes alone, which may be a structure with its gaps."""
+    names = {name for block in types.blocks_of(part.sent) or [] for _, name in types.runs_of((1, block[1]))}
+    return bool(names) and names <= {'byte', 'char'}
 
 
 def unordered(record, row, order):
@@ -31,6 +37,11 @@ def unordered(record, row, order):
             return '    (%s is declared commutative, and isn\'t: what ranks %d and %d give has another result in the other order)' % (
                 named(record, row), order[slip[1]], order[slip[2]])
     return None
+
+
+def why_left(record, row):
+    if not record.has_folds: return '%s (%s)' % (LEFT, ASK)
+    return LEFT + (', of which no nonblocking call is folded' if any(part.nonblocking for part in row.values()) else ', not folded')
 
 
 def bracketed(record, row):
