@@ -20,7 +20,7 @@ def make(kit, uses, files, out):
     unproved.has_room(room.folder)
     tree = unproved.laid_out(room.folder / "tree", "starved", uses, {file.stem: file for file in files})
     module = module_text.Module(unproved.read(room, kit, tree, "starved"))
-    unproved.build(room, kit, out, module.write(room.folder, len(os.sched_getaffinity(0))), "-O1")
+    unproved.build(room, kit, out, module.write(room.folder, len(os.sched_getaffinity(0))), "-O0")
     room.say(f"built, in {unproved.processor_seconds():.0f} seconds of one processor")
     room.close()
 
