@@ -100,10 +100,13 @@ fn prunes_in_vain(
 
 // Whether this is the number of process 0 on the context.
 fn has_number(numbers: &Acks, name: &Name, told: Option<u32>) -> bool {
-    let Some(numbers) = numbers.get(name) else {
-        return told.is_none();
-    };
-    numbers.get(&proc(0)).map(|number| number.0) == told
+    match numbers.get(name) {
+        None => told.is_none(),
+        Some(numbers) => match numbers.get(&proc(0)) {
+            None => told.is_none(),
+            Some(number) => told == Some(number.0),
+        },
+    }
 }
 
 // Does the step, and answers whether it comes out so.
@@ -154,7 +157,7 @@ fn is_seen(alloc: Global, board: &Board, name: &Name, step: BoardStep) -> Result
 }
 
 // All steps come out so.
-pub fn go_on(
+fn go_on(
     rt: &impl Abort,
     alloc: Global,
     board: &mut Board,
@@ -313,7 +316,7 @@ const BOARDS: [(&str, &[BoardStep]); 7] = [
 
 #[test]
 fn boards_go_so(rt: HostRuntime) -> Result<(), Fail> {
-    for (shown, steps) in BOARDS {
+    for &(shown, steps) in BOARDS.iter() {
         board_of(&rt, rt.alloc(), shown, steps)?;
     }
     Ok(())

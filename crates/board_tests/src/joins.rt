@@ -171,7 +171,7 @@ const WITH_THE_CHILD: &[BoardStep] = &[
 
 #[test]
 fn boards_as_whole_values(rt: HostRuntime) -> Result<(), Fail> {
-    for (shown, steps) in JOINS {
+    for &(shown, steps) in JOINS.iter() {
         let boards = boards_of(&rt, rt.alloc(), shown, &steps)?;
         let [a, b, wanted] = boards.as_slice() else {
             return Err(Fail::from("three boards"));

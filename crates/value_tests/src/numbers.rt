@@ -30,10 +30,10 @@ const LONG: [(u8, u8, Option<i128>); 3] = [
 
 #[test]
 fn reads_numbers(rt: HostRuntime) -> Result<(), Fail> {
-    for text in NO_NUMBERS {
+    for &text in NO_NUMBERS.iter() {
         assert!(rt; parse_number(text).is_none());
     }
-    for (digit, last, number) in LONG {
+    for &(digit, last, number) in LONG.iter() {
         let mut text = vec![in rt.alloc(); digit; 1000000]?;
         text.push(last)?;
         assert!(rt; parse_number(&text) == number);
@@ -81,10 +81,11 @@ fn refusal(
 
 #[test]
 fn at_most_4096_items_of_the_range(rt: HostRuntime) -> Result<(), Fail> {
-    for (ty, number, times, wanted) in ITEMS {
+    for (i, row) in ITEMS.iter().enumerate() {
+        let (ty, number, times, wanted) = *row;
         assert!(rt;
             refusal(rt.alloc(), ty, number, times)? == wanted,
-            "{ty:?} {number} {times}"
+            "row {i}"
         );
     }
     let told = format!(in rt.alloc(); "{}", ItemsLength)?;

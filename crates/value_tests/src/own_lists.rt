@@ -37,7 +37,7 @@ const LISTS: [(&[&'static str], Option<OpsError>); 6] = [
 
 #[test]
 fn lists_are_refused(rt: HostRuntime) -> Result<(), Fail> {
-    for (words, wanted) in LISTS {
+    for &(words, wanted) in LISTS.iter() {
         assert!(rt; named(rt.alloc(), words)?.err() == wanted);
     }
     Ok(())
