@@ -49,7 +49,7 @@ function readTurns() {
   run.turns.forEach((turn, place) => {
     const number = place + 1;
     newest[number] = newest[place];
-    lines[number] = lines[place].slice();
+    lines[number] = turn.results.length ? lines[place].slice() : lines[place];
     for (const taken of turn.taken) {
       const [, process, , text] = taken;
       const { brought, dropped } = changesOf(text);
