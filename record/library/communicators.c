@@ -54,6 +54,9 @@ void forget_freed(MPI_Comm handle)
     for (int i = 0; i < FREED && i < number_freed; i++) if (freed[i].handle == handle) freed[i].name[0] = 0;
 }
 
+/* Where one is made that has no name here, and whose handle isn't known yet. */
+void forget_all_freed(void) { number_freed = 0; }
+
 static const char *name_of_freed(MPI_Comm handle)
 {
     for (int i = 0; i < FREED && i < number_freed; i++) if (freed[i].handle == handle && freed[i].name[0]) return freed[i].name;

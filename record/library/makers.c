@@ -52,6 +52,7 @@ static Communicator *end_making(const Making *making, int error, MPI_Comm given,
     if (!making->id) return 0;
     lock_record();
     int is_new = reorder && making->parent && !error && is_reordered(making, given);
+    if (!error) forget_freed(given);
     begin_plain("gave", making->id);
     if (!making->parent) put_word("-");
     else if (error) put_error(error);
@@ -115,6 +116,7 @@ MAKE(Comm_create_group, "create_group", (MPI_Comm comm, MPI_Group group, int tag
 static Making begin_idup(MPI_Comm parent, void *site)
 {
     Making making = begin_statement(parent, "idup", site);
+    if (making.id && !making.parent) forget_all_freed();
     end_statement(&making);
     return making;
 }

@@ -112,6 +112,7 @@ Communicator *find_communicator(MPI_Comm handle);
 const char *why_unknown(MPI_Comm handle);
 void drop_communicator(MPI_Comm handle);
 void forget_freed(MPI_Comm handle);
+void forget_all_freed(void);
 
 /* ---- buffers.c: what lies in buffers ---- */
 typedef struct { const void *values; size_t width; } Numbers;   /* `int`, or wider ones of the large-count forms */

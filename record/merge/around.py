@@ -3,7 +3,7 @@ import collections
 
 from .slips import ranks_of
 
-BEFORE, BEHIND, COMPARED = 1, 3, 3
+BEFORE, BEHIND, COMPARED, SHOWN = 1, 3, 3, 8
 
 
 def spelled(record, part): return '%s %s' % (part.name_of_kind(), record.place_of(part))
@@ -22,7 +22,8 @@ def lines(record, calls, key):
         groups.setdefault(tuple(spelled(record, part) for part in parts), []).append(rank)
     if len(groups) < 2: return []
     found = ['  from call %d on:' % first]
-    for words, ranks in groups.items(): found.append('    %s: %s' % (ranks_of(ranks), ', '.join(words) or 'no more calls'))
+    for words, ranks in list(groups.items())[:SHOWN]: found.append('    %s: %s' % (ranks_of(ranks), ', '.join(words) or 'no more calls'))
+    if len(groups) > SHOWN: found.append('    .. and others')
     left = left_out(record, calls, key)
     return found + (['    (%s)' % left] if left else [])
 
