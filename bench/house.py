@@ -82,8 +82,10 @@ def first_line(crate):
 
 
 def table(found):
+    """The rooms with their crates, and the steps back."""
     rows = [f"| {at} {name}: {what} | {' '.join(f'[{crate}](../crates/{crate}/README.md)' for crate in crates)} |" for at, (name, what, crates) in enumerate(found, 1)]
-    return "\n".join(["| Room | Crates |", "|---|---|", *rows]) + "\n"
+    steps = [f"| {at} | `{start}` | `{goal}`, `{name}` |" for at, (start, goal, name) in enumerate(BACK, 1)]
+    return "\n".join(["| Room | Crates |", "|---|---|", *rows, "", "| Step back | From | Into, by |", "|---|---|---|", *steps]) + "\n"
 
 
 WIDE, TALL, LEFT, LETTER = 1180, 60, 190, 7.4
