@@ -10,7 +10,7 @@ It checks that each crate stands in a room, and on crates above it in crates.txt
 that the picture and the table are what it would write. Where a crate comes or goes, --write is enough.
 
 Of the way, which crates are entered is what --seen says (29 November 2026, 50ce7a5e): the program of bench/look keeps each function apart. Of join_core a
-run without a frame enters only what drops its values. The steps back were read in the sources."""
+run without a frame enters only what drops its values. That each step back is a call is seen too; that there are no others was read in the sources."""
 import html
 import pathlib
 import re
@@ -27,7 +27,7 @@ BEGIN, END = "<!-- bench/house.py writes this table -->\n", "<!-- until here -->
 ENTERED = """gossipmpi mpx_shell mpx_words mpx_affine mpx_num mpx_program mpx_run mpx_script mpx_statement mpx_kind mpx_post mpx_sim mpx_comm mpx_node
 mpx_board mpx_birth mpx_name mpx_group mpx_format join_nest join_core mpx_rank mpx_value mpx_match mpx_fold mpx_meaning""".split()
 FRAMED = "mpx_delta mpx_digest mpx_encode mpx_rope mpx_wire mpx_decode".split()
-# Where control comes back into a crate that it had left: from, to, and the function that is called.
+# Where control comes back into a crate that it had left: from, to, and the function that is called; of `print` the run returns to it.
 BACK = [
     ("mpx_program", "mpx_words", "call_of"),
     ("mpx_rank", "mpx_sim", "post"),
@@ -82,8 +82,10 @@ def first_line(crate):
 
 
 def table(found):
+    """The rooms with their crates, and the steps back."""
     rows = [f"| {at} {name}: {what} | {' '.join(f'[{crate}](../crates/{crate}/README.md)' for crate in crates)} |" for at, (name, what, crates) in enumerate(found, 1)]
-    return "\n".join(["| Room | Crates |", "|---|---|", *rows]) + "\n"
+    steps = [f"| {at} | `{start}` | `{goal}`, `{name}`{', to which the run returns' if name == 'print' else ''} |" for at, (start, goal, name) in enumerate(BACK, 1)]
+    return "\n".join(["| Room | Crates |", "|---|---|", *rows, "", "| Step back | From | Into, by |", "|---|---|---|", *steps]) + "\n"
 
 
 WIDE, TALL, LEFT, LETTER = 1180, 60, 190, 7.4
@@ -151,13 +153,21 @@ def picture(found):
 
 
 def seen(program, ranks):
-    """The crates whose functions a run of one allreduce enters."""
+    """The crates whose functions a run of one allreduce enters, and which function calls which."""
     script = f"ranks {ranks}\n*: allreduce world sum i64 1\n"
     with tempfile.TemporaryDirectory() as room:
         words = ["valgrind", "--tool=callgrind", f"--callgrind-out-file={room}/out", str(program), "run", "--workers", "1"]
         subprocess.run(words, input=script, stdout=subprocess.DEVNULL, stderr=subprocess.DEVNULL, universal_newlines=True, check=True)
-        names = re.findall(r"^c?fn=\(\d+\) (\w+)::(.*)$", (pathlib.Path(room) / "out").read_text(), re.M)
-    return {crate for crate, _ in names} | {inner for _, rest in names for inner in re.findall(r"^(\w+)\+\+\w+\+\+.*Destruct", rest)}
+        text = (pathlib.Path(room) / "out").read_text()
+    names, calls, caller = {}, set(), ""
+    for kind, number, name in re.findall(r"^(c?fn)=\((\d+)\)(?: (.*))?$", text, re.M):
+        names[number] = name or names[number]
+        if kind == "fn":
+            caller = names[number]
+        else:
+            calls.add((caller, names[number]))
+    entered = {crate for name in names.values() for crate in re.findall(r"^(\w+)::", name) + re.findall(r"^\w+::(\w+)\+\+\w+\+\+.*Destruct", name)}
+    return entered, calls
 
 
 def differs():
@@ -168,9 +178,13 @@ def differs():
         return
     crates = {crate for _, _, ours in rooms((ROOT / "crates.txt").read_text())[0] for crate in ours}
     for ranks, told in ((1, {*ENTERED}), (3, {*ENTERED, *FRAMED})):
-        entered = seen(program, ranks) & crates
+        entered, calls = seen(program, ranks)
+        entered &= crates
         yield from (f"{crate} is entered by {ranks} ranks, and isn't told" for crate in sorted(entered - told))
         yield from (f"{crate} is told, and isn't entered by {ranks} ranks" for crate in sorted(told - entered))
+    for start, goal, name in BACK:
+        if name != "print" and not any(above.startswith(f"{start}::") and re.match(rf"{goal}::.*\b{name}\b", below) for above, below in calls):
+            yield f"{start} doesn't call {name} of {goal}"
 
 
 def main(words):
