@@ -8,7 +8,9 @@ import tempfile
 import time
 
 NAMES = ["chromium", "chromium-browser", "google-chrome", "google-chrome-stable"]
-CODES = {"ArrowLeft": 37, "ArrowUp": 38, "ArrowRight": 39, "ArrowDown": 40, "Home": 36, "End": 35, "PageUp": 33, "PageDown": 34, "Tab": 9, " ": 32, "Escape": 27, "Enter": 13}
+CODES = {"Tab": 9, "Enter": 13, "Escape": 27, " ": 32, "PageUp": 33, "PageDown": 34, "End": 35, "Home": 36}
+CODES.update({"ArrowLeft": 37, "ArrowUp": 38, "ArrowRight": 39, "ArrowDown": 40})
+OPTIONS = ["--headless=new", "--no-sandbox", "--disable-gpu", "--no-first-run", "--hide-scrollbars", "--remote-debugging-pipe"]
 
 
 class NoBrowser(Exception):
@@ -32,7 +34,7 @@ class Browser:
         self.folder = tempfile.TemporaryDirectory()
         read, self.out = os.pipe()
         self.into, write = os.pipe()
-        words = [found(), "--headless=new", "--no-sandbox", "--disable-gpu", "--no-first-run", "--hide-scrollbars", "--remote-debugging-pipe", "--user-data-dir=" + self.folder.name, "about:blank"]
+        words = [found(), *OPTIONS, "--user-data-dir=" + self.folder.name, "about:blank"]
         shell = 'exec "$0" "$@" 3<&%d 4>&%d' % (read, write)
         self.process = subprocess.Popen(["sh", "-c", shell, *words], pass_fds=(read, write), stdout=subprocess.DEVNULL, stderr=subprocess.DEVNULL)
         os.close(read)

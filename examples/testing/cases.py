@@ -5,7 +5,8 @@
     examples/testing/cases.py --json report.json --seconds 60 my.job
 
 What stands behind the script are options of `gossipmpi run`. A rank is a case, and fails where it waits, or where one of its lines is `refused` or a
-`fault`. The run is a case, too. The status is that of the program, by --strict, and 124 where the time is up. GOSSIPMPI names the program."""
+`fault`. The run is a case, too. The status is that of the program, by --strict, 124 where the time is up, and 127
+where the script or the program isn't found. GOSSIPMPI names the program."""
 import argparse, json, os, re, subprocess, sys
 from xml.sax.saxutils import escape, quoteattr
 
@@ -53,7 +54,10 @@ def main():
     parser.add_argument('script')
     parser.add_argument('options', nargs=argparse.REMAINDER, help='of gossipmpi run')
     words = parser.parse_args()
-    run = told(words.script, words.options, words.seconds)
+    try: run = told(words.script, words.options, words.seconds)
+    except OSError as why:
+        print('cases.py: %s' % why, file=sys.stderr)
+        return 127
     for path, text in ((words.junit, as_junit), (words.json, lambda run: json.dumps(run, indent=1) + '\n')):
         if path:
             with open(path, 'w', encoding='utf-8') as file: file.write(text(run))

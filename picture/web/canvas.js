@@ -36,6 +36,10 @@ function label(x, y, text, kind = "") {
   return `<text x="${x}" y="${y}" class="${kind}">${escaped(text)}</text>`;
 }
 
+function drawing(wide, high, marks) {
+  return `<svg xmlns="http://www.w3.org/2000/svg" width="${wide}" height="${high}" viewBox="0 0 ${wide} ${high}" aria-hidden="true">${marks}</svg>`;
+}
+
 function stroke(x1, y1, x2, y2, kind) {
   return `<line x1="${x1.toFixed(1)}" y1="${y1.toFixed(1)}" x2="${x2.toFixed(1)}" y2="${y2.toFixed(1)}" class="${kind}"/>`;
 }
@@ -50,26 +54,31 @@ function arrow(layout, sender, to, kind, late) {
   const tail = `${(layout.to - head * dx).toFixed(1)} ${(y2 - head * dy).toFixed(1)}`, begin = `M${x.toFixed(1)} ${y.toFixed(1)}`;
   const line = late ? `${begin}Q${turnX.toFixed(1)} ${turnY.toFixed(1)} ${tail}` : `${begin}L${tail}`;
   const ring = late ? `<circle cx="${x.toFixed(1)}" cy="${y.toFixed(1)}" r="3.5" class="${kind} ring"/>` : "";
-  return `<path d="${line}" class="line ${kind}${late ? " late" : ""}"/>${ring}<polygon points="${layout.to},${y2} ${tip(1)} ${tip(-1)}" class="${kind} head"/>`;
+  const point = `<polygon points="${layout.to},${y2} ${tip(1)} ${tip(-1)}" class="${kind} head"/>`;
+  return `<path d="${line}" class="line ${kind}${late ? " late" : ""}"/>${ring}${point}`;
 }
 
 // An arrow that ends on its way, with a cross.
 function broken(layout, sender, to) {
   const y1 = middle(layout, sender), y2 = middle(layout, to);
   const x = layout.from + 0.4 * (layout.to - layout.from), y = y1 + 0.4 * (y2 - y1), arm = layout.row > 20 ? 5 : 4;
-  return stroke(layout.from, y1, x, y, "lost") + stroke(x - arm, y - arm, x + arm, y + arm, "lost cross") + stroke(x - arm, y + arm, x + arm, y - arm, "lost cross");
+  const cross = stroke(x - arm, y - arm, x + arm, y + arm, "lost cross") + stroke(x - arm, y + arm, x + arm, y - arm, "lost cross");
+  return stroke(layout.from, y1, x, y, "lost") + cross;
 }
 
 // A turn's frames: those that bring something new above the others. Of many processes, those of the chosen one stand out.
 function frameMarks(layout, turn, chosen) {
   const marks = [], { sent, taken } = run.turns[turn - 1] || { sent: [], taken: [] };
   const dim = (sender, to) => (chosen >= 0 && sender !== chosen && to !== chosen ? " dim" : "");
-  const mark = (order, sender, to, drawn, told) => marks.push([order + (dim(sender, to) ? 0 : 10), `<g class="frame${dim(sender, to)}"><title>${told}</title>${drawn}</g>`]);
-  for (const [sender, to, bytes, lost] of sent) if (lost) mark(2, sender, to, broken(layout, sender, to), `${nameOf(sender)} to ${nameOf(to)}, ${bytes} bytes: lost`);
+  const mark = (order, sender, to, drawn, told) => {
+    const title = `<title>${escaped(`${nameOf(sender)} to ${nameOf(to)}${told}`)}</title>`;
+    marks.push([order + (dim(sender, to) ? 0 : 10), `<g class="frame${dim(sender, to)}">${title}${drawn}</g>`]);
+  };
+  for (const [sender, to, bytes, lost] of sent) if (lost) mark(2, sender, to, broken(layout, sender, to), `, ${bytes} bytes: lost`);
   for (const [sender, to, again, change] of taken) {
     const kind = change.brought.length ? "new" : "old";
-    const told = `${nameOf(sender)} to ${nameOf(to)}${again ? ", once more" : ""}: ${change.brought.length ? "brings " + bringsOf(change.brought) : "brings nothing new"}`;
-    mark(kind === "new" ? 3 : 1, sender, to, arrow(layout, sender, to, kind, again), escaped(told));
+    const told = (again ? ", once more" : "") + ": brings " + (change.brought.length ? bringsOf(change.brought) : "nothing new");
+    mark(kind === "new" ? 3 : 1, sender, to, arrow(layout, sender, to, kind, again), told);
   }
   return marks.sort(([one], [other]) => one - other).map(([, text]) => text).join("");
 }
@@ -92,7 +101,8 @@ function boardMarks(layout, process, call, place, turn) {
   const lacks = listed(all & ~board.ranks), waits = hasPosted(call, process, turn), made = (rank) => hasPosted(call, rank, turn);
   const parts = [squares(layout, x, y, listed(board.ranks & ~board.fresh), "has"), squares(layout, x, y, listed(board.fresh), "fresh", 0.34)];
   if (!waits) parts.push(squares(layout, x, y, lacks, "none", 0, 0.5));
-  else parts.push(squares(layout, x, y, lacks.filter(made), "lacks", 0, 0.75), squares(layout, x, y, lacks.filter((rank) => !made(rank)), "missing", 0.3, 0.75));
+  if (waits) parts.push(squares(layout, x, y, lacks.filter(made), "lacks", 0, 0.75));
+  if (waits) parts.push(squares(layout, x, y, lacks.filter((rank) => !made(rank)), "missing", 0.3, 0.75));
   return `<g>${title}${parts.join("")}</g>`;
 }
 
@@ -101,19 +111,23 @@ function blockHead(layout, call, place) {
   const x = layout.boards + place * layout.block, name = run.calls[call], blank = name.lastIndexOf(" "), most = Math.floor((layout.block - 14) / 7);
   const communicator = name.slice(0, blank), short = communicator.length <= most ? communicator : "…" + communicator.slice(1 - most);
   const every = run.ranks <= 8 ? 1 : run.ranks <= 32 ? 4 : 8;
-  const ranks = everyone.filter((rank) => rank % every === 0).map((rank) => label(x + (rank + 0.42) * layout.side, layout.top - 6, String(rank), "small middle"));
+  const number = (rank) => label(x + (rank + 0.42) * layout.side, layout.top - 6, String(rank), "small middle");
+  const ranks = everyone.filter((rank) => rank % every === 0).map(number);
   return label(x, 16, short, "strong") + label(x, 33, "call " + name.slice(blank + 1), "") + ranks.join("");
 }
 
 // Behind a row: what the rank prints in this turn, and whose posts it lacks.
 function rowEnd(layout, process, turn, waits) {
   const lines = run.turns[turn - 1] ? run.turns[turn - 1].results.filter(([rank]) => rank === process).map(([, line]) => line) : [];
-  const lacking = [...new Set(waits.filter(([rank]) => rank === process).flatMap(([, , made, unmade]) => [...made, ...unmade]))].sort((one, other) => one - other);
+  const mine = waits.filter(([rank]) => rank === process);
+  const lacking = everyone.filter((other) => mine.some(([, , made, unmade]) => made.includes(other) || unmade.includes(other)));
   const both = lines.length && lacking.length && layout.row > 30, y = middle(layout, process), x = layout.left, parts = [];
-  const most = Math.floor(layout.waits / 8), few = spoken(lacking), wait = (turn === last && run.waits.length ? "waits for " : "lacks ") + (few.length > most - 10 ? lacking.length + " ranks" : few);
+  const most = Math.floor(layout.waits / 8), few = spoken(lacking);
+  const wait = (isSaid(turn) ? "waits for " : "lacks ") + (few.length > most - 10 ? lacking.length + " ranks" : few);
   if (lines.length) {
     const text = shortened(lines.join("; "), most - 2), here = both ? y - 10 : y, high = Math.min(layout.size * 1.35, layout.row - 2);
-    parts.push(`<rect x="${x - 5}" y="${here - high / 2}" width="${text.length * layout.size * 0.61 + 10}" height="${high}" rx="3" class="result"/>` + label(x, here + layout.size * 0.35, text, "value"));
+    const box = `width="${text.length * layout.size * 0.61 + 10}" height="${high}" rx="3" class="result"`;
+    parts.push(`<rect x="${x - 5}" y="${here - high / 2}" ${box}/>` + label(x, here + layout.size * 0.35, text, "value"));
   }
   if (lacking.length && (!lines.length || both)) parts.push(label(x, (both ? y + 12 : y) + layout.size * 0.35, wait, "wait"));
   return parts.join("");
@@ -130,13 +144,14 @@ function rowStart(layout, process, chosen) {
 // The whole picture after a turn, as SVG.
 function pictureOf(layout, turn, process, call) {
   const calls = shownCalls(layout, turn, call), waits = waitsNow(turn), processes = numbers(run.processes);
-  const head = label(layout.from - 4, 33, "frames of " + theTurn(turn), "strong") + label(layout.from - 4, layout.top - 6, "from", "small") + label(layout.to - 10, layout.top - 6, "to", "small") +
-    label(layout.left, 33, turn === last && run.waits.length ? "prints, waits" : "prints, lacks", "strong") + calls.map((shown, place) => blockHead(layout, shown, place)).join("");
+  const head = label(layout.from - 4, 33, "frames of " + theTurn(turn), "strong") + label(layout.from - 4, layout.top - 6, "from", "small") +
+    label(layout.to - 10, layout.top - 6, "to", "small") + label(layout.left, 33, isSaid(turn) ? "prints, waits" : "prints, lacks", "strong") +
+    calls.map((shown, place) => blockHead(layout, shown, place)).join("");
   const rows = processes.map((it) => rowStart(layout, it, process)).join("");
   const boards = processes.map((it) => calls.map((shown, place) => boardMarks(layout, it, shown, place, turn)).join("")).join("");
   const ends = processes.map((it) => rowEnd(layout, it, turn, waits)).join("");
-  return `<svg xmlns="http://www.w3.org/2000/svg" width="${layout.wide}" height="${layout.high}" viewBox="0 0 ${layout.wide} ${layout.high}" style="font-size: ${layout.size}px" aria-hidden="true">` +
-    head + rows + frameMarks(layout, turn, process) + boards + ends + "</svg>";
+  const marks = head + rows + frameMarks(layout, turn, process) + boards + ends;
+  return drawing(layout.wide, layout.high, `<g style="font-size: ${layout.size}px">${marks}</g>`);
 }
 
 // Who waits for whom as a ring of ranks: an arrow to each rank whose post is lacking; dashed where another process has that post.
@@ -155,8 +170,9 @@ function ringOf(waits) {
     const [x1, y1] = at(rank), [x2, y2] = at(other), long = Math.hypot(x2 - x1, y2 - y1), dx = (x2 - x1) / long, dy = (y2 - y1) / long;
     const bow = [(x1 + x2) / 2 - dy * 14, (y1 + y2) / 2 + dx * 14], end = [x2 - dx * 18 - dy * 3, y2 - dy * 18 + dx * 3];
     const head = `${end[0]},${end[1]} ${end[0] - 9 * dx - 5 * dy},${end[1] - 9 * dy + 5 * dx} ${end[0] - 9 * dx + 4 * dy},${end[1] - 9 * dy - 4 * dx}`;
-    return `<path d="M${x1 + dx * 16} ${y1 + dy * 16}Q${bow[0]} ${bow[1]} ${end[0] - 6 * dx} ${end[1] - 6 * dy}" class="${kind}"/><polygon points="${head}" class="wayhead"/>`;
+    const line = `M${x1 + dx * 16} ${y1 + dy * 16}Q${bow[0]} ${bow[1]} ${end[0] - 6 * dx} ${end[1] - 6 * dy}`;
+    return `<path d="${line}" class="${kind}"/><polygon points="${head}" class="wayhead"/>`;
   });
-  const ranks = everyone.map((rank) => `<circle cx="${at(rank)[0]}" cy="${at(rank)[1]}" r="14" class="knot"/>` + `<text x="${at(rank)[0]}" y="${at(rank)[1] + 5}" text-anchor="middle">${rank}</text>`);
-  return `<svg xmlns="http://www.w3.org/2000/svg" width="${size}" height="${high}" viewBox="0 0 ${size} ${high}" aria-hidden="true">${arrows.join("")}${ranks.join("")}</svg>`;
+  const knot = (rank, [x, y]) => `<circle cx="${x}" cy="${y}" r="14" class="knot"/>` + label(x, y + 5, String(rank), "middle");
+  return drawing(size, high, arrows.join("") + everyone.map((rank) => knot(rank, at(rank))).join(""));
 }

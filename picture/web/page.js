@@ -23,15 +23,17 @@ function show() {
   showProcess();
   showOpen(layout);
   at("said").hidden = turn < last;
-  for (const [name, off] of [["first", !turn], ["back", !turn], ["on", turn === last], ["end", turn === last]]) at(name).setAttribute("aria-disabled", String(off));
+  for (const name of ["first", "back"]) at(name).setAttribute("aria-disabled", String(!turn));
+  for (const name of ["on", "end"]) at(name).setAttribute("aria-disabled", String(turn === last));
 }
 
 function showProcess() {
   const { turn, process } = shown;
   at("process").value = process;
   put(at("board"), ...(process < 0 ? [] : [boardTable(process, turn)]));
-  const mine = process >= 0 && process < run.ranks;
-  put(at("own"), ...(mine ? [make("h3", {}, `What rank ${process} has printed`), lines[turn][process] ? lineList(process, turn, 2000) : make("p", {}, "Nothing yet.")] : []));
+  put(at("own"));
+  if (process < 0 || process >= run.ranks) return;
+  at("own").append(make("h3", {}, `What rank ${process} has printed`), lines[turn][process] ? lineList(process, turn, 2000) : make("p", {}, "Nothing yet."));
 }
 
 function showOpen(layout) {
@@ -99,7 +101,8 @@ function fill() {
   at("turn").max = last;
   run.calls.forEach((_, call) => at("calls").append(make("option", { value: String(call) }, "from " + callName(call))));
   numbers(run.processes).forEach((process) => at("process").append(make("option", { value: String(process) }, nameOf(process))));
-  if (run.said.length) at("said").append(make("h3", {}, "What the program says at the end"), make("pre", { class: "scrolls", tabindex: "0" }, run.said.join("\n")));
+  const said = make("pre", { class: "scrolls", tabindex: "0" }, run.said.join("\n"));
+  if (run.said.length) at("said").append(make("h3", {}, "What the program says at the end"), said);
   at("script").hidden = !run.script;
   at("script").lastElementChild.append(...run.script.trimEnd().split("\n").map((line) => make("li", {}, make("code", {}, line))));
   at("theme").setAttribute("aria-pressed", String(matchMedia("(prefers-color-scheme: dark)").matches));

@@ -111,9 +111,14 @@ function waitsAfter(turn) {
   return waits;
 }
 
-// The same; of a run that is over as the program says it, where it says that.
+// Whether the program itself says who waits after this turn: at the end, by --explain.
+function isSaid(turn) {
+  return turn === last && run.waits.length > 0;
+}
+
+// The same; where the program says it, as it does.
 function waitsNow(turn) {
-  if (turn < last || !run.waits.length) return waitsAfter(turn);
+  if (!isSaid(turn)) return waitsAfter(turn);
   return run.waits.map(([rank, call, others]) => [rank, call, [], others]);
 }
 

@@ -33,7 +33,8 @@ function framesTable(turn) {
     rows.push([sender, to, (again ? "once more; " : "") + (change.brought.length ? "brings " + bringsOf(change.brought) : "nothing new"), bytes[0] || ""]);
   }
   rows.sort((one, other) => one[0] - other[0]);
-  return table("Frames of " + theTurn(turn), headRow("From", "To", "What becomes of it", "Size"), rows.map(([sender, to, ...cells]) => row(nameOf(sender), nameOf(to), ...cells)));
+  const told = rows.map(([sender, to, ...cells]) => row(nameOf(sender), nameOf(to), ...cells));
+  return table("Frames of " + theTurn(turn), headRow("From", "To", "What becomes of it", "Size"), told);
 }
 
 // What every process has of the calls that the picture shows.
@@ -44,14 +45,15 @@ function boardsTable(turn, calls) {
 
 // Who waits for whom. The last turn's are the program's own, where it says them.
 function waitsTable(turn) {
-  if (turn === last && run.waits.length) {
+  if (isSaid(turn)) {
     const rows = run.waits.map(([rank, call, , words]) => row("rank " + rank, call, words));
     return table("At the end, as the program says", headRow("Who waits", "In which call", "For the posts of"), rows);
   }
   const waits = waitsAfter(turn);
-  if (!waits.length) return make("p", {}, turn === last ? "No rank that has posted is known to lack a post." : "No rank that has posted is known to lack a post after " + theTurn(turn) + ".");
+  if (!waits.length) return make("p", {}, "No rank that has posted is known to lack a post after " + theTurn(turn) + ".");
   const rows = waits.map(([rank, call, made, unmade]) => row("rank " + rank, callName(call), spoken(unmade) || "-", spoken(made) || "-"));
-  return table("After " + theTurn(turn), headRow("Who", "Has posted to", "Lacks, and nobody is seen to have, the posts of", "Lacks, and others have, the posts of"), rows);
+  const head = headRow("Who", "Has posted to", "Lacks, and nobody is seen to have, the posts of", "Lacks, and others have, the posts of");
+  return table("After " + theTurn(turn), head, rows);
 }
 
 // A cell of the chosen process's board: one post.
@@ -69,13 +71,14 @@ function boardTable(process, turn) {
   });
   const rows = calls.reverse().map((call) => {
     const board = boardOf(process, call, turn), all = allOf(call);
-    return make("tr", {}, make("th", { scope: "row" }, callName(call)), ...everyone.map((rank) => postCell(board, all, rank)), make("td", {}, boardWords(process, call, turn)));
+    const posts = everyone.map((rank) => postCell(board, all, rank));
+    return make("tr", {}, make("th", { scope: "row" }, callName(call)), ...posts, make("td", {}, boardWords(process, call, turn)));
   });
   const over = [...gone[process].values()].filter((when) => when <= turn).length;
   const caption = `The board of ${nameOf(process)} after ${theTurn(turn)}` + (over ? `; ${counted(over, "call is", "calls are")} dropped by then` : "");
   if (!rows.length) return make("p", {}, caption + ": it isn't known to have any post.");
-  const isSeen = (rank) => run.ranks <= 16 || rank % 8 === 0;
-  const head = headRow("Call", ...everyone.map((rank) => make("span", {}, make("span", { class: "unseen" }, "rank "), make("span", isSeen(rank) ? {} : { class: "unseen" }, String(rank)))), "In words");
+  const number = (rank) => make("span", run.ranks <= 16 || rank % 8 === 0 ? {} : { class: "unseen" }, String(rank));
+  const head = headRow("Call", ...everyone.map((rank) => make("span", {}, make("span", { class: "unseen" }, "rank "), number(rank))), "In words");
   return make("div", { class: run.ranks <= 16 ? "scrolls" : "scrolls many", tabindex: "0", role: "region", "aria-label": caption }, table(caption, head, rows));
 }
 
@@ -83,7 +86,9 @@ function boardTable(process, turn) {
 function lineList(rank, turn, most) {
   const count = lines[turn][rank], begin = Math.max(0, count - most), list = make("ol", { start: String(begin + 1) });
   for (const [when, line] of printed[rank].slice(begin, count)) {
-    list.append(when === turn ? make("li", { class: "now" }, make("code", {}, line), make("span", { class: "unseen" }, " (new)")) : make("li", {}, make("code", {}, line)));
+    const item = make("li", when === turn ? { class: "now" } : {}, make("code", {}, line));
+    if (when === turn) item.append(make("span", { class: "unseen" }, " (new)"));
+    list.append(item);
   }
   return list;
 }
@@ -92,5 +97,5 @@ function lineList(rank, turn, most) {
 function transcriptTable(turn) {
   const most = run.ranks <= 8 ? 12 : 3;
   const rows = everyone.map((rank) => row("rank " + rank, String(lines[turn][rank]), lineList(rank, turn, most)));
-  return table(`What ranks have printed after ${theTurn(turn)}` + (run.ranks <= 8 ? ", the last 12 lines of each" : ", the last 3 lines of each"), headRow("Rank", "Lines", "The last ones"), rows);
+  return table(`What ranks have printed after ${theTurn(turn)}, the last ${most} lines of each`, headRow("Rank", "Lines", "The last ones"), rows);
 }
