@@ -1,6 +1,7 @@
 /* The file of a rank, RECORD_FOLDER/rank.R (without that: recorded/rank.R). Its lines:
  *
- *   ranks N     rank R     run NUMBER     messages (with RECORD_MESSAGES)     operations [sums] (with RECORD_OPERATIONS)     mpi TEXT
+ *   ranks N     rank R     run NUMBER     standard VERSION PART     mpi TEXT
+ *   messages (with RECORD_MESSAGES)     operations [sums] (with RECORD_OPERATIONS)
  *   module M PATH                   places are M+0xOFFSET in it, or FILE:LINE
  *   call ID PLACE STATEMENT         a call, before MPI is entered; STATEMENT is one of gossipmpi's scripts
  *   begun ID PLACE KIND WORDS       one whose statement follows under this ID, a wait for one of several requests, or a message
@@ -303,7 +304,7 @@ static void open_record(void)
 {
     const char *folder = getenv("RECORD_FOLDER");
     char path[4096], version[MPI_MAX_LIBRARY_VERSION_STRING + 1];
-    int rank, ranks, size = 0;
+    int rank, ranks, standard = 0, part = 0, size = 0;
     if (!folder || !*folder) folder = "recorded";
     PMPI_Comm_rank(MPI_COMM_WORLD, &rank);
     PMPI_Comm_size(MPI_COMM_WORLD, &ranks);
@@ -319,11 +320,13 @@ static void open_record(void)
     fill_types();
     add_communicator(MPI_COMM_WORLD, "world");
     PMPI_Get_library_version(version, &size);
+    PMPI_Get_version(&standard, &part);
     version[strcspn(version, "\n")] = 0;
     put_text("ranks"); put_number(ranks);
     put_text("\nrank"); put_number(rank);
     put_text("\nrun"); put_number(run);
     if (notes_messages) put_text("\nmessages");
+    put_text("\nstandard"); put_number(standard); put_number(part);
     if (folds_operations) put_text(folds_operations == 2 ? "\noperations sums" : "\noperations");
     put_text("\nmpi"); put_word(version);
     end_line();

@@ -264,7 +264,7 @@ class Choice:
         known = {rank: part.grid for rank, part in self.calls.rows[maker].items() if part.grid}
         if not set(row) <= set(known): return
         def result_of(part): return next((teller.result for teller in folds.tellers(self.calls, part) if teller.result and teller.result[0] in '-0123456789'), None)
-        is_open = all(part.kind != 'neighbor_alltoall' for part in row.values())
+        is_open = all(grids.is_open(part.kind, self.record.standard) for part in row.values())
         is_kept = is_open and grids.keeps_order(row, self.calls.order[key[0]], known, result_of)
         if is_kept: self.slips.group(row[min(row)], grids.OPEN)
         for rank, part in row.items(): grids.cross(part, known[rank], is_kept)

@@ -5,8 +5,11 @@ sent, and their destinations, are handed on with each dimension's two in the oth
 from . import types
 from .parts import amount_of
 
-CROSSED = '    (one rank is both neighbours in a dimension: MPI 4.0, 8.6.2, has what is sent in the negative direction received as from the positive one; MPI 3.1 leaves it open)'
+CROSSED = '    (one rank is both neighbours in a dimension: MPI 4.0, 8.6.2, has what is sent in the negative direction received as from the positive one)'
 OPEN = 'one rank is both neighbours in a dimension; which of two blocks meets which is open there, and this MPI keeps their order'
+
+
+def is_open(kind, standard): return kind != 'neighbor_alltoall' or standard < 4
 
 
 def crossed_order(grid, keeps_order=False):

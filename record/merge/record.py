@@ -30,12 +30,12 @@ class Record:
     """`parts` has each rank's in the order in which they were written; `ended` the tag of its last line (LAST), or None, and `last` that line's
     words; `missing` ranks without a file; `freed` the names of each rank's communicators that it freed; `operations` the program's own, by rank
     and number, `has_folds` whether they were called, and `has_sums` whether they are told to be sums; `amounts` what a rank tells twice of one
-    call, and otherwise."""
+    call, and otherwise; `standard` the version of MPI that this one claims to be."""
 
     def __init__(self, text_of):
         self.text_of, self.modules, self.notes, self.mpi, self.run = text_of, {}, [], '?', None
         self.parts, self.ended, self.last, self.missing, self.freed, self.has_messages = [], [], [], {}, [], False
-        self.operations, self.has_folds, self.has_sums, self.amounts = {}, False, False, {}
+        self.operations, self.has_folds, self.has_sums, self.amounts, self.standard = {}, False, False, {}, 4
         self.size = self.find_size()
         for rank in range(self.size): self.read(rank, self.lines_of(rank))
         self.places = self.find_places()
@@ -133,6 +133,7 @@ class Record:
     def read_head(self, rank, line, words):
         if words[0] == 'mpi': self.mpi = re.sub(r'\s*Version:\s*', ' ', line[4:]).split(',')[0]
         elif words[0] == 'messages': self.has_messages = True
+        elif words[0] == 'standard': self.standard = int(words[1])
         elif words[0] == 'operations': self.has_folds, self.has_sums = True, words[1:] == ['sums']
         elif words[0] == 'run':
             self.run = self.run or words[1]

@@ -11,6 +11,9 @@ static void exchange(int rows, int columns, int base)
     for (int i = 0; i < 16; i++) { x[i] = 100 * (me + base) + i; y[i] = -1; }
     MPI_Neighbor_allgather(x, 1, MPI_INT, y, 1, MPI_INT, grid);
     MPI_Neighbor_alltoall(x, 2, MPI_INT, y, 2, MPI_INT, grid);
+    MPI_Request request;
+    MPI_Ineighbor_alltoall(x, 2, MPI_INT, y, 2, MPI_INT, grid, &request);
+    MPI_Wait(&request, MPI_STATUS_IGNORE);
     MPI_Neighbor_alltoallv(x, counts, places, MPI_INT, y, counts, places, MPI_INT, grid);
     MPI_Comm_free(&grid);
 }
