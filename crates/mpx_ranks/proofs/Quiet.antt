@@ -1,6 +1,7 @@
 -- What a port does in a turn posts nothing, and takes nothing back.
-use Rattle.std.proofs.Common.{◌≡◌, ◌≢◌, ℕ, List, [], ◌∷◌, ◌++◌, Option, Some, None, Result, Ok, Err, refl, sym, ap, ◌∙◌, subst, ⊎_elim, append_assoc}
-use Rattle.std.specs.Prelude.{IfOk, OnErr, OnOk}
+use Rattle.std.proofs.Common.{◌≡◌, ◌≢◌, ℕ, List, [], ◌∷◌, ◌++◌, Option, Some, None, Result, Ok, Err, refl, sym, ap, ◌∙◌, subst, ⊎_elim, append_assoc, inl, inr}
+use Rattle.std.specs.Prelude.{IfOk, OnErr, OnOk, ◌||◌, is_err}
+use Rattle.std.proofs.lemmas.Bool.{false≢true}
 use Rattle.std.proofs.lemmas.List.{append-nil}
 use Rattle.join_core.specs.declared.memory.OutOfMemory.{OutOfMemory}
 use Rattle.mpx_board.specs.Boards.{Look}
@@ -19,6 +20,7 @@ use Rattle.mpx_bus.specs.Ports.{HasListed, IsSamePort, PortView, node_in}
 use Rattle.mpx_comm.proofs.Steps.{later_learns, later_more, later_none, later_same}
 use Rattle.mpx_comm.specs.Later.{Later}
 use Rattle.mpx_name.specs.Name.{Name}
+use Rattle.mpx_ranks.specs.Members.{HasWanted, wanted_memory}
 use Rattle.mpx_num.specs.declared.own.Operation.{Operation}
 use Rattle.mpx_world.specs.Worlds.{ProcessView, drops, takes}
 
@@ -109,3 +111,25 @@ later_push limit (Err e) a b same next err = later_itself a b err
 pub later_prune : (r : Result (Unit {0}) PruneError) (name : Name) (n : ℕ) (a b : PortView) → IsSamePort a b → OnOk r (b.journal ≡ a.journal ++ A.Pruned name n ∷ []) → OnErr r (b ≡ a) → Later (node_in a) (node_in b)
 later_prune (Ok u) name n a b same ok err = later_quiet a b (A.Pruned name n ∷ []) same ok (tt, tt)
 later_prune (Err e) name n a b same ok err = later_itself a b err
+
+-- WHAT A TURN COMES TO
+
+pub kept_none : (r : Result Push OutOfMemory) (a b : PortView) → OnErr r (b ≡ a) → OnErr r (a.kept ≡ []) → OnErr r (b.kept ≡ [])
+kept_none (Ok push) a b same none = tt
+kept_none (Err e) a b same none = ap (λ (v : PortView). v.kept) same ∙ none
+
+pub turn_pushes : {A : Type 0} (r : Result A OutOfMemory) (pop : Pop) (pushed : Result Push OutOfMemory) (a popped b : PortView) → is_err r ≡ (wanted_memory pop || is_err pushed) → Later (node_in a) (node_in popped) → IfOk pushed (λ push. PushesNext 1048576 push popped b)
+    → OnOk r ((push : Push) × ((at : PortView) × (Later (node_in a) (node_in at) × PushesNext 1048576 push at b)))
+turn_pushes (Err e) pop pushed a popped b is later next = tt
+turn_pushes (Ok u) pop (Ok push) a popped b is later next = (push, (popped, (later, next)))
+turn_pushes (Ok u) (O.Took frame) (Err e) a popped b is later next = absurd (false≢true is)
+turn_pushes (Ok u) O.Empty (Err e) a popped b is later next = absurd (false≢true is)
+turn_pushes (Ok u) (O.OutOfMemory frame) (Err e) a popped b is later next = absurd (false≢true is)
+
+pub turn_wanted : {A : Type 0} (r : Result A OutOfMemory) (pop : Pop) (pushed : Result Push OutOfMemory) (a popped b : PortView) → is_err r ≡ (wanted_memory pop || is_err pushed) → PopsOne pop a popped → OnErr pushed (b.kept ≡ []) → OnErr r (HasWanted a b)
+turn_wanted (Ok u) pop pushed a popped b is answer none = tt
+turn_wanted (Err e) (O.OutOfMemory frame) pushed a popped b is answer none = inl (frame, popped, answer)
+turn_wanted (Err e) (O.Took frame) (Err w) a popped b is answer none = inr none
+turn_wanted (Err e) O.Empty (Err w) a popped b is answer none = inr none
+turn_wanted (Err e) (O.Took frame) (Ok push) a popped b is answer none = absurd (false≢true (sym is))
+turn_wanted (Err e) O.Empty (Ok push) a popped b is answer none = absurd (false≢true (sym is))

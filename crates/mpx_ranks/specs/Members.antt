@@ -1,9 +1,12 @@
 -- The port of a member.
-use Rattle.std.specs.Prelude.{◌≡◌, ℕ, List, [], false}
+use Rattle.std.specs.Prelude.{◌≡◌, ◌⊎◌, ℕ, Bool, List, [], false, true}
 use Rattle.std.proofs.Common.{refl, ◌∙◌}
 use Rattle.atomic_table.specs.Seated.{TableId}
 use Rattle.mpx_num.specs.declared.own.Operation.{Operation}
+use Rattle.mpx_bus.specs.Answers.{Wants}
 use Rattle.mpx_bus.specs.declared.act.Setup.{Setup}
+use Rattle.mpx_bus.specs.declared.port.Pop.{Pop}
+use Rattle.mpx_bus.specs.declared.port.Pop.TheVariants as O
 use Rattle.mpx_bus.specs.Ports.{IsSamePort, PortView}
 
 -- no queue
@@ -17,6 +20,18 @@ setup_of operations ranks size = record { ranks = ranks; size = size; operations
 -- the port of this process at this queue, under what all agree on
 abbrev pub IsSeated : TableId → Setup → (me : ℕ) → PortView → Type 0
 IsSeated table setup me b = (b.table ≡ table) × ((b.setup ≡ setup) × (b.me ≡ me))
+
+-- A TURN
+
+-- whether memory was wanting for the part of the frame that was popped
+abbrev pub wanted_memory : Pop → Bool
+wanted_memory (O.Took frame) = false
+wanted_memory O.Empty = false
+wanted_memory (O.OutOfMemory frame) = true
+
+-- memory was wanting: for the part of a frame that was popped first; or for a new list, and then the port keeps none
+abbrev pub HasWanted : PortView → PortView → Type 0
+HasWanted old new = ((bytes : List ℕ) × (popped : PortView) × Wants bytes old popped) ⊎ (new.kept ≡ [])
 
 -- ONE PORT
 

@@ -1,8 +1,11 @@
 //! What a member's turn does to its port.
-ghost use Rattle.std.specs.Prelude.{◌≡◌, false};
+ghost use Rattle.std.specs.Prelude.{◌≡◌, ◌||◌, [], false, is_err, IfOk, OnErr, OnOk};
+ghost use Rattle.mpx_bus.specs.Answers.{PopsOne, PushesNext};
 ghost use Rattle.mpx_bus.specs.Buses.{table_of};
-ghost use Rattle.mpx_bus.specs.Ports.{IsSamePort, node_in};
+ghost use Rattle.mpx_bus.specs.declared.port.Push.{Push};
+ghost use Rattle.mpx_bus.specs.Ports.{IsSamePort, PortView, node_in};
 ghost use Rattle.mpx_comm.specs.Later.{Later};
+ghost use Rattle.mpx_ranks.specs.Members.{HasWanted, wanted_memory};
 
 use join_core::{Exact, OutOfMemory};
 use mpx_board::PruneError;
@@ -27,6 +30,8 @@ pub(crate) fn gossip<R: Wait>(
     requires free { port.old.setup.planned ≡ false }
     ensures same { IsSamePort port.old port.new }
     ensures later { Later (node_in port.old) (node_in port.new) }
+    ensures pushes { OnOk result ((push : Push) × (popped : PortView) × Later (node_in port.old) (node_in popped) × PushesNext 1048576 push popped port.new) }
+    ensures wanted { OnErr result (HasWanted port.old port.new) }
 {
     let popped = pull(rt, alloc, bus, port);
     prune(alloc, port);
@@ -34,8 +39,10 @@ pub(crate) fn gossip<R: Wait>(
     came_to(popped, pushed)
 }
 
-// Want of memory, where it was wanting for either.
-fn came_to(popped: Pop, pushed: Result<Push, OutOfMemory>) -> Result<(), OutOfMemory> {
+// Want of memory, where it was wanting for either, and only then.
+fn came_to(popped: Pop, pushed: Result<Push, OutOfMemory>) -> Result<(), OutOfMemory>
+    ensures { is_err result ≡ (wanted_memory popped || is_err pushed) }
+{
     if let Pop::OutOfMemory(_) = popped {
         return Err(OutOfMemory);
     }
@@ -51,6 +58,7 @@ fn pull<R: Wait>(rt: &R, alloc: Global, bus: &Bus, port: &mut Port) -> Pop
     requires free { port.old.setup.planned ≡ false }
     ensures same { IsSamePort port.old port.new }
     ensures later { Later (node_in port.old) (node_in port.new) }
+    ensures answer { PopsOne result port.old port.new }
 {
     bus.pop(rt, alloc, port)
 }
@@ -61,6 +69,8 @@ fn push<R: Wait>(rt: &R, alloc: Global, bus: &Bus, port: &mut Port) -> Result<Pu
     requires free { port.old.setup.planned ≡ false }
     ensures same { IsSamePort port.old port.new }
     ensures later { Later (node_in port.old) (node_in port.new) }
+    ensures next { IfOk result (λ push. PushesNext 1048576 push port.old port.new) }
+    ensures err { OnErr result (port.new.kept ≡ []) }
 {
     bus.push_own(rt, alloc, port, LIMIT)
 }

@@ -3,14 +3,14 @@ use Rattle.std.specs.Prelude.{◌≡◌, ◌⊎◌, ℕ, List, Option, OnOk}
 use Rattle.std.specs.Io.KnownBytes.{Appends}
 use Rattle.clap.specs.declared.error.kind.ErrorKind.TheVariants as kind
 use Rattle.mpx_num.specs.declared.own.Operation.{Operation}
-use Rattle.mpx_run.specs.Reports.{IsPrinted}
+use Rattle.mpx_run.specs.Texts.{OfRuns}
 use Rattle.mpx_program.specs.Jobs.{DoesJob, IsRefused}
 use Rattle.mpx_program.specs.declared.job.Exit.{Exit}
 
 -- the words' job is done by some operations of a job's own
-pub record IsDoneBy (words : List (List ℕ)) (there left old new : Option (List ℕ)) (code : ℕ) (Says : List ℕ → Type 0) : Type 0 where
+pub record IsDoneBy (Is : OfRuns) (words : List (List ℕ)) (there left old new : Option (List ℕ)) (code : ℕ) (Says : List ℕ → Type 0) : Type 0 where
   pub operations : List Operation
-  pub does : DoesJob IsPrinted operations words there left old new code Says
+  pub does : DoesJob Is operations words there left old new code Says
 
 -- memory is wanting before anything is read or written
 pub record Starves (there left old new : Option (List ℕ)) (code : ℕ) (Says : List ℕ → Type 0) : Type 0 where
@@ -19,8 +19,8 @@ pub record Starves (there left old new : Option (List ℕ)) (code : ℕ) (Says :
   pub unwritten : new ≡ old
 
 -- the words' job is done, or memory is wanting
-abbrev pub Answers : (words : List (List ℕ)) (there left old new : Option (List ℕ)) (code : ℕ) (Says : List ℕ → Type 0) → Type 0
-Answers words there left old new code Says = IsDoneBy words there left old new code Says ⊎ Starves there left old new code Says
+abbrev pub Answers : (Is : OfRuns) (words : List (List ℕ)) (there left old new : Option (List ℕ)) (code : ℕ) (Says : List ℕ → Type 0) → Type 0
+Answers Is words there left old new code Says = IsDoneBy Is words there left old new code Says ⊎ Starves there left old new code Says
 
 -- a process ends with the status of what is done, and what is said is out where the message is
 pub record EndsBy (Does : (code : ℕ) (Says : List ℕ → Type 0) → Type 0) (old new : Option (List ℕ)) (status : ℕ) : Type 0 where

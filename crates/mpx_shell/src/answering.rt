@@ -1,6 +1,8 @@
 //! What is done with the words of a call.
 ghost use Rattle.std.specs.Prelude.{OnOk, map, string_bytes};
 ghost use Rattle.std.specs.Io.KnownBytes.{Appends};
+ghost use Rattle.mpx_run.specs.Founded.{IsFounded};
+ghost use Rattle.mpx_run.specs.Reports.{IsPrinted};
 ghost use Rattle.mpx_program.specs.Jobs.{IsRefused};
 ghost use Rattle.mpx_shell.specs.Answers.{Answers};
 
@@ -16,6 +18,9 @@ use std::thread::Threads;
 
 /// Does the job that the words ask for, as `run_job` of `mpx_program` does, where scripts may name one operation of a job's own: the composition of
 /// affine maps, by the word `affine`. Without memory for that operation nothing is read or written, and `err` is told so.
+///
+/// Who asks what is printed, and with which status, reads `prints` alone. That a run is by the seed, the loss, the relays and the turns of the words
+/// says `founded`.
 pub fn answer<T: Threads + Wait + Sync, R: Read, W: Write, E: Write>(
     rt: &T,
     alloc: Global,
@@ -25,7 +30,9 @@ pub fn answer<T: Threads + Wait + Sync, R: Read, W: Write, E: Write>(
     err: &mut E,
     observer: &mut dyn Observer,
 ) -> Exit
-    ensures { Answers (map string_bytes words.now) (R.remaining reader.old) (R.remaining reader.new) (W.contents out.old) (W.contents out.new)
+    ensures prints { Answers IsPrinted (map string_bytes words.now) (R.remaining reader.old) (R.remaining reader.new) (W.contents out.old) (W.contents out.new)
+        result.status (λ said. OnOk result.told (Appends (E.contents err.old) (E.contents err.new) said)) }
+    ensures founded { Answers IsFounded (map string_bytes words.now) (R.remaining reader.old) (R.remaining reader.new) (W.contents out.old) (W.contents out.new)
         result.status (λ said. OnOk result.told (Appends (E.contents err.old) (E.contents err.new) said)) }
 {
     let mut list: Vec<Box<dyn OwnOp + Send + Sync + Drop>> = Vec::new(alloc);

@@ -2,6 +2,8 @@
 ghost use Rattle.std.specs.Prelude.{◌≡◌, IfErr, IfOk, OnErr, map, string_bytes};
 ghost use Rattle.std.specs.Process.{exit_status};
 ghost use Rattle.clap.specs.Words.{kind_of};
+ghost use Rattle.mpx_run.specs.Founded.{IsFounded};
+ghost use Rattle.mpx_run.specs.Reports.{IsPrinted};
 ghost use Rattle.mpx_program.specs.Jobs.{IsRefused};
 ghost use Rattle.mpx_shell.specs.Answers.{Answers, EndsBy};
 
@@ -50,7 +52,8 @@ pub fn exit_code<T: Threads + Wait + Sync, R: Read, W: Write, E: Write>(
     err: &mut E,
     observer: &mut dyn Observer,
 ) -> ExitCode
-    ensures answers { IfOk words.now (λ words. EndsBy (Answers (map string_bytes words.items) (R.remaining reader.old) (R.remaining reader.new) (W.contents out.old) (W.contents out.new)) (E.contents err.old) (E.contents err.new) (exit_status result)) }
+    ensures answers { IfOk words.now (λ words. EndsBy (Answers IsPrinted (map string_bytes words.items) (R.remaining reader.old) (R.remaining reader.new) (W.contents out.old) (W.contents out.new)) (E.contents err.old) (E.contents err.new) (exit_status result)) }
+    ensures founded { IfOk words.now (λ words. EndsBy (Answers IsFounded (map string_bytes words.items) (R.remaining reader.old) (R.remaining reader.new) (W.contents out.old) (W.contents out.new)) (E.contents err.old) (E.contents err.new) (exit_status result)) }
     ensures refused { IfErr words.now (λ why. EndsBy (IsRefused (kind_of why)) (E.contents err.old) (E.contents err.new) (exit_status result)) }
     ensures unread { OnErr words.now (R.remaining reader.new ≡ R.remaining reader.old) }
     ensures unwritten { OnErr words.now (W.contents out.new ≡ W.contents out.old) }

@@ -16,4 +16,4 @@ which_none test (suc n) none = λ i. which_none test n (λ p l. none p (omega (a
 pub over : (loss ranks : ℕ) (processes : List ProcessView) (nodes : List NodeView) (waiting : List ℕ) → nodes ≡ nodes_of processes → waiting ≡ which (λ p. is_waiting_at (slice_get processes p)) ranks → RestsBy loss ranks processes → IsOver loss nodes waiting
 over loss ranks processes nodes waiting n w (inl finished) = inl (w ∙ which_none (λ p. is_waiting_at (slice_get processes p)) ranks finished)
 over loss ranks processes nodes waiting n w (inr (inl rest)) = inr (inl (subst HaveOneBoard (sym n) rest.0))
-over loss ranks processes nodes waiting n w (inr (inr lost)) = inr (inr lost)
+over loss ranks processes nodes waiting n w (inr (inr lost)) = inr (inr lost.0)

@@ -119,7 +119,7 @@ module _ (ops : List Operation) (script : ScriptView) (relays : ℕ) (begun : Mo
         let none : is_left (run.system.ranks p).todo ≡ false = sym (waits_at p l) ∙ finished p l in
         step_ends ops (known ops script.ranks run.system.ranks p) (run.system.ranks p) (nothing_left (run.system.ranks p).todo (λ is. let never : true ≡ false = sym is ∙ none in cc never)))
     has_come (inr (inl rest)) = rests_ends ops script.statements script.ranks (script.ranks + relays) begun (omega arith) few processes frames run rest.0 rest.1
-    has_come (inr (inr lost)) = absurd (omega (arith, lost, some_come))
+    has_come (inr (inr lost)) = absurd (omega (arith, lost.0, some_come))
 
     pub are_all : RestsBy loss script.ranks processes → (e : State) → IsEvaluation ops script.statements script.ranks e → AreAll transcripts waiting script.ranks e
     are_all rest e is = subst (AreAll transcripts waiting script.ranks) (confluent ops script.statements script.ranks run.system.ranks e (has_come rest) is) (record { lines = lines_so; who = waiting_so })

@@ -3,6 +3,7 @@ use Rattle.std.proofs.Common.{◌≡◌, ◌<◌, ◌≤◌, ℕ, zero, suc, get
 use Rattle.std.specs.Prelude.{All, slice_get}
 use Rattle.std.specs.List.{remove}
 use Rattle.std.proofs.lemmas.List.{map-append}
+use Rattle.std.proofs.lemmas.Option.{same_Some}
 use Rattle.std.proofs.lemmas.List.Elements.{All-nil, All-cons, All-head, All-tail, All-map}
 use Rattle.mpx_num.specs.declared.own.Operation.{Operation}
 use Rattle.mpx_board.specs.Boards.{Look}
@@ -57,6 +58,22 @@ all_without f P zero [] h = h
 all_without f P zero (x ∷ xs) h = All-tail P (f x) (map f xs) h
 all_without f P (suc i) [] h = h
 all_without f P (suc i) (x ∷ xs) h = All-cons P (f x) (map f (remove xs i)) (All-head P (f x) (map f xs) h) (all_without f P i xs (All-tail P (f x) (map f xs) h))
+
+-- one goes of which P doesn't hold: those of which it holds stay
+pub stays_without : {A : Type 0} (P : A → Type 0) (i : ℕ) (d : A) (xs : List A) → (P (get_or xs i d) → ⊥) → i < length xs → (k : ℕ) (x : A) → slice_get xs k ≡ Some x → P x → (j : ℕ) × (slice_get (remove xs i) j ≡ Some x)
+stays_without P i d [] unlike l k x at p = cc at
+stays_without P zero d (y ∷ ys) unlike l zero x at p = absurd (unlike (subst P (sym (same_Some y x at)) p))
+stays_without P zero d (y ∷ ys) unlike l (suc k) x at p = (k, at)
+stays_without P (suc i) d (y ∷ ys) unlike l zero x at p = (zero, at)
+stays_without P (suc i) d (y ∷ ys) unlike l (suc k) x at p = let h = stays_without P i d ys unlike (omega (arith, l)) k x at p in (suc h.0, h.1)
+
+-- one is written, and stays as it was where P holds of it: so do all others
+pub stays_written : {A : Type 0} (P : A → Type 0) (i : ℕ) (y : A) (xs : List A) → ((x : A) → slice_get xs i ≡ Some x → P x → y ≡ x) → (k : ℕ) (x : A) → slice_get xs k ≡ Some x → P x → slice_get (set xs i y) k ≡ Some x
+stays_written P i y [] same k x at p = cc at
+stays_written P zero y (z ∷ zs) same zero x at p = ap (λ w. Some w) (same x at p)
+stays_written P zero y (z ∷ zs) same (suc k) x at p = at
+stays_written P (suc i) y (z ∷ zs) same zero x at p = at
+stays_written P (suc i) y (z ∷ zs) same (suc k) x at p = stays_written P i y zs same k x at p
 
 -- a vector whose elements were lent has what was written there
 pub written_back : {A : Type 0} (len : ℕ) (old new : List A) → length new ≡ length old → length old ≡ len → take len (new ++ drop (length new) old) ≡ new

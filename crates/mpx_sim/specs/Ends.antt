@@ -41,9 +41,9 @@ pub data Lacks (v : ProcessView) : Type 0 where
 abbrev pub AllLack : (count : ℕ) → List ProcessView → Type 0
 AllLack count processes = (p : ℕ) (v : ProcessView) → p < count → slice_get processes p ≡ Some v → Lacks v
 
--- the ranks have finished; or all boards are equal, and each rank lacks a call or has nothing left; or every frame is lost
+-- the ranks have finished; or each rank lacks a call or has nothing left, and all boards are equal or every frame is lost
 abbrev pub RestsBy : (loss count : ℕ) → List ProcessView → Type 0
-RestsBy loss count processes = HaveFinished count processes ⊎ ((HaveOneBoard (nodes_of processes) × AllLack count processes) ⊎ (100 ≤ loss))
+RestsBy loss count processes = HaveFinished count processes ⊎ ((HaveOneBoard (nodes_of processes) × AllLack count processes) ⊎ ((100 ≤ loss) × AllLack count processes))
 
 -- so many turns are made, all that there may be; or fewer, and that is so
 abbrev pub AllMadeOr : (made turns : ℕ) → (over : Type 0) → Type 0

@@ -1,5 +1,5 @@
 -- What the processes of a run do side by side, each by itself.
-use Rattle.std.specs.Prelude.{◌≡◌, ◌&&◌, ℕ, suc, ◌≤◌, Bool, nat_eq, List, [], ◌∷◌, length, map, Some, IfSome, slice_get, if◌then◌else◌}
+use Rattle.std.specs.Prelude.{◌≡◌, ◌&&◌, ℕ, suc, ◌<◌, ◌≤◌, Bool, nat_eq, List, [], ◌∷◌, length, map, Some, IfSome, slice_get, if◌then◌else◌}
 use Rattle.std.proofs.Common.{set}
 use Rattle.std.specs.List.{All}
 use Rattle.mpx_num.specs.declared.own.Operation.{Operation}
@@ -34,6 +34,10 @@ taken place turn (f ∷ frames) v = taken place turn frames (took place turn f v
 abbrev pub all_taken : (place turn : ℕ) → List FrameUnderWay → List ProcessView → List ProcessView
 all_taken place turn frames [] = []
 all_taken place turn frames (v ∷ vs) = taken place turn frames v ∷ all_taken (suc place) turn frames vs
+
+-- each frame that comes in a later turn is still under way
+abbrev pub StillToCome : (turn : ℕ) → (old new : List FrameUnderWay) → Type 0
+StillToCome turn old new = (f : FrameUnderWay) (place : ℕ) → slice_get old place ≡ Some f → turn < f.turn → (now : ℕ) × (slice_get new now ≡ Some f)
 
 -- EACH GOES ON
 

@@ -1,5 +1,5 @@
 //! What goes from process to process in a run.
-ghost use Rattle.std.specs.Prelude.{◌≡◌, ◌<◌, ◌↔◌, ◌≤◌, ◌++◌, ◌∷◌, [], ◌⊎◌, All, IfOk, IsTrue, List, OnOk, Some, map, slice_get, ℕ};
+ghost use Rattle.std.specs.Prelude.{◌≡◌, ◌<◌, ◌↔◌, ◌≤◌, ◌++◌, ◌∷◌, [], ◌⊎◌, All, IfOk, IsFalse, IsTrue, List, OnOk, Some, map, slice_get, ℕ};
 ghost use Rattle.std.proofs.Common.{set};
 ghost use Rattle.std.specs.List.Sorted.{IsPermutation};
 ghost use Rattle.mpx_num.specs.declared.own.Operation.{Operation};
@@ -9,7 +9,7 @@ ghost use Rattle.mpx_meaning.specs.Evaluation.{Script as Statements};
 ghost use Rattle.mpx_sim.specs.Draws.{AreDrawn, ScheduleView, generator};
 ghost use Rattle.mpx_sim.specs.Running.{IsUnderWay, ProcessView};
 ghost use Rattle.mpx_sim.specs.Shown.{part_of, process_of, schedule_of};
-ghost use Rattle.mpx_sim.specs.SideBySide.{AreReady, HasToSend};
+ghost use Rattle.mpx_sim.specs.SideBySide.{AreReady, HasToSend, StillToCome};
 ghost use Rattle.mpx_sim.specs.Turns.{Coming, Going, Moment};
 
 use crate::frame_under_way::FrameUnderWay;
@@ -57,7 +57,8 @@ impl Network {
 
     /// The frames that are still to come: none, where those of this turn have come one after the other.
     pub(crate) fn coming(&self, in_order: bool) -> &[FrameUnderWay]
-        ensures { (result.now ≡ []) ⊎ (result.now ≡ self.now.frames.items) }
+        ensures some { (result.now ≡ []) ⊎ (result.now ≡ self.now.frames.items) }
+        ensures all { IsFalse in_order → result.now ≡ self.now.frames.items }
     {
         if in_order { &[] } else { &self.frames }
     }
@@ -210,12 +211,14 @@ fn arrive(
     Ok(())
 }
 
-/// One in four of the turn's frames is taken again in a later turn. The others are let go, and their room is spare.
+/// One in four of the turn's frames is taken again in a later turn. The others are let go, and their room is spare. Those of later turns
+/// are still to come.
 pub(crate) fn keep_some(network: &mut Network, turn: u64)
     requires { turn < 4294967296 }
     ensures run { (operations : List Operation) (script : Statements) (ranks size : ℕ) (begun : Moment) (processes : List ProcessView) → IsUnderWay operations script ranks size begun (Coming (schedule_of network.old.schedule)) processes (map part_of network.old.frames.items)
         → IsUnderWay operations script ranks size begun (Coming (schedule_of network.new.schedule)) processes (map part_of network.new.frames.items) }
     ensures loss { network.new.schedule.loss ≡ network.old.schedule.loss }
+    ensures kept { StillToCome turn network.old.frames.items network.new.frames.items }
 {
     delay_some(network, turn);
     let mut i: usize = 0;
@@ -230,6 +233,7 @@ fn let_go(network: &mut Network, i: usize, turn: u64) -> usize
     ensures run { (operations : List Operation) (script : Statements) (ranks size : ℕ) (begun : Moment) (processes : List ProcessView) → IsUnderWay operations script ranks size begun (Coming (schedule_of network.old.schedule)) processes (map part_of network.old.frames.items)
         → IsUnderWay operations script ranks size begun (Coming (schedule_of network.new.schedule)) processes (map part_of network.new.frames.items) }
     ensures loss { network.new.schedule.loss ≡ network.old.schedule.loss }
+    ensures kept { StillToCome turn network.old.frames.items network.new.frames.items }
 {
     if i >= network.frames.len() || network.frames[i].turn > turn {
         return i.wrapping_add(1);
@@ -247,6 +251,7 @@ fn delay_some(network: &mut Network, turn: u64)
     ensures parts { map part_of network.new.frames.items ≡ map part_of network.old.frames.items }
     ensures words { AreDrawn network.old.schedule.words network.new.schedule.words }
     ensures loss { network.new.schedule.loss ≡ network.old.schedule.loss }
+    ensures kept { StillToCome turn network.old.frames.items network.new.frames.items }
 {
     for i in 0..network.frames.len() {
         delay(&mut network.frames[i], &mut network.schedule, turn);
@@ -261,6 +266,7 @@ fn delay(frame: &mut FrameUnderWay, schedule: &mut Schedule, turn: u64)
     ensures to { frame.new.to ≡ frame.old.to }
     ensures words { AreDrawn schedule.old.words schedule.new.words }
     ensures loss { schedule.new.loss ≡ schedule.old.loss }
+    ensures kept { turn < frame.old.turn → frame.new ≡ frame.old }
 {
     if frame.turn != turn {
         return;

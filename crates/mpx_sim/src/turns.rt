@@ -237,8 +237,8 @@ fn is_over(
     Ok(are_finished(processes, count))
 }
 
-// Whether nobody can hear anything new: nobody has just moved or dropped anything, and every frame is lost, or all boards are equal and no rank has at
-// hand what it waits for. Each rank is asked for that only where all boards are equal.
+// Whether nobody can hear anything new: nobody has just moved or dropped anything, every frame is lost or all boards are equal, and no rank has at
+// hand what it waits for. Each rank is asked for that only where it would be the last that is wanting.
 fn is_at_rest(
     alloc: Global,
     processes: &mut [Process<'_>],
@@ -256,15 +256,16 @@ fn is_at_rest(
     if changed {
         return Ok(false);
     }
-    if network.loses_all() {
-        return Ok(true);
-    }
-    if !are_same(processes) {
+    let lost = network.loses_all();
+    if !lost && !are_same(processes) {
         return Ok(false);
     }
     let lack = all_lack(alloc, processes, count, ops)?;
     if !lack {
         return Ok(false);
+    }
+    if lost {
+        return Ok(true);
     }
     Ok(are_same(processes))
 }

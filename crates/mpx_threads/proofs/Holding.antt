@@ -174,3 +174,21 @@ left_is script p n b xs e f same = ap not e ∙ by_list xs ∙ ap has_statements
   by_list : (ys : List Statement) → not (length ys == 0) ≡ has_statements ys
   by_list [] = refl
   by_list (y ∷ ys) = let none : (length (y ∷ ys) == 0) ≡ false = grind (arith, nat_tests) in ap not none
+
+-- EACH OF SOME
+
+-- the first so many are held, and so is the next
+pub held_next : (node : NodeView) (ts : List ToldCall) (n : ℕ) (t : ToldCall) → slice_get ts n ≡ Some t → AllHeld node (take n ts) → IsTrue (is_some (slice_get (results_on node t.name) t.call)) → AllHeld node (take (suc n) ts)
+held_next node [] n t e held is = λ i v at. cc e
+held_next node (u ∷ ts) zero t e held is = first where
+  first : AllHeld node (u ∷ [])
+  first zero v at = subst (λ (x : ToldCall). IsTrue (is_some (slice_get (results_on node x.name) x.call))) (sym (same_Some u t e) ∙ same_Some u v at) is
+  first (suc i) v at = cc at
+held_next node (u ∷ ts) (suc n) t e held is = next (held_next node ts n t e (λ j w there. held (suc j) w there) is) where
+  next : AllHeld node (take (suc n) ts) → AllHeld node (u ∷ take (suc n) ts)
+  next rest zero v at = held zero v at
+  next rest (suc i) v at = rest i v at
+
+-- one isn't, so not all are
+pub one_lacks : (node : NodeView) (ts : List ToldCall) (i : ℕ) (t : ToldCall) → slice_get ts i ≡ Some t → is_some (slice_get (results_on node t.name) t.call) ≡ false → AllHeld node ts → ⊥
+one_lacks node ts i t at lacking held = let never : true ≡ false = sym (held i t at) ∙ lacking in cc never

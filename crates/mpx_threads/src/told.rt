@@ -86,7 +86,8 @@ impl<L: PortLock> Told<L> {
 
     /// Whether the node holds a result of each of these calls.
     pub(crate) fn are_held(&self, node: &Node) -> bool
-        ensures { result ≡ true → AllHeld (node_of node.now) self.now }
+        ensures held { result ≡ true → AllHeld (node_of node.now) self.now }
+        ensures lacks { result ≡ false → ¬ (AllHeld (node_of node.now) self.now) }
     {
         for told in &self.calls {
             if node.result(&told.name, told.call).is_none() {

@@ -1,9 +1,11 @@
 //! A process of a run: a rank works in two threads over one port, a relay in one.
 ghost use Rattle.std.specs.Prelude.{◌≡◌, ◌+◌, ◌<◌, ◌≤◌, ℕ, IfOk, [], length, map, string_bytes};
 ghost use Rattle.mpx_bus.specs.Buses.{table_of};
+ghost use Rattle.mpx_bus.specs.Ports.{node_in};
 ghost use Rattle.mpx_shared.specs.LawfulPorts.{IsLawful, made_in};
 ghost use Rattle.mpx_threads.specs.Gates.{GivesUpWithin};
 ghost use Rattle.mpx_threads.specs.Plans.{Plans};
+ghost use Rattle.mpx_threads.specs.ToldCalls.{AllHeld};
 ghost use Rattle.mpx_threads.specs.Work.{GossipEndsSo, HasCome, HasWorked, IsNewLedger, IsReadyProcess, IsWorked, lines_in};
 
 use crate::carry::{Carried, carry_out};
@@ -276,6 +278,7 @@ fn with_port<L: PortLock>(
     ensures port { result.port ≡ port }
     ensures gossip { result.gossip ≡ gossip }
     ensures worked { (relays : ℕ) → HasWorked script.now relays L.setup L.me port (lines_in result) result.waits result.calls.items }
+    ensures whole { AllHeld (node_in port) told.now → (lines_in result ≡ map string_bytes lines.items) × (result.waits ≡ waits) × (result.calls.items ≡ calls.items) }
 {
     if told.are_held(port.node()) {
         return Worked {

@@ -3,6 +3,7 @@
 use join_nest::Lift;
 use mpx_board::Board;
 use mpx_name::{Name, Step};
+use std::alloc::Global;
 use std::io::{self, Write};
 
 /// Adds the calls of which the board holds posts, one after the other with ` | ` between, and of each the processes whose posts these
@@ -29,26 +30,69 @@ pub(crate) fn push_held(board: &Board, text: &mut Vec<u8>) -> io::Result<()> {
     Ok(())
 }
 
-/// Adds the last of these calls alone, which is of the last communicator by name, or `-`.
-pub(crate) fn push_newest(board: &Board, text: &mut Vec<u8>) -> io::Result<()> {
-    let mut any = false;
-    for (name, known) in board.pair().first.entries() {
-        if let Lift::Live(entry) = known {
-            if let Some((call, posts)) = entry.second.second.entries().last() {
-                text.clear();
-                any = true;
-                push_call(name, *call, text)?;
-                for (process, _) in posts.entries() {
-                    write!(text, " {}", process.number())?;
+/// What a table shows of a process.
+#[derive(Drop)]
+pub(crate) struct Newest {
+    /// Which posts of the newest call it holds, as `world 0: 0 1`, or `-`.
+    pub text: Vec<u8>,
+    /// That call, as `world 0:`.
+    call: Vec<u8>,
+    /// All calls of which it holds posts.
+    held: Vec<Vec<u8>>,
+}
+
+impl Newest {
+    /// Of a process that holds nothing yet.
+    pub(crate) fn new(alloc: Global) -> io::Result<Newest> {
+        let mut text = Vec::new(alloc);
+        text.extend_from_slice(b"-")?;
+        Ok(Newest {
+            text,
+            call: Vec::new(alloc),
+            held: Vec::new(alloc),
+        })
+    }
+
+    /// What is shown once the process has this board. Where it holds posts of calls now of which it held none, the newest is one of
+    /// these; else it is the one that was it, while that is held. Of several it is the last by its name and number.
+    pub(crate) fn after(&self, alloc: Global, board: &Board) -> io::Result<Newest> {
+        let mut new = Newest::new(alloc)?;
+        let mut best = 0;
+        for (name, known) in board.pair().first.entries() {
+            if let Lift::Live(entry) = known {
+                for (number, posts) in entry.second.second.entries() {
+                    let mut call = Vec::new(alloc);
+                    push_call(name, *number, &mut call)?;
+                    let grade = self.grade(&call);
+                    if grade >= best {
+                        best = grade;
+                        new.call.clear();
+                        new.call.extend_from_slice(&call)?;
+                        new.text.clear();
+                        new.text.extend_from_slice(&call)?;
+                        for (process, _) in posts.entries() {
+                            write!(new.text, " {}", process.number())?;
+                        }
+                    }
+                    new.held.push(call)?;
                 }
             }
         }
+        Ok(new)
     }
-    if !any {
-        text.clear();
-        text.extend_from_slice(b"-")?;
+
+    // 2 of a call that wasn't held, 1 of the one that was the newest, 0 of others.
+    fn grade(&self, call: &Vec<u8>) -> u8 {
+        if self.call == *call {
+            return 1;
+        }
+        for held in &self.held {
+            if *held == *call {
+                return 0;
+            }
+        }
+        2
     }
-    Ok(())
 }
 
 // Adds a context and the number of a call on it.

@@ -1,22 +1,21 @@
 //! A simulated run, a row a turn.
 ghost use Rattle.std.specs.Prelude.{◌≡◌};
 
-use crate::holding::push_newest;
+use crate::holding::Newest;
 use crate::news::News;
 use mpx_node::Node;
 use mpx_sim::{FrameSeen, Observer, Progress};
 use std::alloc::Global;
 use std::io::{self, Write};
 
-/// Shows a simulated run as a table in Markdown, a row for each turn: of each process which posts it held of one call when it last took a
-/// frame (`-` before it took one), and then which frames brought something new of that, and which lines ranks got. The call is the last
-/// one of the last communicator by name of which it held any, so with several communicators not always the newest.
+/// Shows a simulated run as a table in Markdown, a row for each turn: of each process which posts of the newest call it held when it
+/// last took a frame (`-` before it took one), and then which frames brought something new of that, and which lines ranks got.
 #[derive(Drop)]
 pub struct Table<W: Write> {
     alloc: Global,
     out: W,
     /// Of each process, what it held.
-    cells: Vec<Vec<u8>>,
+    cells: Vec<Newest>,
     /// What was new in this turn.
     new: Vec<u8>,
     news: News,
@@ -48,24 +47,22 @@ impl<W: Write> Table<W> {
     // There are cells up to this process.
     fn reach(&mut self, process: u8) -> io::Result<()> {
         for _ in self.cells.len()..usize::from(process).saturating_add(1) {
-            let mut cell = Vec::new(self.alloc);
-            cell.extend_from_slice(b"-")?;
-            self.cells.push(cell)?;
+            self.cells.push(Newest::new(self.alloc)?)?;
         }
         Ok(())
     }
 
     fn take(&mut self, frame: FrameSeen, node: &Node) -> io::Result<()> {
         self.reach(frame.to)?;
-        let mut held = Vec::new(self.alloc);
-        push_newest(node.board(), &mut held)?;
         let Some(cell) = self.cells.get_mut(usize::from(frame.to)) else {
             return Ok(());
         };
-        if *cell == held {
+        let held = cell.after(self.alloc, node.board())?;
+        let is_same = cell.text == held.text;
+        *cell = held;
+        if is_same {
             return Ok(());
         }
-        *cell = held;
         let (from, to) = (frame.from, frame.to);
         self.separate()?;
         write!(self.new, "{from} -> {to}")
@@ -94,7 +91,7 @@ impl<W: Write> Table<W> {
         write!(text, "| {turn} |")?;
         for cell in &self.cells {
             text.extend_from_slice(b" ")?;
-            text.extend_from_slice(cell)?;
+            text.extend_from_slice(&cell.text)?;
             text.extend_from_slice(b" |")?;
         }
         text.extend_from_slice(b" ")?;

@@ -1,6 +1,9 @@
-//! Jobs of ranks in threads: how many there may be, a rank that returns before others post, one that gives up, and ranks that ask again
-//! where memory was wanting.
+//! Jobs of ranks in threads: how many there may be, a rank that returns before others post, one that gives up, ranks that ask again
+//! where memory was wanting, and what a relay hears.
+use mpx_board::Board;
 use mpx_comm::{Comm, Desk, Host, Request, WaitError};
+use mpx_group::Proc;
+use mpx_name::Name;
 use mpx_num::{Numbers, Op, Ops, Ty};
 use mpx_post::PostError;
 use mpx_ranks::{Program, RanksError, numbers_of, ranks};
@@ -13,10 +16,11 @@ use std::time::Duration;
 // So many turns, 20 seconds and more, a call waits at most.
 const TURNS: u64 = 20_000;
 
-// The sum of all ranks. Rank 0 posts and returns at once; rank 3 posts when that is long past.
+// The sum of all ranks. Rank 0 posts and returns at once; rank 3 posts so many milliseconds later.
 #[derive(Drop)]
 struct Leaves<'a, R> {
     rt: &'a R,
+    late: u64,
 }
 
 impl<'a, R: Wait> Program for Leaves<'a, R> {
@@ -34,7 +38,7 @@ impl<'a, R: Wait> Program for Leaves<'a, R> {
             return Some(0);
         }
         if world.rank() == 3 {
-            Parker::new().park_timeout(self.rt, Duration::from_millis(50));
+            Parker::new().park_timeout(self.rt, Duration::from_millis(self.late));
         }
         sum_of(alloc, desk, world, TURNS, ops)
     }
@@ -148,6 +152,30 @@ fn both_sums<R: Threads + Wait + Sync>(rt: &R, alloc: Global) -> Result<usize, R
     Ok(count)
 }
 
+// Whether a board has a post of a first call, or had one.
+fn has_heard(board: &Board, name: &Name) -> bool {
+    for rank in 0..4 {
+        if board.holds(name, 0, Proc::new(rank)).is_some() {
+            return true;
+        }
+    }
+    board.dropped(name) > 0
+}
+
+// Whether a relay beside four ranks hears of their call, while they wait so many milliseconds for the last of them. Where memory or a
+// thread was wanting it doesn't.
+fn relay_hears<R: Threads + Wait + Sync>(rt: &R, alloc: Global, late: u64) -> bool {
+    let ops = Ops::none(alloc);
+    let Ok(ran) = ranks(rt, alloc, 4, 1, &Leaves { rt, late }, &ops) else {
+        return false;
+    };
+    let world = Comm::world(alloc, 4, 0);
+    match ran.nodes.last() {
+        Some(node) => has_heard(node.board(), world.name()),
+        None => false,
+    }
+}
+
 #[test]
 fn four_ranks_have_two_sums(rt: HostRuntime) -> Result<(), Fail> {
     assert_eq!(rt; both_sums(&rt, rt.alloc()), Ok(4));
@@ -156,9 +184,22 @@ fn four_ranks_have_two_sums(rt: HostRuntime) -> Result<(), Fail> {
 
 #[test]
 fn a_rank_that_returned_is_heard(rt: HostRuntime) -> Result<(), Fail> {
-    let answers = answers_of(&rt, rt.alloc(), (4, 0), &Leaves { rt: &rt });
+    let answers = answers_of(&rt, rt.alloc(), (4, 0), &Leaves { rt: &rt, late: 50 });
     let wanted = vec![in rt.alloc(); Some(0), Some(6), Some(6), Some(6)]?;
     assert_eq!(rt; answers, Ok(wanted));
+    Ok(())
+}
+
+// It may be long until a relay's thread is let run: the job is run again, each time longer.
+#[test]
+fn a_relay_hears_of_a_call(rt: HostRuntime) -> Result<(), Fail> {
+    let mut heard = false;
+    for late in [50u64, 500, 5_000, 10_000] {
+        if !heard {
+            heard = relay_hears(&rt, rt.alloc(), late);
+        }
+    }
+    assert!(rt; heard);
     Ok(())
 }
 

@@ -1,8 +1,14 @@
 use Rattle.std.proofs.Common.{inl}
 use Rattle.mpx_shell.proofs.answering.answer.Goals as goal
 
-pub returns : goal.returns
-returns g c = inl (record {
+pub returns-clause-prints : goal.returns-clause-prints
+returns-clause-prints g c = inl (record {
   operations = _;
   does = c.run_job_observed.ensures.prints;
+})
+
+pub returns-clause-founded : goal.returns-clause-founded
+returns-clause-founded g c = inl (record {
+  operations = _;
+  does = c.run_job_observed.ensures.founded;
 })
