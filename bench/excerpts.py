@@ -3,7 +3,7 @@
 
     bench/excerpts.py
 
-Each block of docs/CALLING.md stands, line by line, in a file of crates/first_sum (what it prints, and the program whole) or of
+Each block of docs/CALLING.md, and of the tour's own page, stands, line by line, in a file of crates/first_sum (what it prints, and the program whole) or of
 crates/tour. Each block of docs/TESTING.md, docs/EXAMPLES.md, docs/SCRIPTS.md and README.md that is a script or a program stands in a file of
 examples/; one that is a script alone may also be a row of crates/job_rows. Blocks of commands, and of what a command prints, are passed over."""
 import pathlib
@@ -37,11 +37,12 @@ def main():
     code = files("crates/first_sum/src/*.rt", "crates/first_sum/stdout", "crates/tour/src/*.rt")
     scripts = files("examples/*.job", "examples/*.py", "examples/testing/*", "crates/job_rows/stdin")
     told, count = [], 0
-    for page in ("docs/CALLING.md", "docs/TESTING.md", "docs/EXAMPLES.md", "docs/SCRIPTS.md", "README.md"):
+    of_code = ("docs/CALLING.md", "crates/tour/README.md")
+    for page in (*of_code, "docs/TESTING.md", "docs/EXAMPLES.md", "docs/SCRIPTS.md", "README.md"):
         blocks = [(kind, block) for kind, block in BLOCK.findall((ROOT / page).read_text(encoding="utf-8"))]
-        held = [block for kind, block in blocks if page.endswith("CALLING.md") or kind or re.match(r"\s*(#.*\n\s*)?ranks \d", block)]
+        held = [block for kind, block in blocks if page in of_code or kind or re.match(r"\s*(#.*\n\s*)?ranks \d", block)]
         count += len(held)
-        told += faults(page, held, code if page.endswith("CALLING.md") else scripts)
+        told += faults(page, held, code if page in of_code else scripts)
     print("\n".join([*told, "%d blocks are held; %d stand in no file" % (count, len(told))]))
     return 1 if told else 0
 

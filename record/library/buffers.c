@@ -57,7 +57,11 @@ static int is_dense(const Facts *facts) { return facts->size == facts->true_exte
 
 void drop_blocks(Blocks *blocks)
 {
-    for (int i = 0; i < blocks->number; i++) if (blocks->list[i].is_own) NEXT(Type_free)(&blocks->list[i].type);
+    for (int i = 0; i < blocks->number; i++) {
+        if (!blocks->list[i].is_own) continue;
+        forget_type(blocks->list[i].type);
+        NEXT(Type_free)(&blocks->list[i].type);
+    }
     free(blocks->list);
     memset(blocks, 0, sizeof *blocks);
 }
@@ -193,7 +197,7 @@ int put_items(const Blocks *blocks, Type as)
     return 1;
 }
 
-/* ---- whether buffers change, and whether two have bytes in common ---- */
+/* ---- whether buffers change ---- */
 
 static uint64_t hash_bytes(uint64_t hash, const unsigned char *bytes, long number)
 {
@@ -223,26 +227,4 @@ uint64_t hash_of(const Blocks *blocks)
         free(bytes);
     }
     return hash;
-}
-
-/* Of blocks without gaps the first byte, and behind the last. */
-static int range_of(const Blocks *blocks, int place, uintptr_t *first, uintptr_t *end)
-{
-    const Block *block = &blocks->list[place];
-    const Facts *facts = block->length > 0 ? facts_of(block->type) : 0;
-    if (!facts || !is_dense(facts)) return 0;
-    *first = (uintptr_t)blocks->base + block->place + facts->true_lower;
-    *end = *first + block->length * facts->extent;
-    return *end > *first;
-}
-
-int do_overlap(const Blocks *some, const Blocks *others)
-{
-    uintptr_t first, end, other_first, other_end;
-    for (int i = 0; i < some->number; i++) {
-        if (!range_of(some, i, &first, &end)) continue;
-        for (int j = 0; j < others->number; j++)
-            if (range_of(others, j, &other_first, &other_end) && first < other_end && other_first < end) return 1;
-    }
-    return 0;
 }

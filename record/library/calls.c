@@ -3,6 +3,9 @@
 #include <stdlib.h>
 #include <string.h>
 
+/* By an operation of the program's own. */
+static int is_own(const Arguments *a) { return is_fold(a->kind) && !strcmp(fold_word(a->operation), "user"); }
+
 static void put_kind(const Arguments *a, int nonblocking)
 {
     put_word(nonblocking ? "i" : "");
@@ -24,12 +27,21 @@ static const char *reason_of_side(const Arguments *a, const Communicator *commun
     return 0;
 }
 
+/* MPI_IN_PLACE where only the root may give it. */
+static int is_misplaced(const Arguments *a, const Communicator *communicator)
+{
+    if (a->root == communicator->rank) return 0;
+    if (a->kind == SCATTER || a->kind == SCATTERV) return a->receive == MPI_IN_PLACE;
+    return (a->kind == GATHER || a->kind == GATHERV || a->kind == REDUCE) && a->send == MPI_IN_PLACE;
+}
+
 static const char *reason_of(const Arguments *a, const Communicator *communicator, const Parts *parts)
 {
     int size = communicator->size;
     const char *reason = 0;
     if (size > MEMBERS) return "members";
     if (has_root(a->kind) && (a->root < 0 || a->root >= size)) return "root";
+    if (is_misplaced(a, communicator)) return "in_place";
     if (is_neighbourhood(a->kind) && !communicator->has_neighbours) return "topology";
     if (parts->sends) reason = reason_of_side(a, communicator, 1);
     if (parts->receives && !reason) reason = reason_of_side(a, communicator, 0);
@@ -123,12 +135,13 @@ static void note_own_amounts(int id, const Arguments *a, const Parts *parts)
     end_line();
 }
 
-/* MPI forbids a buffer for both, which MPI_IN_PLACE is there for. */
-static void note_one_buffer(int id, const Arguments *a, const Parts *parts)
+/* MPI forbids bytes for both, which MPI_IN_PLACE is there for, and bytes into which two blocks are received. What is sent may be so twice. */
+static void note_overlaps(int id, const Arguments *a, const Parts *parts)
 {
-    if (!parts->sends || !parts->receives || a->send != a->receive || !parts->out.number) return;
-    if (!do_overlap(&parts->in, &parts->out)) return;
-    put_text("slip"); put_number(id); put_text(" aliased"); end_line();
+    int in_place = a->kind == BCAST || a->send == MPI_IN_PLACE || a->receive == MPI_IN_PLACE, one, other;
+    if (!in_place && do_overlap(&parts->in, &parts->out)) { put_text("slip"); put_number(id); put_text(" aliased"); end_line(); }
+    if (!find_overlap(&parts->out, &one, &other)) return;
+    put_text("slip"); put_number(id); put_text(" overlapping"); put_number(one); put_number(other); end_line();
 }
 
 static void note_use(int id, const Parts *parts)
@@ -148,7 +161,7 @@ static void write_left(Call *call, const Arguments *a, const Communicator *commu
     put_left_out(a, communicator, reason);
     end_line();
     call->fixed = "-";
-    if (strcmp(reason, "members") && strcmp(reason, "root") && strcmp(reason, "topology") && a->kind != BARRIER)
+    if (strcmp(reason, "members") && strcmp(reason, "root") && strcmp(reason, "in_place") && strcmp(reason, "topology") && a->kind != BARRIER)
         put_types(call->id, a, communicator, parts);
 }
 
@@ -163,10 +176,11 @@ static int write_in_full(Call *call, const Arguments *a, const Communicator *com
         put_text(" -> q"); put_digits(call->request);
     }
     end_line();
-    if (call->type == RAW && a->kind != BARRIER) put_types(call->id, a, communicator, parts);
+    if ((call->type == RAW || (call->type == U8 && is_own(a))) && a->kind != BARRIER) put_types(call->id, a, communicator, parts);
     note_own_amounts(call->id, a, parts);
-    note_one_buffer(call->id, a, parts);
+    note_overlaps(call->id, a, parts);
     note_use(call->id, parts);
+    if (is_own(a)) note_operation(call->id, a->operation);
     return 1;
 }
 
@@ -221,6 +235,7 @@ void begin_call(Call *call, const Arguments *a, int nonblocking, void *site)
         end_line();
     }
     unlock_record();
+    if (folds_operations && communicator && !nonblocking && is_own(a)) fold_call(call->id, a, communicator, call->type, !call->fixed || call->fixed[0] != '-');
 }
 
 static void put_given(int id, Call *call)

@@ -5,6 +5,9 @@
 #include <string.h>
 
 static Communicator *known;
+enum { FREED = 256 };                   /* the last ones that were freed */
+static struct { MPI_Comm handle; char name[16]; } freed[FREED];
+static int number_freed;
 
 static int *room_for_ranks(int number) { return room_for(number * sizeof(int)); }
 
@@ -45,8 +48,24 @@ static void find_general_graph(Communicator *new)
     memcpy(new->to, new->from, number * sizeof(int));
 }
 
+/* An MPI may give a handle again. */
+void forget_freed(MPI_Comm handle)
+{
+    for (int i = 0; i < FREED && i < number_freed; i++) if (freed[i].handle == handle) freed[i].name[0] = 0;
+}
+
+/* Where one is made that has no name here, and whose handle isn't known yet. */
+void forget_all_freed(void) { number_freed = 0; }
+
+static const char *name_of_freed(MPI_Comm handle)
+{
+    for (int i = 0; i < FREED && i < number_freed; i++) if (freed[i].handle == handle && freed[i].name[0]) return freed[i].name;
+    return 0;
+}
+
 Communicator *add_communicator(MPI_Comm handle, const char *name)
 {
+    forget_freed(handle);
     Communicator *new = room_for(sizeof *new);
     memset(new, 0, sizeof *new);
     new->handle = handle;
@@ -69,6 +88,8 @@ void drop_communicator(MPI_Comm handle)
         if ((*at)->handle != handle) continue;
         Communicator *gone = *at;
         *at = gone->next;
+        freed[number_freed % FREED].handle = handle;
+        memcpy(freed[number_freed++ % FREED].name, gone->name, sizeof gone->name);
         free(gone->from);
         free(gone->to);
         free(gone);
@@ -93,11 +114,14 @@ Communicator *find_communicator(MPI_Comm handle)
     return handle == MPI_COMM_SELF ? add_self() : 0;
 }
 
+/* `freed NAME` of one that this rank has freed. */
 const char *why_unknown(MPI_Comm handle)
 {
+    static char words[32];
     int is_inter = 0;
     Guard guard;
     if (handle == MPI_COMM_NULL) return "null";
+    if (name_of_freed(handle)) { snprintf(words, sizeof words, "freed %s", name_of_freed(handle)); return words; }
     begin_guard(&guard);
     if (PMPI_Comm_test_inter(handle, &is_inter)) is_inter = 0;
     end_guard(&guard);

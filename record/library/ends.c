@@ -17,27 +17,31 @@ int MPI_Init_thread(int *argc, char ***argv, int required, int *provided)
     return error;
 }
 
+/* What the recorder made of it is freed, too. */
 static void forget(MPI_Comm handle)
 {
+    MPI_Comm channel = MPI_COMM_NULL;
     if (!is_recording()) return;
     lock_record();
     Communicator *communicator = handle == MPI_COMM_NULL || handle == MPI_COMM_WORLD || handle == MPI_COMM_SELF ? 0 : find_communicator(handle);
     if (communicator) {
         put_text("freed"); put_word(communicator->name); end_line();
+        if (communicator->has_channel) channel = communicator->channel;
         drop_communicator(handle);
     }
     unlock_record();
+    if (channel != MPI_COMM_NULL) NEXT(Comm_free)(&channel);
 }
 
 int MPI_Comm_free(MPI_Comm *communicator)
 {
-    forget(*communicator);
+    if (!inside) forget(*communicator);
     return NEXT(Comm_free)(communicator);
 }
 
 int MPI_Comm_disconnect(MPI_Comm *communicator)
 {
-    forget(*communicator);
+    if (!inside) forget(*communicator);
     return NEXT(Comm_disconnect)(communicator);
 }
 

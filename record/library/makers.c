@@ -52,6 +52,7 @@ static Communicator *end_making(const Making *making, int error, MPI_Comm given,
     if (!making->id) return 0;
     lock_record();
     int is_new = reorder && making->parent && !error && is_reordered(making, given);
+    if (!error) forget_freed(given);
     begin_plain("gave", making->id);
     if (!making->parent) put_word("-");
     else if (error) put_error(error);
@@ -115,6 +116,7 @@ MAKE(Comm_create_group, "create_group", (MPI_Comm comm, MPI_Group group, int tag
 static Making begin_idup(MPI_Comm parent, void *site)
 {
     Making making = begin_statement(parent, "idup", site);
+    if (making.id && !making.parent) forget_all_freed();
     end_statement(&making);
     return making;
 }
@@ -214,6 +216,17 @@ static void put_known_neighbours(int number, const int *ranks)
     if (!some) put_word("-");
 }
 
+/* Of a grid each dimension's two neighbours; `-` is a border. */
+static void put_pairs(const Communicator *new)
+{
+    put_text("grid"); put_word(new->name);
+    for (int i = 0; i < new->sources; i++) {
+        put_text(i % 2 ? "," : " ");
+        if (new->from[i] == MPI_PROC_NULL) put_text("-"); else put_digits(new->from[i]);
+    }
+    end_line();
+}
+
 static void put_topology(const Communicator *new)
 {
     if (new->topology != MPI_CART && new->topology != MPI_GRAPH) return;
@@ -222,6 +235,7 @@ static void put_topology(const Communicator *new)
     put_known_neighbours(new->sources, new->from);
     put_known_neighbours(new->destinations, new->to);
     end_line();
+    if (new->topology == MPI_CART) put_pairs(new);
     unlock_record();
 }
 

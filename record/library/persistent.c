@@ -1,6 +1,11 @@
-/* Persistent collectives: each start is a nonblocking call. */
+/* Persistent collectives: each start is a nonblocking call. Open MPI 4 has them as MPIX_ names. */
 #include "record.h"
-#if MPI_VERSION >= 4
+#if defined OPEN_MPI && MPI_VERSION < 4 && defined __has_include
+#if __has_include(<mpi-ext.h>)
+#include <mpi-ext.h>
+#endif
+#endif
+#if MPI_VERSION >= 4 || defined OMPI_HAVE_MPI_EXT_PCOLLREQ
 #include <stdlib.h>
 
 typedef struct Persistent { MPI_Request handle; Arguments arguments; struct Persistent *next; } Persistent;
@@ -73,17 +78,26 @@ int MPI_Request_free(MPI_Request *request)
 }
 ALSO(Start) ALSO(Startall) ALSO(Request_free)
 
+#if MPI_VERSION >= 4
+#define PREFIXED(BEFORE, FUNCTION) BEFORE##MPI_##FUNCTION
+#else
+#define PREFIXED(BEFORE, FUNCTION) BEFORE##MPIX_##FUNCTION
+#endif
+#define WORD_OF(NAME) #NAME
+#define NAME_OF(NAME) WORD_OF(NAME)
 #define PERSISTENT(FUNCTION, PARAMETERS, WORDS, ...) \
-int MPI_##FUNCTION(OPEN PARAMETERS, MPI_Info info, MPI_Request *request) \
+int PREFIXED(, FUNCTION)(OPEN PARAMETERS, MPI_Info info, MPI_Request *request) \
 { \
+    static __typeof__(&PREFIXED(, FUNCTION)) next; \
     Arguments arguments = {__VA_ARGS__, .communicator = comm}; \
+    if (!next) next = (__typeof__(next))next_function(NAME_OF(PREFIXED(P, FUNCTION))); \
     inside++; \
-    int error = NEXT(FUNCTION)(OPEN WORDS, info, request); \
+    int error = next(OPEN WORDS, info, request); \
     inside--; \
     add_persistent(&arguments, error, request); \
     return error; \
 } \
-ALSO(FUNCTION)
+extern __typeof__(PREFIXED(, FUNCTION)) PREFIXED(P, FUNCTION) __attribute__((alias(NAME_OF(PREFIXED(, FUNCTION)))));
 
 #define OPEN(...) __VA_ARGS__
 PERSISTENT(Barrier_init, (MPI_Comm comm), (comm), .kind = BARRIER)
@@ -97,8 +111,10 @@ PERSISTENT(Barrier_init, (MPI_Comm comm), (comm), .kind = BARRIER)
 #undef P
 #undef COLLECTIVE
 
+#if MPI_VERSION >= 4
 #define N MPI_Count
 #define P MPI_Aint
 #define COLLECTIVE(NAME, SMALL, PARAMETERS, WORDS, ...) PERSISTENT(NAME##_init_c, PARAMETERS, WORDS, __VA_ARGS__)
 #include "each_collective.h"
+#endif
 #endif

@@ -21,6 +21,7 @@ enum { MEMBERS = 64 };                  /* what gossipmpi has at most */
 extern __thread int inside;             /* of an MPI that calls itself by its public names */
 extern long most_items;
 extern int notes_messages;
+extern int folds_operations;            /* 2 where they are sums */
 long number_asked(int rank, const char *name, long most, long without, const char *wanted);      /* of the environment */
 void *room_for(size_t size);
 void put_text(const char *text);
@@ -63,6 +64,7 @@ void put_error(int error);              /* `refused CLASS TEXT` of erroneous arg
 /* ---- site.c: where a call stands ---- */
 enum { SITE_SIZE = 320 };
 void name_site(void *site, char word[SITE_SIZE]);       /* may write a line `module` */
+int is_in_fortran_layer(void *site);
 
 /* ---- types.c: types and operations ---- */
 typedef enum {
@@ -101,12 +103,16 @@ typedef struct Communicator {
     int size, rank, has_neighbours, sources, destinations;
     int *from, *to;                     /* the neighbours; MPI_PROC_NULL at a border */
     int topology;                       /* MPI_DIST_GRAPH, MPI_CART, MPI_GRAPH or MPI_UNDEFINED */
+    int has_channel;
+    MPI_Comm channel;                   /* the recorder's own, of the same ranks */
     struct Communicator *next;
 } Communicator;
 Communicator *add_communicator(MPI_Comm handle, const char *name);
 Communicator *find_communicator(MPI_Comm handle);
 const char *why_unknown(MPI_Comm handle);
 void drop_communicator(MPI_Comm handle);
+void forget_freed(MPI_Comm handle);
+void forget_all_freed(void);
 
 /* ---- buffers.c: what lies in buffers ---- */
 typedef struct { const void *values; size_t width; } Numbers;   /* `int`, or wider ones of the large-count forms */
@@ -129,7 +135,10 @@ long items_in(const Blocks *blocks, Type as);
 int can_read(const Blocks *blocks, Type as);
 int put_items(const Blocks *blocks, Type as);           /* 0 where MPI_Pack refuses */
 uint64_t hash_of(const Blocks *blocks);
+
+/* ---- overlaps.c ---- */
 int do_overlap(const Blocks *some, const Blocks *others);
+int find_overlap(const Blocks *blocks, int *one, int *other);
 
 /* ---- parts.c: what goes in and comes out of each kind of call ---- */
 typedef enum {
@@ -189,9 +198,17 @@ void begin_call(Call *call, const Arguments *arguments, int nonblocking, void *s
 void end_call(Call *call, int error);
 void put_result(int id, Call *call, int error);
 
+/* ---- operations.c: operations of the program's own ---- */
+void note_operation(int id, MPI_Op operation);
+void fold_call(int id, const Arguments *arguments, Communicator *communicator, Type as, int is_whole);
+
 /* ---- messages.c: messages between two ranks ---- */
 int begin_message(const char *kind, MPI_Comm communicator, int rank, int tag, void *site);
 void end_message(int id);
+
+/* ---- unseen.c: calls that are counted by their names ---- */
+int begin_unseen(const char *name, void *site);
+void end_unseen(int id);
 
 /* ---- requests.c ---- */
 void start_call(Call *call, int error, MPI_Request *request);

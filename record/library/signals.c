@@ -7,8 +7,8 @@
 #include <sys/syscall.h>
 #include <unistd.h>
 
-static const int deadly[] = {SIGSEGV, SIGBUS, SIGFPE, SIGILL, SIGABRT, SIGTERM, SIGINT, SIGHUP, SIGQUIT};
-enum { SIGNALS = sizeof deadly / sizeof *deadly };
+static const int deadly[] = {SIGSEGV, SIGBUS, SIGFPE, SIGILL, SIGABRT, SIGTERM, SIGINT, SIGHUP, SIGQUIT, SIGXCPU, SIGALRM, SIGUSR1, SIGUSR2};
+enum { SIGNALS = sizeof deadly / sizeof *deadly, LIMITS = SIGNALS - 4 };      /* the last four are what launchers send at a limit */
 static int is_free[SIGNALS];            /* whether the program left it as it was */
 static struct sigaction before[SIGNALS];
 
@@ -24,16 +24,27 @@ static int set_action(int number, const struct sigaction *new, struct sigaction 
     return set(number, new, old);
 }
 
+/* By whom: `raised` by this process, as by abort(); `outside` by another one, or by a limit of the system; nothing where its own code failed. */
+static const char *sender_of(int number, const siginfo_t *cause)
+{
+    int is_fault = number == SIGSEGV || number == SIGBUS || number == SIGFPE || number == SIGILL;
+    if (cause->si_code <= 0) return cause->si_pid == getpid() ? " raised\n" : " outside\n";
+    if (number == SIGALRM) return " raised\n";          /* a timer that the program set */
+    return is_fault ? "\n" : " outside\n";
+}
+
 /* The line is written, and then what was there before acts: on the fault itself, or on the signal sent again. */
 static void note_signal(int number, siginfo_t *cause, void *unused)
 {
-    char line[] = "signal 00\n";
+    char line[24] = "signal 00";
+    const char *sender = sender_of(number, cause);
     (void)unused;
     line[7] = '0' + number / 10;
     line[8] = '0' + number % 10;
-    write_last(line, sizeof line - 1);
+    memcpy(line + 9, sender, strlen(sender) + 1);
+    write_last(line, strlen(line));
     for (int i = 0; i < SIGNALS; i++) if (deadly[i] == number) set_action(number, &before[i], 0);
-    if (cause->si_code <= 0) raise(number);
+    if (*sender != '\n') raise(number);
 }
 
 /* Whether code is of an MPI or of what it stands on. */
@@ -65,7 +76,11 @@ void watch_signals(void)
     memset(&noting, 0, sizeof noting);
     noting.sa_sigaction = note_signal;
     noting.sa_flags = SA_SIGINFO;
-    for (int i = 0; i < SIGNALS; i++) if (is_free[i]) set_action(deadly[i], &noting, &before[i]);
+    for (int i = 0; i < SIGNALS; i++) {
+        if (!is_free[i]) continue;
+        set_action(deadly[i], &noting, &before[i]);
+        if (i >= LIMITS && before[i].sa_handler != SIG_DFL) set_action(deadly[i], &before[i], 0);       /* which the MPI may live on */
+    }
 }
 
 static void note_exit(int code, int is_mpi)

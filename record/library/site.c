@@ -71,6 +71,12 @@ static int is_fortran_layer(const char *path)
     return strstr(path, "libmpichf") || strstr(path, "libmpi_mpifh") || strstr(path, "libmpi_usempi");
 }
 
+int is_in_fortran_layer(void *site)
+{
+    Dl_info module;
+    return dladdr(site, &module) && module.dli_fname && is_fortran_layer(module.dli_fname);
+}
+
 /* The module of a place; of one in a Fortran layer that of the caller. */
 static int find_module(void **at, Dl_info *module)
 {

@@ -1,6 +1,7 @@
 /* The file of a rank, RECORD_FOLDER/rank.R (without that: recorded/rank.R). Its lines:
  *
- *   ranks N     rank R     run NUMBER     messages (with RECORD_MESSAGES)     mpi TEXT
+ *   ranks N     rank R     run NUMBER     standard VERSION PART     mpi TEXT
+ *   messages (with RECORD_MESSAGES)     operations [sums] (with RECORD_OPERATIONS)
  *   module M PATH                   places are M+0xOFFSET in it, or FILE:LINE
  *   call ID PLACE STATEMENT         a call, before MPI is entered; STATEMENT is one of gossipmpi's scripts
  *   begun ID PLACE KIND WORDS       one whose statement follows under this ID, a wait for one of several requests, or a message
@@ -9,10 +10,14 @@
  *   unseen ID PLACE KIND            one of which nothing is recorded
  *   gave ID LINE                    what this MPI gave, in gossipmpi's words, or `refused CLASS TEXT`, `error CLASS TEXT`; `-` of a call left out
  *   graph COMMUNICATOR SOURCES DESTINATIONS        the neighbours that dist_graph gave
+ *   grid COMMUNICATOR NEGATIVE,POSITIVE ..         the neighbours in each dimension of a grid; - at a border
  *   types ID SENT AWAITED           the counts and basic types of each block of a call: 3*f64,2*f64
- *   slip ID WORD                    what MPI forbids the program: aliased, in_use ID, changed
+ *   slip ID WORD                    what MPI forbids the program: aliased, in_use ID, changed, overlapping BLOCK BLOCK, unordered RANK RANK,
+ *                                   bracketed (its operation isn't commutative, or associative)
+ *   operation ID PLACE op_create commutes|ordered      one of the program's own; own ID OPERATION: the call ID goes by it
+ *   fold ID NUMBERS                 what its function gives, called in the order of ranks (with RECORD_OPERATIONS)
  *   freed COMMUNICATOR     note TEXT
- *   end     abort ID PLACE CODE     fatal ERROR     signal NUMBER     exit CODE [inside]     hang SECONDS     the last line
+ *   end     abort ID PLACE CODE     fatal ERROR     signal NUMBER [raised|outside]     exit CODE [inside]     hang SECONDS     the last line
  *                                   (inside: by the MPI's own code)
  *
  * A tag that is followed by /T is of the T-th thread that calls, where it isn't the first. */
@@ -31,7 +36,7 @@
 
 __thread int inside;
 long most_items = 65536;
-int notes_messages;
+int notes_messages, folds_operations;
 
 static int file = -1, is_buffered;
 static char *text;
@@ -285,17 +290,28 @@ static int is_asked(int rank, const char *name)
     return 0;
 }
 
+/* 1, or 2 of `sums`. */
+static int asked_operations(int rank)
+{
+    const char *words = getenv("RECORD_OPERATIONS");
+    if (!words || !*words || !strcmp(words, "0")) return 0;
+    if (!strcmp(words, "1") || !strcmp(words, "sums")) return words[0] == '1' ? 1 : 2;
+    if (!rank) fprintf(stderr, "record: RECORD_OPERATIONS=%s is neither 1, sums nor 0: it is off\n", words);
+    return 0;
+}
+
 static void open_record(void)
 {
     const char *folder = getenv("RECORD_FOLDER");
     char path[4096], version[MPI_MAX_LIBRARY_VERSION_STRING + 1];
-    int rank, ranks, size = 0;
+    int rank, ranks, standard = 0, part = 0, size = 0;
     if (!folder || !*folder) folder = "recorded";
     PMPI_Comm_rank(MPI_COMM_WORLD, &rank);
     PMPI_Comm_size(MPI_COMM_WORLD, &ranks);
     most_items = number_asked(rank, "RECORD_ITEMS", 1000000000, most_items, "items up to 1000000000: 65536 is taken");
     is_buffered = is_asked(rank, "RECORD_BUFFER");
     notes_messages = is_asked(rank, "RECORD_MESSAGES");
+    folds_operations = asked_operations(rank);
     make_folder(folder);
     snprintf(path, sizeof path, "%s/rank.%d", folder, rank);
     file = open(path, O_RDWR | O_CREAT | O_TRUNC | O_CLOEXEC, 0666);
@@ -304,11 +320,14 @@ static void open_record(void)
     fill_types();
     add_communicator(MPI_COMM_WORLD, "world");
     PMPI_Get_library_version(version, &size);
+    PMPI_Get_version(&standard, &part);
     version[strcspn(version, "\n")] = 0;
     put_text("ranks"); put_number(ranks);
     put_text("\nrank"); put_number(rank);
     put_text("\nrun"); put_number(run);
     if (notes_messages) put_text("\nmessages");
+    put_text("\nstandard"); put_number(standard); put_number(part);
+    if (folds_operations) put_text(folds_operations == 2 ? "\noperations sums" : "\noperations");
     put_text("\nmpi"); put_word(version);
     end_line();
     process = getpid();
@@ -338,8 +357,11 @@ static void check_mpi(void)
 void number_run(void)
 {
     static int is_numbered;
+    MPI_Comm parent = MPI_COMM_NULL;
     if (is_numbered++) return;
     check_mpi();
+    PMPI_Comm_get_parent(&parent);
+    if (parent != MPI_COMM_NULL) return;        /* a spawned process: the files are those of its parents' world */
     run = (long)time(0) * 100000 + getpid() % 100000;
     inside++;
     NEXT(Bcast)(&run, 1, MPI_LONG, 0, MPI_COMM_WORLD);

@@ -9,20 +9,22 @@ from .parts import MAKERS, MESSAGES, WAITS
 WORLD = ()
 UNNAMED = dict(unknown='on a communicator that the record has no name for', null='on MPI_COMM_NULL', inter='on an intercommunicator')
 LOST = 'on a communicator whose making has no result'
-UNSEEN = dict(psend_init='partitioned', precv_init='partitioned', session_init='sessions')
+UNSEEN = dict(psend='partitioned messages', precv='partitioned messages', session='sessions', file='files', win='windows', intercomm='intercommunicators')
 
 
 class Calls:
     """`rows` has each call's parts by rank of the world; `order` a communicator's members, by rank in it; `requests` the call of each
-    rank's request, `waits` the waits for it; `unnamed` counts the calls on communicators that have no name here, with the reason;
-    `refused` has the parts that this MPI refused for their arguments, which are no calls then; `known` each rank's communicators by its names."""
+    rank's request, `waits` the waits for it; `unnamed` counts the calls on communicators that have no name here, with the reason, and `unseen`
+    among them those of kinds that aren't recorded;
+    `refused` has the parts that this MPI refused for their arguments, which are no calls then, `behind_free` those on a communicator that the rank
+    had freed; `known` each rank's communicators by its names."""
 
     def __init__(self, record):
         self.record, self.rows, self.requests = record, collections.OrderedDict(), {}
         self.waits = collections.defaultdict(list)
         self.members, self.order = collections.defaultdict(set), collections.defaultdict(dict)
-        self.maker, self.names, self.unnamed = {}, {WORLD: 'world'}, collections.Counter()
-        self.children, self.refused, self.known = collections.defaultdict(list), [], []
+        self.maker, self.names, self.unnamed, self.unseen = {}, {WORLD: 'world'}, collections.Counter(), collections.Counter()
+        self.children, self.refused, self.known, self.behind_free = collections.defaultdict(list), [], [], []
         for rank, parts in enumerate(record.parts): self.take_rank(rank, parts)
         self.name_communicators()
         for (communicator, _), row in self.rows.items():
@@ -37,7 +39,10 @@ class Calls:
             if part.kind == 'wait': self.waits[rank, part.request].append(part)
         for part in parts:
             if part.tag == 'abort' or part.kind in WAITS + MESSAGES: continue
-            if (part.result or '').startswith('refused'):
+            if part.tag == 'unknown' and part.communicator == 'freed':
+                self.behind_free.append(part)
+                continue
+            if (part.result or '').startswith('refused') and not part.is_misplaced():
                 self.refused.append(part)
                 continue
             if part.tag == 'unseen' or part.communicator not in known:
@@ -52,9 +57,10 @@ class Calls:
             if part.nonblocking and part.tag == 'call' and part.kind != 'idup': self.requests[rank, part.name] = part
             if part.kind in MAKERS and part.tag == 'call': self.make(rank, part, known)
         self.unnamed |= unnamed                         # of each kind the most that one rank has
+        self.unseen |= collections.Counter(part.kind for part in parts if part.tag == 'unseen')
 
     def unnamed_as(self, part):
-        if part.tag == 'unseen': return '%s: %s calls aren\'t recorded' % (part.kind, UNSEEN.get(part.kind, 'such'))
+        if part.tag == 'unseen': return '%s: %s aren\'t recorded' % (part.kind, UNSEEN.get(part.kind.split('_')[0], 'such calls'))
         return part.name_of_kind() + ': ' + UNNAMED.get(part.communicator, LOST)
 
     def end_idup(self, rank, part):

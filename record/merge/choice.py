@@ -1,12 +1,13 @@
 """Which calls go into scripts, and in which form. A call that is left out is so at all ranks, and what stands on communicators that it makes."""
 import collections, re, struct, sys
 
-from . import folds, types
+from . import folds, grids, own, types
 from .parts import AS_BYTES, FOLDS, MAKERS, WIDTH
+from .slips import Slips, ranks_of
 
 ITEMS, EDGES, RANKS, DEPTH = 4096, 512, 64, 8           # gossipmpi's limits
 REASONS = dict(kind='scripts have no such call', root='its root is out of range', topology='its communicator has no neighbours',
-               operation='an operation of the program\'s own', type='a type that is none', items='more items than RECORD_ITEMS',
+               operation=own.LEFT, in_place='MPI_IN_PLACE at a rank that isn\'t the root', type='a type that is none', items='more items than RECORD_ITEMS',
                members='more than 64 members', count='a negative count', buffer='a buffer that can\'t be read')      # by the recorder's words
 # What may be cut into blocks of items, and whether what goes in, and what comes out, has a block for each rank.
 CUT = dict(bcast=(0, 0), reduce=(0, 0), allreduce=(0, 0), scan=(0, 0), exscan=(0, 0), gather=(0, 1), allgather=(0, 1), scatter=(1, 0),
@@ -16,15 +17,17 @@ CUT = dict(bcast=(0, 0), reduce=(0, 0), allreduce=(0, 0), scan=(0, 0), exscan=(0
 class Choice:
     """`taken` has the keys of the calls for scripts; `blocks` those that are cut, with their length; `bounded` and `left` count the others by
     what is said of them, and `held` has the keys of the first, of whose numbers so many are `unjudged`. `reports` has calls of which something
-    is told already: key, title, and parts with more lines; `amounts` those of which two ranks' don't fit, with the words for it."""
+    is told already: key, title, and parts with more lines; `faults` has the keys of those that can't be right whatever the MPI does; `amounts` those
+    of which two ranks' don't fit, with the words for it; `folded` counts those that were held against the program's own operation."""
 
-    def __init__(self, calls, without_idup=False):
-        self.calls, self.gone, self.without_idup = calls, set(), without_idup
-        self.taken, self.blocks, self.left, self.reports = set(), {}, collections.Counter(), []
-        self.bounded, self.held, self.unjudged, self.amounts = collections.Counter(), set(), 0, {}
+    def __init__(self, record, calls, without_idup=False):
+        self.record, self.calls, self.gone, self.without_idup, self.slips = record, calls, set(), without_idup, Slips(record, calls)
+        self.taken, self.blocks, self.left, self.reports, self.faults, self.crossed = set(), {}, collections.Counter(), [], set(), set()
+        self.bounded, self.held, self.unjudged, self.amounts, self.folded = collections.Counter(), set(), 0, {}, collections.Counter()
         for key in sorted(calls.rows, key=lambda key: (len(key[0]), key[1])):
             reason = self.reason_for(key, calls.rows[key])
-            if reason: self.leave(key, reason)
+            if key in self.faults and reason: self.gone.update(calls.made_by(key))
+            elif reason: self.leave(key, reason)
             elif key not in self.held and self.base_of(key[0]) is not None: self.taken.add(key)
 
     def leave(self, key, reason):
@@ -35,6 +38,16 @@ class Choice:
         row = self.calls.rows[key]
         self.reports.append((key, title, more or [(row[rank], []) for rank in sorted(row)]))
 
+    def tell_fault(self, key, title):
+        self.tell(key, title)
+        self.faults.add(key)
+
+    def tell_results(self, key, title, more):
+        """Results that an MPI may not give, where the program doesn't use its buffers wrongly."""
+        use = self.slips.use_of(self.calls.rows[key], {part.rank for part, _ in more})
+        if use: title, more[-1][1][:] = title + ', ' + use[0], more[-1][1] + [use[1]]
+        self.tell(key, title, more)
+
     def base_of(self, communicator):
         """The communicator that is a script's world for this one: the first on the way from the world that has few enough members."""
         for length in range(len(communicator) + 1):
@@ -44,7 +57,9 @@ class Choice:
 
     def reason_for(self, key, row):
         communicator, part = key[0], next(iter(row.values()))
+        self.cross_grid(key, row)
         self.compare_types(key, row)
+        self.compare_own_amounts(key, row)
         if any(communicator[:length] in self.gone for length in range(1, len(communicator) + 1)): return 'its communicator is left out'
         base = self.base_of(communicator)
         if base is None:
@@ -58,7 +73,7 @@ class Choice:
     def reason_of_kind(self, key, row):
         kinds, part = {part.kind for part in row.values()}, row[min(row)]
         if len(kinds) > 1 and any(kind in AS_BYTES for kind in kinds):
-            self.tell(key, 'doesn\'t fit together: its parts differ in the kind')
+            self.tell_fault(key, 'doesn\'t fit together: its parts differ in the kind')
             return 'its parts differ in the kind'
         if 'idup' in kinds and self.without_idup: return 'others wait for it in scripts, which have no such call'
         if kinds & set(FOLDS) and not folds.is_plain(row):
@@ -86,6 +101,13 @@ class Choice:
         elif is_left: self.tell(key, 'doesn\'t fit together: ' + found[1])
         else: self.amounts[key] = found[1]
 
+    def compare_own_amounts(self, key, row):
+        """What one rank tells of itself twice, and otherwise."""
+        if self.is_told(key): return
+        for rank in sorted(row):
+            told = self.record.amounts.get((rank, row[rank].id))
+            if told: return self.tell_fault(key, 'doesn\'t fit together: rank %d %s of itself' % (rank, told))
+
     def compare_those_that_came(self, key, row):
         """Of a call that a rank is missing in, scripts say no more than who waits: whether the others' parts fit."""
         if set(row) >= self.calls.members[key[0]] or self.is_told(key): return
@@ -105,10 +127,18 @@ class Choice:
     def reason_recorded(self, key, row):
         """What the recorder left out. Its kind, mode, root and operation are compared by themselves."""
         part = next(part for part in row.values() if part.tag != 'call')
-        self.compare_left(key, row)
+        if not self.find_misplaced(key, row): self.compare_left(key, row)
         if part.tag == 'begun': return 'not finished'
         reason = part.words[-1]
         return 'a reduction of ' + part.type if reason == 'type' and part.type != '-' else REASONS.get(reason, reason)
+
+    def find_misplaced(self, key, row):
+        """MPI_IN_PLACE where only the root may give it."""
+        ranks = [rank for rank in sorted(row) if row[rank].is_misplaced()]
+        if not ranks: return False
+        root = next((rank for place, rank in self.calls.order[key[0]].items() if str(place) == row[ranks[0]].root), '?')
+        self.tell_fault(key, 'is the program\'s error: %s give%s MPI_IN_PLACE, which only the root may, rank %s' % (ranks_of(ranks), 's' * (len(ranks) == 1), root))
+        return True
 
     def compare_left(self, key, row):
         name = difference_of_words([row[rank] for rank in sorted(row) if row[rank].tag != 'begun'])
@@ -120,12 +150,12 @@ class Choice:
         """Why its results aren't held against anything; None where they are, and then it is in `held` or has the script's numbers."""
         calls, part, name = self.calls, row[min(row)], folds.difference_of_parts(row)
         if name:
-            self.tell(key, 'doesn\'t fit together: its parts differ in the %s' % name)
+            self.tell_fault(key, 'doesn\'t fit together: its parts differ in the %s' % name)
             return 'its parts don\'t fit together'
+        if part.operation == 'user': return self.reason_of_own(key, row, part)
         if part.kind == 'allreduce':
             ranks = folds.unequal_results(calls, row)
-            if ranks: self.tell(key, 'has other results at other ranks, where MPI requires identical ones', [given_at(calls, row[rank]) for rank in ranks])
-        if part.operation == 'user': return 'an operation of the program\'s own'
+            if ranks: self.tell_results(key, 'has other results at other ranks, where MPI requires identical ones', [given_at(calls, row[rank]) for rank in ranks])
         if part.type in folds.EXACT.get(part.operation, ()) or part.operation in ('maxloc', 'minloc') and part.type in folds.LOCATED:
             if folds.has_nan(calls, row): return 'a NaN among its numbers'
             if part.operation in folds.EXACT: folds.take_exact(calls, row)
@@ -134,12 +164,39 @@ class Choice:
         if part.type in folds.SUMS.get(part.operation, ()) and set(row) == calls.members[key[0]]: return self.hold(key, row, part)
         return '%s of %s' % (part.operation, folds.basics_of(part))
 
+    def reason_of_own(self, key, row, part):
+        """By an operation of the program's own: its fold, where the recorder made one."""
+        record, order = self.record, self.calls.order[key[0]]
+        unordered, bracketed, fold, ranks = own.unordered(record, row, order), own.bracketed(record, row), own.Fold(self.calls, row), None
+        wrong, what = unordered or bracketed, 'commutative' if unordered else 'associative'
+        if part.kind == 'allreduce': ranks = folds.unequal_results(self.calls, row)
+        if ranks and own.is_opaque(part):
+            self.slips.group(part, 'its results differ between ranks, in bytes that may be gaps of a structure')
+            ranks = None
+        more = [given_at(self.calls, row[rank]) for rank in ranks or ()]
+        if wrong: self.tell_own(key, 'is the program\'s error: its operation isn\'t ' + what, more or [(row[min(row)], [])], wrong)
+        elif fold.found: self.tell_results(key, 'differs from a fold by the program\'s own operation', fold.with_last(row))
+        elif ranks: self.tell_own(key, 'has other results at other ranks, by an operation of the program\'s own', more, own.why_unequal(record, row))
+        if not fold.compared or set(row) != self.calls.members[key[0]]: return own.why_left(record, row)
+        if fold.unjudged and not self.is_sum(row, part): return own.LEFT + (' on bytes that may be a structure' if own.is_opaque(part) else ' on floats, whose order of adding is open')
+        if fold.unjudged:
+            reach = folds.Reach(self.calls, row, order, 'sum')
+            if reach.found: self.tell_results(key, 'is out of the reach of any order of its operands (the tool\'s own arithmetic, not proved)', reach.found)
+        self.held.add(key)
+        self.folded['%s of %s' % (self.calls.kind_of(key), folds.basics_of(part))] += 1
+        return None
+
+    def is_sum(self, row, part): return self.record.has_sums and part.type in folds.SUMS['sum']
+
+    def tell_own(self, key, title, more, line):
+        self.tell(key, title, more[:-1] + [(more[-1][0], more[-1][1] + [line])])
+
     def hold(self, key, row, part):
         reach = folds.Reach(self.calls, row, self.calls.order[key[0]])
         gives = any(other.items for other in row.values()) and not (part.kind == 'exscan' and len(row) == 1)
         if gives and not reach.judged and not reach.unjudged: return 'its result was never seen'
         if reach.unjudged and not reach.judged: return folds.floats.UNJUDGED
-        if reach.found: self.tell(key, 'is out of the reach of any order of its operands (the tool\'s own arithmetic, not proved)', reach.found)
+        if reach.found: self.tell_results(key, 'is out of the reach of any order of its operands (the tool\'s own arithmetic, not proved)', reach.found)
         self.held.add(key)
         self.unjudged += reach.unjudged
         self.bounded['%s %s of %s' % (self.calls.kind_of(key), part.operation, part.type)] += 1
@@ -195,19 +252,36 @@ class Choice:
             if any(edges.get(int(to), {}).get(str(place)) != number for place, row in edges.items() for to, number in row.items()): return False
         return True
 
+    def cross_grid(self, key, row):
+        """A grid with one rank on both sides, as it is made and as it is used."""
+        if all(part.kind == 'create' and part.tag == 'call' for part in row.values()) and any(part.grid and grids.is_twice(part.grid) for part in row.values()):
+            self.crossed.add(key)
+            for part in row.values():
+                if part.grid and part.graph: part.graph = [part.graph[0], grids.cross_list(part.graph[1], grids.crossed_order(part.grid))]
+        if not all(part.kind.startswith('neighbor_alltoall') and part.tag == 'call' for part in row.values()): return
+        maker = self.made_as(key[0])
+        if maker not in self.crossed: return
+        known = {rank: part.grid for rank, part in self.calls.rows[maker].items() if part.grid}
+        if not set(row) <= set(known): return
+        def result_of(part): return next((teller.result for teller in folds.tellers(self.calls, part) if teller.result and teller.result[0] in '-0123456789'), None)
+        is_open = all(grids.is_open(part.kind, self.record.standard) for part in row.values())
+        is_kept = is_open and grids.keeps_order(row, self.calls.order[key[0]], known, result_of)
+        if is_kept: self.slips.group(row[min(row)], grids.OPEN)
+        for rank, part in row.items(): grids.cross(part, known[rank], is_kept)
+
     def leave_graph(self, key, row):
         if all(part.kind == 'dist_graph' for part in row.values()): self.gone.update(self.calls.made_by(key))
         for part in row.values(): part.graph = None
 
     def reason_of_grid(self, key, kind):
-        """Why a call among neighbours on a grid or a general graph is left out. Which of two blocks meets which, where both neighbours in a
-        dimension are one rank, isn't told apart here."""
+        """Why a call among neighbours on a grid or a general graph is left out. Which of two blocks meets which, where one rank stands twice among
+        a graph's neighbours, isn't told apart here."""
         maker = self.made_as(key[0])
         if not maker or self.calls.kind_of(maker) != 'create': return None
         parts = [part for part in self.calls.rows[maker].values() if part.result != 'null']
         if any(part.graph is None for part in parts): return 'its grid or graph has an edge that is none at its other end'
-        is_twice = any(len(set(words)) < len(words) for words in (graph_words(part.graph[0]) for part in parts))
-        return 'a neighbour that stands twice on its grid' if is_twice and kind.startswith('neighbor_alltoall') else None
+        is_twice = maker not in self.crossed and any(len(set(words)) < len(words) for words in (graph_words(part.graph[0]) for part in parts))
+        return 'a neighbour that stands twice on its graph' if is_twice and kind.startswith('neighbor_alltoall') else None
 
 
 def difference_of_words(parts):
@@ -247,16 +321,3 @@ def make_one_type(calls, row):
             for teller in calls.waits[rank, part.name] if part.nonblocking else [part]:
                 if re.fullmatch(r'-?\d+( -?\d+)*', teller.result or ''): teller.result = ' '.join(bytes_of(teller.result.split(), part.type))
     for part in row.values(): part.type = part.type and 'u8'
-
-
-def leaves_range(row):
-    """Whether a sum or product leaves a signed type: C and MPI don't say what it gives then."""
-    part = next(iter(row.values()))
-    if part.operation not in ('sum', 'prod') or part.type not in ('i8', 'i16', 'i32', 'i64'): return False
-    limit, running = 1 << 8 * WIDTH[part.type] - 1, None
-    for rank in sorted(row):
-        items = [int(item) for item in row[rank].items.split()]
-        if running is None: running = items
-        else: running = [old + new if part.operation == 'sum' else old * new for old, new in zip(running, items)]
-        if any(not -limit <= value < limit for value in running): return True
-    return False

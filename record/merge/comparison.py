@@ -1,9 +1,9 @@
 """What this MPI gave, held against what the evaluation gives."""
 import collections, re, subprocess
 
-from .choice import leaves_range
+from . import around, grids
+from .folds import leaves_range
 from .parts import Part, Unreadable
-from .slips import Slips
 
 TOLD_RANKS = 8
 ADDRESS = re.compile('0x[0-9a-f]+')
@@ -61,7 +61,8 @@ class Comparison:
     waits, with its script; `compared` counts results, `checked` has the keys of their calls."""
 
     def __init__(self, record, calls, choice, programs):
-        self.record, self.calls, self.choice, self.programs, self.slips = record, calls, choice, programs, Slips(record, calls)
+        self.record, self.calls, self.choice, self.programs, self.slips = record, calls, choice, programs, choice.slips
+        self.shifted = set()                                # communicators of which it was told which calls each rank makes
         self.reports = [(key, title, self.part_lines(rows, Part.told_types if 'types' in title else Part.told)) for key, title, rows in choice.reports]
         self.compared, self.checked, self.seen, self.told = 0, set(), set(), set()
         self.waiting, self.waiting_ranks, self.has_waits = {}, set(), True
@@ -129,6 +130,25 @@ class Comparison:
         lines = [line for part, more in rows[:TOLD_RANKS] for line in [self.part_line(part, told)] + more]
         return lines + ['  .. and %d ranks more' % (len(rows) - TOLD_RANKS)] * (len(rows) > TOLD_RANKS)
 
+    def around(self, key, title):
+        """Where the ranks call different things, once of each communicator."""
+        is_other = title.endswith(('in the kind', 'in the mode')) or 'fault Kind' in title or 'fault Mode' in title
+        if not is_other or key[0] in self.shifted: return []
+        self.shifted.add(key[0])
+        return around.lines(self.record, self.calls, key)
+
+    def behind_free(self, calls):
+        """Of each use of a communicator behind its free a title with lines."""
+        groups = {}
+        for part in calls.behind_free:
+            communicator = calls.known[part.rank].get(part.words[2])
+            maker = calls.rows.get(calls.maker.get(communicator), {}).get(part.rank)
+            name = calls.name_of(communicator) if communicator else part.words[2]
+            made = ', made at ' + self.record.place_of(maker) if maker else ''
+            groups.setdefault((part.kind, self.record.place_of(part), name + made), []).append(part)
+        return [('%s is called behind the free of its communicator, which is the program\'s error: %s' % (kind, name),
+                 self.part_lines([(part, []) for part in parts])) for (kind, _, name), parts in groups.items()]
+
     def refusals(self, calls):
         """Of each call that this MPI refused for its arguments a title with lines; ranks that were told the same stand together."""
         groups = {}
@@ -146,15 +166,18 @@ class Comparison:
         if line.startswith('fault'):
             amounts = self.choice.amounts_of(key) if line.startswith('fault Amount') else None
             title = 'doesn\'t fit together: ' + line + (' (%s)' % amounts if amounts else '')
+            if key in self.choice.faults: return
             self.reports.append((key, title, self.part_lines([(row[rank], []) for rank in sorted(row)])))
             return
         lines = []
         for part, given, line in rows[:TOLD_RANKS]: lines += [self.part_line(part), '    ' + difference(part, given, line)]
         if leaves_range(row): lines.append('    (past the range of a signed type, of which C and MPI say nothing; the proved value wraps)')
         if len(rows) > TOLD_RANKS: lines.append('  .. and at %d ranks more' % (len(rows) - TOLD_RANKS))
-        use = self.slips.use_of(row)
-        if use: lines.append('    (%s; MPI forbids that, so this isn\'t the MPI\'s fault)' % use)
-        self.reports.append((key, 'differs, where a buffer was in use' if use else 'differs', lines))
+        if key in self.choice.faults: return                # which is told already
+        use = self.slips.use_of(row, {part.rank for part, _, _ in rows})
+        if use: lines.append(use[1])
+        if row[min(row)].kind.startswith('neighbor_alltoall') and self.choice.made_as(key[0]) in self.choice.crossed: lines.append(grids.CROSSED)
+        self.reports.append((key, 'differs, ' + use[0] if use else 'differs', lines))
 
 
 def spelled(part, line):

@@ -144,14 +144,14 @@ class Reach:
     """Of a sum or product of floats: `found`, the parts with what is told of the first number that no order of the operands gives; `judged` and
     `unjudged` count numbers."""
 
-    def __init__(self, calls, row, order):
+    def __init__(self, calls, row, order, operation=None):
         self.row, self.order, self.found, self.judged, self.unjudged = row, order, [], 0, 0
-        part = next(iter(row.values()))
-        self.test = floats.within_sum if part.operation == 'sum' else floats.within_product
+        self.operation = operation or next(iter(row.values())).operation
+        self.test = floats.within_sum if self.operation == 'sum' else floats.within_product
         self.items = {rank: floats.fields([int(word) for word in other.items.split()], other.type) for rank, other in row.items()}
         for rank in sorted(row):
             result = result_of(calls, row[rank])
-            told = self.first_off(row[rank], floats.fields(result, part.type)) if result else None
+            told = self.first_off(row[rank], floats.fields(result, row[rank].type)) if result else None
             if told: self.found.append((row[rank], ['    ' + told]))
 
     def first_off(self, part, result):
@@ -165,7 +165,7 @@ class Reach:
                 else: self.judged += 1
                 if off in (None, floats.UNJUDGED) or told: continue
                 told = 'number %d: this MPI gave %s, the exact %s is near %.17g; it is off by %.3g, and any order by %.3g at most' % (
-                    place, floats.spell(item[field], form), 'sum' if part.operation == 'sum' else 'product', *map(near, off))
+                    place, floats.spell(item[field], form), 'sum' if self.operation == 'sum' else 'product', *map(near, off))
         return told
 
 
@@ -178,3 +178,16 @@ def basics_of(part):
     """The type's name for a report."""
     blocks = types.blocks_of(part.sent)
     return blocks[0][1] if part.type == 'bytes' and blocks else part.type
+
+
+def leaves_range(row):
+    """Whether a sum or product leaves a signed type: C and MPI don't say what it gives then."""
+    part = next(iter(row.values()))
+    if part.operation not in ('sum', 'prod') or part.type not in ('i8', 'i16', 'i32', 'i64'): return False
+    limit, running = 1 << 8 * WIDTH[part.type] - 1, None
+    for rank in sorted(row):
+        items = [int(item) for item in row[rank].items.split()]
+        if running is None: running = items
+        else: running = [old + new if part.operation == 'sum' else old * new for old, new in zip(running, items)]
+        if any(not -limit <= value < limit for value in running): return True
+    return False

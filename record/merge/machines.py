@@ -2,14 +2,16 @@
 import json
 from xml.sax.saxutils import escape, quoteattr
 
+from .outcome import is_own
+
 
 def as_json(outcome, told, status):
     """`told` has the title and the lines of each call that differs."""
-    differences = [dict(title=title, lines=[line.strip() for line in lines]) for title, lines in told]
+    differences = [dict(title=title, own_error=is_own(title), lines=[line.strip() for line in lines]) for title, lines in told]
     return json.dumps(dict(
         status=status, mpi=outcome.record.mpi, ranks=outcome.record.size, calls=outcome.calls, checked=outcome.checked,
         held_to_bounds=outcome.held, results=outcome.comparison.compared, differences=differences,
-        waiting=outcome.waiting, ended_early=outcome.ended, notes=outcome.notes, left_out=dict(outcome.left), summary=outcome.summary()), indent=1) + '\n'
+        waiting=outcome.waiting, ended_early=outcome.ended, ended_from_outside=outcome.is_outside, notes=outcome.notes, left_out=dict(outcome.left), summary=outcome.summary()), indent=1) + '\n'
 
 
 def case(name, kind='', message='', text=''):
@@ -21,7 +23,7 @@ def case(name, kind='', message='', text=''):
 def as_junit(outcome, told, status):
     """A case for each difference, one for ranks that wait, one for each kind of calls that are left out, and one for the whole."""
     cases = [case(title, 'failure', lines[0].strip() if lines else title, '\n'.join(lines)) for title, lines in told]
-    if outcome.waiting: cases.append(case('the run was ended early' if outcome.ended else 'ranks wait', 'failure', outcome.waiting[0], '\n'.join(outcome.waiting)))
+    if outcome.waiting: cases.append(case('the run was ended early' if outcome.ended else 'the run was ended from outside' if outcome.is_outside else 'ranks wait', 'failure', outcome.waiting[0], '\n'.join(outcome.waiting)))
     cases += [case('left out: ' + what, 'skipped', '%d calls' % number) for what, number in sorted(outcome.left.items())]
     failures = sum('<failure' in line for line in cases)
     is_green = status == 0 or failures

@@ -7,6 +7,12 @@ NO_DIFFERENCE, DIFFERENCES, UNREADABLE, WAITS, LITTLE, ENDED = range(6)         
 SHOWN_NOTES, SHOWN_BOUNDS = 20, 6
 
 
+def is_own(title):
+    """Whether a title blames the program."""
+    return any(words in title for words in ('the program\'s error', 'caller\'s error', 'the program\'s buffers', 'doesn\'t fit together', 'is left out, but',
+                                            'types that don\'t match', 'a buffer was in use'))
+
+
 def counted(number, what):
     return '%d %s%s' % (number, what, '' if number == 1 else 's')
 
@@ -17,22 +23,23 @@ class Outcome:
 
     def __init__(self, record, calls, choice, comparison, waiting, is_strict=False):
         self.record, self.comparison, self.is_strict = record, comparison, is_strict
-        self.waiting, self.ended = waiting.lines, bool(waiting.causes)
+        self.waiting, self.ended, self.is_outside = waiting.lines, bool(waiting.causes), waiting.is_outside
         self.reports = comparison.reports
         comparison.slips.finish(choice.taken, {key for key, _, _ in self.reports})
         self.notes = record.notes + comparison.slips.notes
         self.left = collections.Counter({what: number for what, number in choice.left.items() if number})
         for what, number in calls.unnamed.items(): self.left[what] += number
         own = {key for key, row in calls.rows.items() if all(part.place == 'self' for part in row.values())}
-        self.refused = len(comparison.refusals(calls))
-        self.calls = len(calls.rows) - len(own) + sum(calls.unnamed.values()) + self.refused
-        self.checked = len(comparison.checked - choice.held - own)              # the making of MPI_COMM_SELF is the recorder's
+        self.refused, self.behind_free = len(comparison.refusals(calls)), len(comparison.behind_free(calls))
+        self.calls = len(calls.rows) - len(own) + sum(calls.unnamed.values()) + self.refused + self.behind_free
+        self.checked = len((comparison.checked | choice.faults) - choice.held - own)    # the making of MPI_COMM_SELF is the recorder's
+        self.folded, self.unseen = choice.folded, sum(calls.unseen.values())
         self.bounded, self.held, self.unjudged = choice.bounded, len(choice.held), choice.unjudged
 
     def status(self):
-        if self.ended: return ENDED
+        if self.ended or self.is_outside: return ENDED
         if self.waiting: return WAITS
-        if self.reports or self.refused: return DIFFERENCES
+        if self.reports or self.refused or self.behind_free: return DIFFERENCES
         if self.is_little() or self.is_strict and self.checked + self.held < self.calls: return LITTLE
         return NO_DIFFERENCE
 
@@ -41,20 +48,30 @@ class Outcome:
         return self.calls == 0 or 2 * (self.checked + self.held) < self.calls
 
     def verdict(self):
-        number, words = len({key for key, _, _ in self.reports}), []
-        if number: words.append(counted(number, 'call') + (' differs or doesn\'t fit' if number == 1 else ' differ or don\'t fit'))
+        words, keys, own = [], {key for key, _, _ in self.reports}, {key for key, title, _ in self.reports if is_own(title)}
+        if keys - own: words.append(counted(len(keys - own), 'call') + (' differs' if len(keys - own) == 1 else ' differ'))
+        if own: words.append(counted(len(own), 'call') + (' is' if len(own) == 1 else ' are') + ' the program\'s own error')
         if self.refused: words.append(counted(self.refused, 'call') + (' was' if self.refused == 1 else ' were') + ' refused')
+        if self.behind_free: words.append(counted(self.behind_free, 'call') + ' behind the free of a communicator')
         if self.ended: words.append('the run was ended early')
+        elif self.is_outside: words.append('the run was ended from outside')
         elif self.waiting: words.append('ranks wait')
         if words: return '; '.join(words)
+        if not self.calls: return 'nothing was checked: the program made no collective call'
         if not self.checked + self.held: return 'nothing was checked'
         if self.checked == self.calls: return 'no difference'
         return ('little was checked: ' if self.is_little() else '') + 'no difference in these'
 
     def summary(self):
-        return '%s; %s; checked %d of %s, %s; %s%s' % (
+        return '%s; %s; checked %d of %s%s, %s; %s%s' % (
             self.record.mpi[:60], counted(self.record.size, 'rank'), self.checked, counted(self.calls, 'call'),
-            counted(self.comparison.compared, 'result'), '%d more held to bounds; ' % self.held if self.held else '', self.verdict())
+            ' (%d of kinds that aren\'t recorded)' % self.unseen if self.unseen else '', counted(self.comparison.compared, 'result'), self.more(), self.verdict())
+
+    def more(self):
+        """What was held to something else than the standard's value."""
+        folded = sum(self.folded.values())
+        bounds = '%d more held to bounds; ' % (self.held - folded) if self.held > folded else ''
+        return bounds + ('%d more by the program\'s own operation; ' % folded if folded else '')
 
     def bounds(self):
         some = ['%d %s' % (number, what) for what, number in self.bounded.most_common(SHOWN_BOUNDS)]
@@ -67,9 +84,11 @@ class Outcome:
         lines = ['note: ' + note for note in notes[:SHOWN_NOTES]]
         if len(notes) > SHOWN_NOTES: lines.append('note: and %d more' % (len(notes) - SHOWN_NOTES))
         if self.bounded: lines.append('held to bounds, by the tool\'s own arithmetic: ' + self.bounds())
+        if self.folded: lines.append('held against the program\'s own operation, in the order of ranks: '
+                                     + ', '.join('%d %s' % (number, what) for what, number in self.folded.most_common()))
         lines += ['left out: %d %s' % (number, what) for what, number in sorted(self.left.items())]
         unended = [str(rank) for rank in range(record.size) if record.ended[rank] != 'end']
         if unended: lines.append('no MPI_Finalize at rank%s %s' % ('s' * (len(unended) > 1), ' '.join(unended)))
-        if self.waiting and not self.ended and not self.comparison.has_waits:
+        if self.waiting and not self.ended and not self.is_outside and not self.comparison.has_waits:
             lines.append('the program waits isn\'t at hand: what is said of waiting ranks is from the record alone (bench/look waits builds it)')
         return lines + [self.summary()]

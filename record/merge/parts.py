@@ -36,21 +36,24 @@ def amount_of(numbers): return numbers.count(' ') + 1 if numbers else 0
 class Part:
     """One rank's part of a call, or its wait for one. `items` are numbers with blanks between; `sent` and `awaited` what stands in a line
     `types`; `spelled`, where the script has other numbers than the program, gives the program's for one of the script's; `plain` is
-    how it was told before its numbers became bytes; `named` what a report calls its communicator, where that is known."""
+    how it was told before its numbers became bytes; `named` what a report calls its communicator, where that is known; `own` the program's
+    operation by which it goes, and `fold` what that gives in the order of ranks."""
     __slots__ = ('rank id tag thread place kind nonblocking communicator root operation type lists items name request'
-                 ' result key graph words sent awaited slips shown spelled position plain named').split()
+                 ' result key graph words sent awaited slips shown spelled position plain named own fold grid').split()
 
     def __init__(self, rank, ident, tag, place, kind, rest=''):
         self.rank, self.id, self.tag, self.place = rank, ident, tag, place
         self.communicator = self.root = self.operation = self.type = self.name = self.request = None
         self.result = self.key = self.graph = self.sent = self.awaited = self.shown = self.spelled = self.words = self.plain = self.named = None
         self.lists, self.items, self.nonblocking, self.thread, self.slips = [], '', False, 1, ()
+        self.own = self.fold = self.grid = None
         self.kind = kind
         if kind.startswith('i') and kind[1:] in FIELDS: self.kind, self.nonblocking = kind[1:], True
         if tag == 'call': self.read_call(rest)
         else:
             self.words = [kind] + rest.split()
             if len(self.words) > 1: self.communicator = self.words[1]
+            if tag == 'unknown' and self.communicator == 'freed' and len(self.words) != 3: raise ValueError('no name')
         if tag == 'left': self.root, self.operation, self.type, _ = self.words[2:6]
 
     def read_call(self, rest):
@@ -123,6 +126,10 @@ class Part:
         some = items.split(' ', most)
         if len(some) > most: some[most:] = ['..', '(%d numbers)' % amount_of(items)]
         return ' '.join(words + [self.spell(word) for word in some if word])
+
+    def is_misplaced(self):
+        """Whether it gives MPI_IN_PLACE where only the root may."""
+        return self.tag == 'left' and self.words[-1] == 'in_place'
 
     def told_types(self, most):
         """For a report of types: what it sends and awaits, in the place of its numbers."""

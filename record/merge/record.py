@@ -5,9 +5,10 @@ from .parts import NUMBERS, Part, TAGS, Unreadable
 
 RESULT = re.compile(r'ok|none|null|empty|reordered|-|error \d+( .*)?|refused \w+( .*)?|comm \d+ \d+')
 NEIGHBOURS = re.compile(r'-w?|\d+(:\d+)?(,\d+(:\d+)?)*')
+PAIR = re.compile(r'(-|\d+),(-|\d+)')
 SIDE = re.compile(r'-|\d+\*[^,]+(,\d+(\*[^,]+)?)*|-\d.*')
 LAST = ('end', 'abort', 'fatal', 'signal', 'exit', 'hang')
-SLIPS = ('aliased', 'in_use', 'changed')
+SLIPS = dict(aliased=0, in_use=1, changed=0, overlapping=2, unordered=2, bracketed=0)       # each with so many numbers
 
 
 def texts_of(path):
@@ -27,11 +28,14 @@ def texts_within(text):
 
 class Record:
     """`parts` has each rank's in the order in which they were written; `ended` the tag of its last line (LAST), or None, and `last` that line's
-    words; `missing` ranks without a file; `freed` the names of each rank's communicators that it freed."""
+    words; `missing` ranks without a file; `freed` the names of each rank's communicators that it freed; `operations` the program's own, by rank
+    and number, `has_folds` whether they were called, and `has_sums` whether they are told to be sums; `amounts` what a rank tells twice of one
+    call, and otherwise; `standard` the version of MPI that this one claims to be."""
 
     def __init__(self, text_of):
         self.text_of, self.modules, self.notes, self.mpi, self.run = text_of, {}, [], '?', None
         self.parts, self.ended, self.last, self.missing, self.freed, self.has_messages = [], [], [], {}, [], False
+        self.operations, self.has_folds, self.has_sums, self.amounts, self.standard = {}, False, False, {}, 4
         self.size = self.find_size()
         for rank in range(self.size): self.read(rank, self.lines_of(rank))
         self.places = self.find_places()
@@ -45,7 +49,7 @@ class Record:
             size = int(lines[0].split()[1])
             if size < 1: raise Unreadable('rank %d: no ranks' % rank)
             return size
-        raise Unreadable('rank 0 has no record: %s; was the program run here, with LD_PRELOAD?' % self.missing[0])
+        raise Unreadable('rank 0 has no record: %s; was the program run here, with LD_PRELOAD, and does it call MPI_Init?' % self.missing[0])
 
     def lines_of(self, rank):
         why = 'its file is empty'
@@ -57,19 +61,19 @@ class Record:
         return lines
 
     def read(self, rank, lines):
-        parts, graphs = {}, {}
+        parts, graphs, grids = {}, {}, {}
         self.ended.append(None)
         self.last.append([])
         self.freed.append(set())
         for number, line in enumerate(lines, 1):
-            try: self.read_line(rank, line, parts, graphs)
+            try: self.read_line(rank, line, parts, graphs, grids)
             except (IndexError, KeyError, ValueError, TypeError) as error:
                 raise Unreadable('rank %d, line %d can\'t be read (%s): %s' % (rank, number, error, line[:80]))
         if lines and not any(line.startswith('run ') for line in lines[:8]): raise Unreadable('rank %d: its file has no line `run NUMBER`' % rank)
-        for part in parts.values(): part.graph = graphs.get(part.name)
+        for part in parts.values(): part.graph, part.grid = graphs.get(part.name), grids.get(part.name)
         self.parts.append(list(parts.values()))
 
-    def read_line(self, rank, line, parts, graphs):
+    def read_line(self, rank, line, parts, graphs, grids):
         tag, _, rest = line.partition(' ')
         tag, _, thread = tag.partition('/')
         if tag in TAGS: self.read_part(rank, tag, int(thread or 1), rest, parts)
@@ -83,15 +87,33 @@ class Record:
             parts[int(ident)].sent, parts[int(ident)].awaited = sent, awaited
         elif tag == 'slip':
             ident, word, *more = rest.split()
-            if word not in SLIPS: raise ValueError('no slip')
+            if SLIPS[word] != len(more): raise ValueError('no slip')
             parts[int(ident)].slips += ((word, *map(int, more)),)
+        elif tag == 'operation':
+            ident, place, kind, flag = rest.split()
+            if flag not in ('commutes', 'ordered'): raise ValueError('no operation')
+            self.operations[rank, int(ident)] = Part(rank, int(ident), tag, place, kind, flag)
+        elif tag == 'own':
+            ident, number = rest.split()
+            parts[int(ident)].own = self.operations[rank, int(number)]
+        elif tag == 'fold':
+            ident, numbers = rest.split(' ', 1)
+            if not NUMBERS.fullmatch(numbers): raise ValueError('no numbers')
+            parts[int(ident)].fold = numbers
         elif tag == 'graph':
             name, *lists = rest.split()
             if len(lists) != 2 or not all(NEIGHBOURS.fullmatch(word) for word in lists): raise ValueError('no neighbours')
             graphs[name] = lists
+        elif tag == 'grid':
+            name, *pairs = rest.split()
+            if not all(PAIR.fullmatch(pair) for pair in pairs): raise ValueError('no grid')
+            grids[name] = [pair.split(',') for pair in pairs]
         elif tag == 'freed': self.freed[rank].add(rest)
         elif tag == 'module': self.modules[rank, rest.split(' ', 1)[0]] = rest.split(' ', 1)[1]
-        elif tag == 'note': self.notes.append('rank %d: %s' % (rank, rest))
+        elif tag == 'note':
+            found = re.fullmatch(r'call (\d+): (.*)', rest)
+            if found: self.amounts[rank, int(found[1])] = found[2]
+            else: self.notes.append('rank %d: %s' % (rank, rest))
         elif tag in LAST: self.end(rank, tag, rest.split())
         else: self.read_head(rank, line, line.split())
 
@@ -111,6 +133,8 @@ class Record:
     def read_head(self, rank, line, words):
         if words[0] == 'mpi': self.mpi = re.sub(r'\s*Version:\s*', ' ', line[4:]).split(',')[0]
         elif words[0] == 'messages': self.has_messages = True
+        elif words[0] == 'standard': self.standard = int(words[1])
+        elif words[0] == 'operations': self.has_folds, self.has_sums = True, words[1:] == ['sums']
         elif words[0] == 'run':
             self.run = self.run or words[1]
             if self.run != words[1]: raise Unreadable('rank %d\'s file is of another run than rank 0\'s' % rank)
@@ -127,7 +151,7 @@ class Record:
     def find_places(self):
         """Source lines, by addr2line where there is one."""
         wanted, found = collections.defaultdict(set), {}
-        for parts in self.parts:
+        for parts in self.parts + [self.operations.values()]:
             for part in parts:
                 path, offset = self.module_of(part)
                 if path: wanted[path].add(offset)

@@ -1,8 +1,9 @@
-"""What MPI forbids a program though most MPIs let it pass, as notes: one buffer for both, a buffer in use, a request that is never completed, a
+"""What MPI forbids a program though most MPIs let it pass, as notes: buffers that overlap, a buffer in use, a request that is never completed, a
 communicator that is never freed, a signed sum past its type's range."""
-from .choice import leaves_range
+from .folds import leaves_range
 
 SHOWN_PLACES = 4
+IN_USE, OVERLAPPING = 'where a buffer was in use', 'where the program\'s buffers overlap'
 
 
 def ranks_of(ranks):
@@ -11,7 +12,8 @@ def ranks_of(ranks):
 
 
 class Slips:
-    """`uses` says of a part why its values aren't the MPI's alone; `notes` has lines."""
+    """`uses` says of a part why its values aren't the MPI's alone: what a title says, the words for it, and whether it is so for its own result
+    alone; `notes` has lines."""
 
     def __init__(self, record, calls):
         self.record, self.calls, self.uses = record, calls, {}
@@ -22,24 +24,32 @@ class Slips:
                 for slip in part.slips: self.take(part, slip, known)
 
     def take(self, part, slip, known):
-        if slip[0] == 'aliased': self.group(part, 'what it sends lies where its result will lie, and isn\'t MPI_IN_PLACE')
-        elif slip[0] == 'changed':
-            self.uses[part.rank, part.id] = 'what it sends was changed before it was completed'
-            self.group(part, self.uses[part.rank, part.id])
-        elif len(slip) > 1 and slip[1] in known:
+        if slip[0] == 'aliased': self.use(part, OVERLAPPING, 'what it sends lies where its result will lie, and isn\'t MPI_IN_PLACE')
+        elif slip[0] == 'overlapping': self.use(part, OVERLAPPING, self.overlap(part, *slip[1:]), True)
+        elif slip[0] == 'changed': self.use(part, IN_USE, 'what it sends was changed before it was completed')
+        elif slip[0] == 'in_use' and slip[1] in known:
             other = known[slip[1]]
-            self.uses.setdefault((part.rank, part.id), 'its buffer is that of %s, which isn\'t completed' % self.described(other))
-            self.uses.setdefault((other.rank, other.id), 'its buffer is used by %s before it is completed' % self.described(part))
-            self.group(part, self.uses[part.rank, part.id])
+            self.use(part, IN_USE, 'its buffer is that of %s, which isn\'t completed' % self.described(other))
+            self.uses.setdefault((other.rank, other.id), (IN_USE, 'its buffer is used by %s before it is completed' % self.described(part), False))
+
+    def use(self, part, title, text, is_local=False):
+        self.group(part, self.uses.setdefault((part.rank, part.id), (title, text, is_local))[1])
+
+    def overlap(self, part, one, other):
+        order = self.calls.order[part.key[0]] if part.key else {}
+        if part.kind.startswith('neighbor') or one not in order or other not in order: return 'of what it receives, blocks %d and %d overlap' % (one, other)
+        return 'what it receives from ranks %d and %d overlaps' % (order[one], order[other])
 
     def described(self, part): return '%s at %s' % (part.name_of_kind(), self.record.place_of(part))
 
     def group(self, part, text): self.grouped.setdefault((self.described(part), text), []).append(part.rank)
 
-    def use_of(self, row):
-        """Why a call's results aren't the MPI's alone, with the rank, or None."""
+    def use_of(self, row, ranks):
+        """Why these ranks' results of a call aren't the MPI's alone: what a title says, and a line; or None."""
         for rank in sorted(row):
-            if (rank, row[rank].id) in self.uses: return 'rank %d: %s' % (rank, self.uses[rank, row[rank].id])
+            title, text, is_local = self.uses.get((rank, row[rank].id), (None, None, False))
+            if title is None or is_local and any((other, row[other].id) not in self.uses for other in ranks): continue
+            return title, '    (rank %d: %s; MPI forbids that, so this isn\'t the MPI\'s fault)' % (rank, text)
         return None
 
     def finish(self, taken, told):
@@ -64,12 +74,16 @@ class Slips:
                     self.group(part, 'its request is never completed')
 
     def unfreed(self):
-        places = {}
+        """Communicators that are never freed, with the ranks where only some of them didn't."""
+        named = {}
         for (communicator, maker) in self.calls.maker.items():
-            for rank, part in self.calls.rows[maker].items():
-                is_open = self.record.ended[rank] == 'end' and part.name not in self.record.freed[rank] and part.place != 'self'
-                if is_open and rank in self.calls.members[communicator]: places.setdefault(communicator, self.record.place_of(part))
-        if not places: return []
-        named = list(dict.fromkeys('%s (%s)' % (self.calls.name_of(communicator), place) for communicator, place in places.items()))
+            parts = [part for rank, part in self.calls.rows[maker].items() if rank in self.calls.members[communicator] and part.place != 'self']
+            still = [part for part in parts if self.record.ended[part.rank] == 'end' and part.name not in self.record.freed[part.rank]]
+            if not still: continue
+            freed = [part.rank for part in parts if part.name in self.record.freed[part.rank]]
+            by = '; not by %s, but by %s' % (ranks_of(part.rank for part in still), ranks_of(freed)) if freed else ''
+            named['%s (%s%s)' % (self.calls.name_of(communicator), self.record.place_of(still[0]), by)] = None
+        if not named: return []
+        named = sorted(named, key=lambda words: '; not by ' not in words)
         more = ' and %d more' % (len(named) - SHOWN_PLACES) if len(named) > SHOWN_PLACES else ''
         return ['never freed: ' + ', '.join(named[:SHOWN_PLACES]) + more]

@@ -1,5 +1,11 @@
 /* persistent collectives, each started three times, one by one and together; MPI_INT and an own type */
 #include <mpi.h>
+#if MPI_VERSION < 4                     /* Open MPI 4 has them under other names */
+#include <mpi-ext.h>
+#define MPI_Allreduce_init MPIX_Allreduce_init
+#define MPI_Allgather_init MPIX_Allgather_init
+#define MPI_Bcast_init MPIX_Bcast_init
+#endif
 #define W MPI_COMM_WORLD
 int main(int argc, char **argv)
 {

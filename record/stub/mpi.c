@@ -76,6 +76,7 @@ DEFINE(Type_create_hindexed, int number, const int lengths[], const MPI_Aint pla
     (void)number; (void)places;
     return PMPI_Type_vector(1, lengths[0], 1, base, new);
 }
+MPI_Fint PMPI_Type_c2f(MPI_Datatype type) { (void)type; return 0; }
 DEFINE(Type_dup, MPI_Datatype type, MPI_Datatype *new) { *new = malloc(sizeof **new); **new = *type; return 0; }
 DEFINE(Type_vector, int blocks, int length, int stride, MPI_Datatype base, MPI_Datatype *new)
 {
@@ -86,6 +87,14 @@ DEFINE(Type_vector, int blocks, int length, int stride, MPI_Datatype base, MPI_D
 DEFINE(Type_commit, MPI_Datatype *type) { (void)type; return 0; }
 DEFINE(Type_free, MPI_Datatype *type) { free(*type); *type = 0; return 0; }
 DEFINE(Pack_size, int number, MPI_Datatype type, MPI_Comm comm, int *size) { (void)comm; *size = number * type->size; return 0; }
+DEFINE(Unpack, const void *from, int room, int *used, void *to, int number, MPI_Datatype type, MPI_Comm comm)
+{
+    char *at = (char *)from + *used;
+    (void)room; (void)comm;
+    convey(to, number, type, &at, 0);
+    *used = at - (char *)from;
+    return 0;
+}
 DEFINE(Pack, const void *from, int number, MPI_Datatype type, void *to, int room, int *used, MPI_Comm comm)
 {
     char *at = (char *)to + *used;
@@ -295,6 +304,7 @@ DEFINE(Init, int *argc, char ***argv) { (void)argc; (void)argv; return 0; }
 DEFINE(Init_thread, int *argc, char ***argv, int required, int *provided) { (void)argc; (void)argv; *provided = required; return 0; }
 DEFINE(Finalize, void) { return 0; }
 DEFINE(Abort, MPI_Comm comm, int code) { (void)comm; exit(code); }
+DEFINE(Get_version, int *version, int *part) { *version = 3; *part = 1; return 0; }
 DEFINE(Get_library_version, char *version, int *size) { strcpy(version, "stub of one rank"); *size = strlen(version); return 0; }
 DEFINE(Error_class, int error, int *class) { *class = error; return 0; }
 DEFINE(Error_string, int error, char *text, int *size) { (void)error; strcpy(text, "an error"); *size = strlen(text); return 0; }
@@ -303,4 +313,6 @@ DEFINE(Comm_create_errhandler, MPI_Comm_errhandler_function *function, MPI_Errha
 DEFINE(Comm_get_errhandler, MPI_Comm comm, MPI_Errhandler *handler) { *handler = comm->handler ? comm->handler : MPI_ERRORS_ARE_FATAL; return 0; }
 DEFINE(Comm_set_errhandler, MPI_Comm comm, MPI_Errhandler handler) { comm->handler = handler; return 0; }
 DEFINE(Comm_call_errhandler, MPI_Comm comm, int error) { (void)comm; exit(error); }
+DEFINE(Comm_get_parent, MPI_Comm *parent) { *parent = MPI_COMM_NULL; return 0; }
+DEFINE(Comm_set_info, MPI_Comm comm, MPI_Info info) { (void)comm; (void)info; return 0; }
 DEFINE(Comm_test_inter, MPI_Comm comm, int *is_inter) { (void)comm; *is_inter = 0; return 0; }

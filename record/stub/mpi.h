@@ -9,6 +9,7 @@ typedef int MPI_Op;
 typedef long MPI_Aint;
 typedef long MPI_Count;
 typedef int MPI_Info;
+typedef int MPI_Fint;
 typedef int MPI_Errhandler;
 typedef struct stub_request *MPI_Request;
 typedef struct { int source; } MPI_Status;
@@ -186,6 +187,7 @@ BOTH(Init_thread, int *, char ***, int, int *)
 BOTH(Finalize, void)
 BOTH(Abort, MPI_Comm, int)
 BOTH(Get_library_version, char *, int *)
+BOTH(Get_version, int *, int *)
 BOTH(Error_class, int, int *)
 BOTH(Error_string, int, char *, int *)
 BOTH(Errhandler_free, MPI_Errhandler *)
@@ -243,9 +245,14 @@ BOTH(Type_create_hindexed, int, const int [], const MPI_Aint [], MPI_Datatype, M
 BOTH(Type_vector, int, int, int, MPI_Datatype, MPI_Datatype *)
 BOTH(Type_commit, MPI_Datatype *)
 BOTH(Type_dup, MPI_Datatype, MPI_Datatype *)
+MPI_Fint PMPI_Type_c2f(MPI_Datatype);
 BOTH(Type_free, MPI_Datatype *)
 BOTH(Pack_size, int, MPI_Datatype, MPI_Comm, int *)
 BOTH(Pack, const void *, int, MPI_Datatype, void *, int, int *, MPI_Comm)
+BOTH(Unpack, const void *, int, int *, void *, int, MPI_Datatype, MPI_Comm)
+BOTH(Comm_get_parent, MPI_Comm *)
+int MPI_Comm_set_info(MPI_Comm comm, MPI_Info info);
+int PMPI_Comm_set_info(MPI_Comm comm, MPI_Info info);
 #undef BOTH
 #undef TWICE
 #undef COUNTED

@@ -39,24 +39,62 @@ pub fn explain_results(
     found: &Findings,
     told: &mut Vec<u8>,
 ) -> Result<(), OutOfMemory> {
+    let columns = columns_of(alloc, script, found)?;
+    let pushed = push_results(alloc, text, columns.as_slice(), told);
+    drop(columns);
+    pushed
+}
+
+// What each rank has posted on `world`.
+fn columns_of<'s>(
+    alloc: Global,
+    script: &'s Script,
+    found: &Findings,
+) -> Result<Vec<Vec<Part<'s>>>, OutOfMemory> {
     let mut columns = Vec::new(alloc);
-    let mut rows = usize::MAX;
     for rank in 0..script.ranks() {
-        let column = posted(alloc, script, rank, found)?;
-        rows = rows.min(column.len());
-        columns.push(column)?;
+        columns.push(posted(alloc, script, rank, found)?)?;
     }
+    Ok(columns)
+}
+
+// Adds the lines of what is past its type in these columns.
+fn push_results(
+    alloc: Global,
+    text: &[u8],
+    columns: &[Vec<Part<'_>>],
+    told: &mut Vec<u8>,
+) -> Result<(), OutOfMemory> {
     let mut results = Vec::new(alloc);
-    for row in 0..rows {
-        let mut parts: Vec<Part<'_>> = Vec::new(alloc);
-        for column in &columns {
-            if let Some(part) = column.get(row) {
-                parts.push(*part)?;
-            }
-        }
-        push_past(alloc, &parts, &mut results)?;
+    for row in 0..rows_of(columns) {
+        push_row(alloc, columns, row, &mut results)?;
     }
     push_lines(alloc, text, &results, told)
+}
+
+// How many rows all columns have.
+fn rows_of(columns: &[Vec<Part<'_>>]) -> usize {
+    let mut rows = usize::MAX;
+    for column in columns {
+        rows = rows.min(column.len());
+    }
+    rows
+}
+
+// Adds what is past its type of a row.
+fn push_row(
+    alloc: Global,
+    columns: &[Vec<Part<'_>>],
+    row: usize,
+    results: &mut Vec<Past>,
+) -> Result<(), OutOfMemory> {
+    let mut parts: Vec<Part<'_>> = Vec::new(alloc);
+    for column in columns {
+        if let Some(part) = column.get(row) {
+            parts.push(*part)?;
+        }
+    }
+    push_past(alloc, &parts, results)
 }
 
 // What a rank has posted on `world`, in its order.

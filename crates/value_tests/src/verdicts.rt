@@ -47,21 +47,21 @@ const OP_AT_1: Verdict = Verdict::Fault(Fault {
 });
 
 // What both ranks post, the words of the job's own operations, and the verdict.
-const VERDICTS: [([Posted; 2], &[&'static str], Verdict); 14] = [
-    ([ROOT_2, SUM], &[], AMOUNT_AT_0),
-    ([SUM, ROOT_2], &[], AMOUNT_AT_1),
-    ([TO_ALL, SUM], &[], AMOUNT_AT_0),
-    ([SUM, TO_ALL], &[], AMOUNT_AT_1),
-    ([OF_ALL, SUM], &[], AMOUNT_AT_0),
-    ([SUM, OF_ALL], &[], AMOUNT_AT_1),
-    ([Create(&[]), Create(&[1, 2])], &[], AMOUNT_AT_1),
-    ([Just(kinds::DIST_GRAPH_ADJACENT), FAR], &[], AMOUNT_AT_1),
-    ([ONE, ONE], &["one", "other"], Verdict::Fine),
-    ([ONE, OTHER], &["one", "other"], OP_AT_1),
-    ([ONE, SINGLE], &["one", "other"], AMOUNT_AT_1),
-    ([SINGLE, SINGLE], &["one", "other"], AMOUNT_AT_0),
-    ([ONE, THIRD], &["one", "other"], AMOUNT_AT_1),
-    ([ONE, ONE], &[], AMOUNT_AT_0),
+const VERDICTS: [(&[Posted], &[&'static str], Verdict); 14] = [
+    (&[ROOT_2, SUM], &[], AMOUNT_AT_0),
+    (&[SUM, ROOT_2], &[], AMOUNT_AT_1),
+    (&[TO_ALL, SUM], &[], AMOUNT_AT_0),
+    (&[SUM, TO_ALL], &[], AMOUNT_AT_1),
+    (&[OF_ALL, SUM], &[], AMOUNT_AT_0),
+    (&[SUM, OF_ALL], &[], AMOUNT_AT_1),
+    (&[Create(&[]), Create(&[1, 2])], &[], AMOUNT_AT_1),
+    (&[Just(kinds::DIST_GRAPH_ADJACENT), FAR], &[], AMOUNT_AT_1),
+    (&[ONE, ONE], &["one", "other"], Verdict::Fine),
+    (&[ONE, OTHER], &["one", "other"], OP_AT_1),
+    (&[ONE, SINGLE], &["one", "other"], AMOUNT_AT_1),
+    (&[SINGLE, SINGLE], &["one", "other"], AMOUNT_AT_0),
+    (&[ONE, THIRD], &["one", "other"], AMOUNT_AT_1),
+    (&[ONE, ONE], &[], AMOUNT_AT_0),
 ];
 
 fn is_told(
@@ -86,7 +86,7 @@ fn verdict_on(alloc: Global, calls: &[Posted], ops: &Ops) -> Result<Verdict, Fai
 fn misfits_are_told_first(rt: HostRuntime) -> Result<(), Fail> {
     for (i, row) in VERDICTS.iter().enumerate() {
         let (calls, words, wanted) = *row;
-        assert!(rt; is_told(rt.alloc(), &calls, words, wanted)?, "row {i}");
+        assert!(rt; is_told(rt.alloc(), calls, words, wanted)?, "row {i}");
     }
     Ok(())
 }
