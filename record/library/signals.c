@@ -8,7 +8,7 @@
 #include <unistd.h>
 
 static const int deadly[] = {SIGSEGV, SIGBUS, SIGFPE, SIGILL, SIGABRT, SIGTERM, SIGINT, SIGHUP, SIGQUIT, SIGXCPU, SIGALRM, SIGUSR1, SIGUSR2};
-enum { SIGNALS = sizeof deadly / sizeof *deadly };
+enum { SIGNALS = sizeof deadly / sizeof *deadly, LIMITS = SIGNALS - 4 };      /* the last four are what launchers send at a limit */
 static int is_free[SIGNALS];            /* whether the program left it as it was */
 static struct sigaction before[SIGNALS];
 
@@ -76,7 +76,11 @@ void watch_signals(void)
     memset(&noting, 0, sizeof noting);
     noting.sa_sigaction = note_signal;
     noting.sa_flags = SA_SIGINFO;
-    for (int i = 0; i < SIGNALS; i++) if (is_free[i]) set_action(deadly[i], &noting, &before[i]);
+    for (int i = 0; i < SIGNALS; i++) {
+        if (!is_free[i]) continue;
+        set_action(deadly[i], &noting, &before[i]);
+        if (i >= LIMITS && before[i].sa_handler != SIG_DFL) set_action(deadly[i], &before[i], 0);       /* which the MPI may live on */
+    }
 }
 
 static void note_exit(int code, int is_mpi)
