@@ -119,10 +119,10 @@ class Outcome:
 
     def shortfall(self):
         """Where fewer calls were checked than is asked: how many, and what --accept calls those that were left out."""
-        if self.status() not in (FEWER, LITTLE) or not self.left or not self.asked.is_strict and self.asked.least is None: return []
+        if not (self.status() == FEWER or self.status() == LITTLE and self.asked.is_strict): return []
         kinds = collections.Counter()
         for title in set(self.left) - self.accepted_titles: kinds[kind_of(title)] += self.left[title]
-        done, wanted = self.done(), self.wanted()
         told = ', '.join('%d %s' % (kinds[kind], kind) for kind in [*KINDS, NO_KIND] if kinds[kind])
-        return ['%s: %d of %d calls were checked or held, %d in a hundred; left out, by the kinds of --accept: %s' % (
-            '--strict' if self.status() == LITTLE else '--least %d' % self.asked.least, done, wanted, 100 * done // max(1, wanted), told)]
+        return ['%s: %d of %d calls were checked or held, %d in a hundred%s' % (
+            '--strict' if self.status() == LITTLE else '--least %d' % self.asked.least, self.done(), self.wanted(),
+            100 * self.done() // max(1, self.wanted()), '; left out, by the kinds of --accept: ' + told if told else '')]
