@@ -18,12 +18,14 @@ class Choice:
     """`taken` has the keys of the calls for scripts; `blocks` those that are cut, with their length; `bounded` and `left` count the others by
     what is said of them, and `held` has the keys of the first, of whose numbers so many are `unjudged`. `reports` has calls of which something
     is told already: key, title, and parts with more lines; `faults` has the keys of those that can't be right whatever the MPI does; `amounts` those
-    of which two ranks' don't fit, with the words for it; `folded` counts those that were held against the program's own operation."""
+    of which two ranks' don't fit, with the words for it; `folded` counts those that were held against the program's own operation;
+    `left_calls` has the keys of those that `left` counts."""
 
     def __init__(self, record, calls, without_idup=False):
         self.record, self.calls, self.gone, self.without_idup, self.slips = record, calls, set(), without_idup, Slips(record, calls)
         self.taken, self.blocks, self.left, self.reports, self.faults, self.crossed = set(), {}, collections.Counter(), [], set(), set()
         self.bounded, self.held, self.unjudged, self.amounts, self.folded = collections.Counter(), set(), 0, {}, collections.Counter()
+        self.left_calls = collections.defaultdict(set)
         for key in sorted(calls.rows, key=lambda key: (len(key[0]), key[1])):
             reason = self.reason_for(key, calls.rows[key])
             if key in self.faults and reason: self.gone.update(calls.made_by(key))
@@ -31,8 +33,12 @@ class Choice:
             elif key not in self.held and self.base_of(key[0]) is not None: self.taken.add(key)
 
     def leave(self, key, reason):
-        self.left[self.calls.kind_of(key) + ': ' + reason] += 1
+        self.count_left(key, self.calls.kind_of(key) + ': ' + reason)
         self.gone.update(self.calls.made_by(key))
+
+    def count_left(self, key, title):
+        self.left[title] += 1
+        self.left_calls[title].add(key)
 
     def tell(self, key, title, more=None):
         row = self.calls.rows[key]
@@ -63,7 +69,7 @@ class Choice:
         if any(communicator[:length] in self.gone for length in range(1, len(communicator) + 1)): return 'its communicator is left out'
         base = self.base_of(communicator)
         if base is None:
-            if part.kind in MAKERS: self.left[part.name_of_kind() + ': more than 64 members'] += 1
+            if part.kind in MAKERS: self.count_left(key, part.name_of_kind() + ': more than 64 members')
             return None if part.kind in MAKERS else 'more than 64 members'
         if any(other.tag != 'call' for other in row.values()): return self.reason_recorded(key, row)
         if any(other.result == 'reordered' for other in row.values()): return 'its ranks are in another order'
@@ -115,6 +121,12 @@ class Choice:
         found = None if name else self.mismatch(key)
         what = 'its parts differ in the ' + name if name else found and found[1]
         if what: self.tell(key, 'doesn\'t fit together, of the ranks that came: ' + what)
+
+    def misfit(self, key):
+        """How the parts of a call don't fit together, in words, or None."""
+        row = self.calls.rows[key]
+        name = difference_of_words([row[rank] for rank in sorted(row)])
+        return 'its parts differ in the ' + name if name else self.amounts_of(key)
 
     def is_told(self, key): return any(key == told for told, _, _ in self.reports[-1:])
 

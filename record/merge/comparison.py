@@ -37,7 +37,7 @@ class Programs:
             self.check('gossipmpi', [self.gossipmpi, 'eval'])
             run = subprocess.run([self.gossipmpi, 'eval'], input=script.text, capture_output=True, text=True)
         except OSError as error:
-            raise Unreadable('no program %s (%s): record/README.md says how it is built, and --gossipmpi names another' % (self.gossipmpi, error.strerror))
+            raise Unreadable('no program %s (%s): record/README.md says how it is built, --gossipmpi names another, and --without-values needs none' % (self.gossipmpi, error.strerror))
         if run.returncode not in (0, 3):
             raise Unreadable('gossipmpi eval refuses the merged script: status %d, %s' % (run.returncode, run.stderr.strip()[:300]))
         lines = [[] for _ in script.ranks]
@@ -79,6 +79,13 @@ class Comparison:
         for key, rows in differing.items():
             if rows: self.tell(key, rows)
 
+    def compare_parts(self):
+        """In the place of all scripts, without values: whether the parts of each call fit together, by the tool's own reading."""
+        told = {key for key, _, _ in self.reports}
+        for key in sorted(self.choice.taken - told, key=lambda key: (len(key[0]), key[1])):
+            row, what = self.calls.rows[key], self.choice.misfit(key)
+            if what: self.reports.append((key, 'doesn\'t fit together: ' + what, self.part_lines([(row[rank], []) for rank in sorted(row)])))
+
     def take_waits(self, script, lines):
         """By key or, where a nonblocking call was refused, by part: what is said of it."""
         told, complaints = self.programs.ask_waits(script), {}
@@ -114,7 +121,7 @@ class Comparison:
         given = expected.given
         if given is None and not line.startswith(('fault', 'refused')): return
         if line == 'refused NotMember':                     # what should have made its communicator is told already
-            self.choice.left[expected.call.name_of_kind() + ': its communicator is none by the standard'] += 1
+            self.choice.count_left(expected.call.key, expected.call.name_of_kind() + ': its communicator is none by the standard')
             return
         if expected.how == 'refused': given = None
         self.compared += 1

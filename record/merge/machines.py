@@ -11,7 +11,9 @@ def as_json(outcome, told, status):
     return json.dumps(dict(
         status=status, mpi=outcome.record.mpi, ranks=outcome.record.size, calls=outcome.calls, checked=outcome.checked,
         held_to_bounds=outcome.held, results=outcome.comparison.compared, differences=differences,
-        waiting=outcome.waiting, ended_early=outcome.ended, ended_from_outside=outcome.is_outside, notes=outcome.notes, left_out=dict(outcome.left), summary=outcome.summary()), indent=1) + '\n'
+        waiting=outcome.waiting, ended_early=outcome.ended, ended_from_outside=outcome.is_outside, notes=outcome.notes, left_out=dict(outcome.left),
+        accepted={title: outcome.left[title] for title in sorted(outcome.accepted_titles)}, calls_accepted=outcome.accepted, strict=outcome.asked.is_strict,
+        least=outcome.asked.least, accept=list(outcome.asked.kinds), values_checked=outcome.asked.has_values, summary=outcome.summary()), indent=1) + '\n'
 
 
 def case(name, kind='', message='', text=''):
@@ -24,7 +26,9 @@ def as_junit(outcome, told, status):
     """A case for each difference, one for ranks that wait, one for each kind of calls that are left out, and one for the whole."""
     cases = [case(title, 'failure', lines[0].strip() if lines else title, '\n'.join(lines)) for title, lines in told]
     if outcome.waiting: cases.append(case('the run was ended early' if outcome.ended else 'the run was ended from outside' if outcome.is_outside else 'ranks wait', 'failure', outcome.waiting[0], '\n'.join(outcome.waiting)))
-    cases += [case('left out: ' + what, 'skipped', '%d calls' % number) for what, number in sorted(outcome.left.items())]
+    cases += [case('left out: ' + what, 'skipped', '%d calls%s' % (number, ', as accepted' * (what in outcome.accepted_titles)))
+              for what, number in sorted(outcome.left.items())]
+    if not outcome.asked.has_values: cases.append(case('values', 'skipped', 'values were not checked (--without-values)'))
     failures = sum('<failure' in line for line in cases)
     is_green = status == 0 or failures
     cases.append(case('how much was checked', *(() if is_green else ('failure', outcome.summary(), outcome.summary()))))

@@ -1,9 +1,10 @@
 """What is said of the whole run: how much was checked, what was left out, and the status."""
 import collections
 
+from .asked import Asked, KINDS, NO_KIND, kind_of
 from .floats import UNJUDGED
 
-NO_DIFFERENCE, DIFFERENCES, UNREADABLE, WAITS, LITTLE, ENDED = range(6)         # the statuses
+NO_DIFFERENCE, DIFFERENCES, UNREADABLE, WAITS, LITTLE, ENDED, FEWER = range(7)         # the statuses
 SHOWN_NOTES, SHOWN_BOUNDS = 20, 6
 
 
@@ -19,10 +20,11 @@ def counted(number, what):
 
 class Outcome:
     """`calls`: all that were made, seen in full or not; `checked`: those of which a result was held against the standard's value;
-    `bounded`: those whose results were held to bounds, by the tool's own arithmetic."""
+    `bounded`: those whose results were held to bounds, by the tool's own arithmetic; `accepted`: those that were left out, as may be;
+    `compared_parts`: those whose parts were compared, without their values."""
 
-    def __init__(self, record, calls, choice, comparison, waiting, is_strict=False):
-        self.record, self.comparison, self.is_strict = record, comparison, is_strict
+    def __init__(self, record, calls, choice, comparison, waiting, asked=Asked()):
+        self.record, self.comparison, self.asked = record, comparison, asked
         self.waiting, self.ended, self.is_outside = waiting.lines, bool(waiting.causes), waiting.is_outside
         self.reports = comparison.reports
         comparison.slips.finish(choice.taken, {key for key, _, _ in self.reports})
@@ -35,17 +37,34 @@ class Outcome:
         self.checked = len((comparison.checked | choice.faults) - choice.held - own)    # the making of MPI_COMM_SELF is the recorder's
         self.folded, self.unseen = choice.folded, sum(calls.unseen.values())
         self.bounded, self.held, self.unjudged = choice.bounded, len(choice.held), choice.unjudged
+        self.compared_parts = len((choice.taken | choice.held | choice.faults) - own) if not asked.has_values else 0
+        self.accepted = self.count_accepted(calls, choice, comparison.checked | choice.faults | choice.held | own)
+
+    def count_accepted(self, calls, choice, others):
+        """How many calls are left out of which that is accepted. What was checked in part is none of them."""
+        self.accepted_titles = {title for title in self.left if self.asked.accepts(title)}
+        keys = {key for title in self.accepted_titles for key in choice.left_calls[title]}
+        return len(keys - others) + sum(number for title, number in calls.unnamed.items() if title in self.accepted_titles)
 
     def status(self):
         if self.ended or self.is_outside: return ENDED
         if self.waiting: return WAITS
         if self.reports or self.refused or self.behind_free: return DIFFERENCES
-        if self.is_little() or self.is_strict and self.checked + self.held < self.calls: return LITTLE
+        if self.is_fewer(): return FEWER
+        if self.is_little() or self.asked.is_strict and self.done() < self.wanted(): return LITTLE
         return NO_DIFFERENCE
 
+    def done(self): return self.checked + self.held if self.asked.has_values else self.compared_parts
+
+    def wanted(self): return self.calls - self.accepted
+
+    def is_fewer(self):
+        """Whether fewer calls were checked than --least asks."""
+        return self.asked.least is not None and 100 * self.done() < self.asked.least * self.wanted()
+
     def is_little(self):
-        """Whether fewer than half of the calls were checked, or there were none."""
-        return self.calls == 0 or 2 * (self.checked + self.held) < self.calls
+        """Whether fewer than half of the calls were checked, unless --least gives another share, or none."""
+        return self.done() == 0 or self.asked.least is None and 2 * self.done() < self.wanted()
 
     def verdict(self):
         words, keys, own = [], {key for key, _, _ in self.reports}, {key for key, title, _ in self.reports if is_own(title)}
@@ -58,11 +77,16 @@ class Outcome:
         elif self.waiting: words.append('ranks wait')
         if words: return '; '.join(words)
         if not self.calls: return 'nothing was checked: the program made no collective call'
-        if not self.checked + self.held: return 'nothing was checked'
+        if not self.done(): return 'nothing was checked'
+        if not self.asked.has_values: return 'nothing wrong was seen in these'
         if self.checked == self.calls: return 'no difference'
-        return ('little was checked: ' if self.is_little() else '') + 'no difference in these'
+        return ('fewer than asked: ' if self.is_fewer() else 'little was checked: ' if self.is_little() else '') + 'no difference in these'
 
     def summary(self):
+        if not self.asked.has_values:
+            held = ', but for %s held by the tool itself' % counted(self.held, 'call') if self.held else ''
+            return '%s; %s; values NOT checked%s; parts compared of %d of %s; %s' % (
+                self.record.mpi[:60], counted(self.record.size, 'rank'), held, self.compared_parts, counted(self.calls, 'call'), self.verdict())
         return '%s; %s; checked %d of %s%s, %s; %s%s' % (
             self.record.mpi[:60], counted(self.record.size, 'rank'), self.checked, counted(self.calls, 'call'),
             ' (%d of kinds that aren\'t recorded)' % self.unseen if self.unseen else '', counted(self.comparison.compared, 'result'), self.more(), self.verdict())
@@ -86,9 +110,19 @@ class Outcome:
         if self.bounded: lines.append('held to bounds, by the tool\'s own arithmetic: ' + self.bounds())
         if self.folded: lines.append('held against the program\'s own operation, in the order of ranks: '
                                      + ', '.join('%d %s' % (number, what) for what, number in self.folded.most_common()))
-        lines += ['left out: %d %s' % (number, what) for what, number in sorted(self.left.items())]
+        lines += ['left out%s: %d %s' % (', as accepted' * (what in self.accepted_titles), number, what) for what, number in sorted(self.left.items())]
         unended = [str(rank) for rank in range(record.size) if record.ended[rank] != 'end']
         if unended: lines.append('no MPI_Finalize at rank%s %s' % ('s' * (len(unended) > 1), ' '.join(unended)))
         if self.waiting and not self.ended and not self.is_outside and not self.comparison.has_waits:
             lines.append('the program waits isn\'t at hand: what is said of waiting ranks is from the record alone (bench/look waits builds it)')
-        return lines + [self.summary()]
+        return lines + self.shortfall() + [self.summary()]
+
+    def shortfall(self):
+        """Where fewer calls were checked than is asked: how many, and what --accept calls those that were left out."""
+        if not (self.status() == FEWER or self.status() == LITTLE and self.asked.is_strict): return []
+        kinds = collections.Counter()
+        for title in set(self.left) - self.accepted_titles: kinds[kind_of(title)] += self.left[title]
+        told = ', '.join('%d %s' % (kinds[kind], kind) for kind in [*KINDS, NO_KIND] if kinds[kind])
+        return ['%s: %d of %d calls were checked or held, %d in a hundred%s' % (
+            '--strict' if self.status() == LITTLE else '--least %d' % self.asked.least, self.done(), self.wanted(),
+            100 * self.done() // max(1, self.wanted()), '; left out, by the kinds of --accept: ' + told if told else '')]

@@ -3,6 +3,7 @@ from .choice import CUT
 from .parts import Part
 
 STATEMENTS, BYTES = 65536, 1048576 - 64
+TOO_LONG = 'more bytes than a script has'
 COUNTED = ('bcast', 'scatter', 'alltoall', 'reduce_scatter_block')       # these have their count in the statement
 
 
@@ -29,7 +30,9 @@ class Scripts:
         if len(script.text) <= BYTES + 64: yield script
         elif len(blocks) > 1:
             for half in (blocks[:len(blocks) // 2], blocks[len(blocks) // 2:]): yield from self.within_limits(base, {**have, key: half})
-        else: self.choice.left[self.calls.kind_of(key or next(reversed(list(have)))) + ': more bytes than a script has'] += 1
+        else: self.leave(key or next(reversed(list(have))))
+
+    def leave(self, key): self.choice.count_left(key, self.calls.kind_of(key) + ': ' + TOO_LONG)
 
 
 def order_of(calls, choice):
@@ -66,7 +69,7 @@ class Cutter:
         statements, size = self.price([key])
         each = min((BYTES - fixed) * number // max(1, size), STATEMENTS * number // statements // 2)
         if number < 2 or each < 1:
-            self.choice.left[self.calls.kind_of(key) + ': more bytes than a script has'] += 1
+            self.choice.count_left(key, self.calls.kind_of(key) + ': ' + TOO_LONG)
             return []
         return [{**dict.fromkeys(needs), key: range(start, min(number, start + each))} for start in range(0, number, each)]
 
