@@ -42,27 +42,39 @@ fn with_line(
     ensures refused { IfErr result (IsLineRefusal (refusal (⟦<Ops as Listing>⟧.operations ops.now) (context_behind line.now cut partial.script partial.statements))) }
 {
     let PartialScript { script, statements } = partial;
-    match (
-        read_line(alloc, line, cut, script.as_ref(), statements, ops)?,
-        script,
-    ) {
-        (Sentence::Passed, script) => Ok(PartialScript { script, statements }),
-        (Sentence::Opening(ranks), _) => {
+    let sentence = match read_line(alloc, line, cut, script.as_ref(), statements, ops) {
+        Ok(sentence) => sentence,
+        Err(e) => {
+            drop(script);
+            return Err(e);
+        }
+    };
+    match sentence {
+        Sentence::Passed => Ok(PartialScript { script, statements }),
+        Sentence::Opening(ranks) => {
+            drop(script);
             let script = Script::new(alloc, ranks)?;
             Ok(PartialScript {
                 script: Some(script),
                 statements,
             })
         }
-        (Sentence::Further(assignment), Some(mut script)) => {
+        Sentence::Further(assignment) => {
+            let Some(mut script) = script else {
+                unreachable!();
+            };
             let statements = statements + u32::from(assignment.to - assignment.from);
-            script.add(alloc, assignment)?;
-            Ok(PartialScript {
-                script: Some(script),
-                statements,
-            })
+            match script.add(alloc, assignment) {
+                Ok(()) => Ok(PartialScript {
+                    script: Some(script),
+                    statements,
+                }),
+                Err(e) => {
+                    drop(script);
+                    Err(LineError::from(e))
+                }
+            }
         }
-        (Sentence::Further(_), None) => unreachable!(),
     }
 }
 

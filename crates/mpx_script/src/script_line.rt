@@ -6,7 +6,7 @@ ghost use Rattle.mpx_script.specs.Words.{words, counts, is_ascii};
 ghost use Rattle.mpx_script.specs.Fields.{ranks_named};
 ghost use Rattle.mpx_script.specs.Syntax.{directive_in, label_in, opening_ranks};
 ghost use Rattle.mpx_script.specs.Places.{said};
-ghost use Rattle.mpx_script.specs.laws.Parts.{ask_in, call_posted, new_posted, parted_statement, posting_said, question_said};
+ghost use Rattle.mpx_script.specs.laws.Parts.{ask_in, call_or_new_posted, call_posted, new_posted, parted_statement, posting_said, question_said};
 ghost use Rattle.mpx_script.specs.Meanings.{statement_in};
 ghost use Rattle.mpx_script.specs.Naming.{names_bound};
 ghost use Rattle.mpx_script.specs.Reading.{refusal, plain_context};
@@ -83,10 +83,14 @@ fn call_posted(
 {
     match mode {
         Mode::Blocking => Ok(Posting::Call { on, draft }),
-        Mode::Nonblocking => {
-            let request = word_at(alloc, request)?;
-            Ok(Posting::Start { on, draft, request })
-        }
+        Mode::Nonblocking => match word_at(alloc, request) {
+            Ok(request) => Ok(Posting::Start { on, draft, request }),
+            Err(e) => {
+                drop(on);
+                drop(draft);
+                Err(e)
+            }
+        },
     }
 }
 
@@ -101,12 +105,46 @@ fn new_posted(
 ) -> Result<Posting, OutOfMemory>
     ensures { IfOk result (λ posting. posting ≡ new_posted made on draft tag (unwrap_or (option_copied target.entry) [])) }
 {
-    let to = word_at(alloc, target)?;
+    let to = match word_at(alloc, target) {
+        Ok(to) => to,
+        Err(e) => {
+            drop(on);
+            drop(draft);
+            return Err(e);
+        }
+    };
     if made == NewCommunicator::CreateGroup {
         let ranks = draft.group;
         return Ok(Posting::CreateGroup { on, tag, ranks, to });
     }
     Ok(Posting::New { on, draft, to })
+}
+
+// What a call of a kind posts on a communicator, with this name for the new one or for the request.
+fn call_or_new_posted(
+    alloc: Global,
+    kind: Kind,
+    mode: Mode,
+    communicator: Option<&[u8]>,
+    draft: Draft,
+    tag: i128,
+    name: Option<&[u8]>,
+) -> Result<Posting, OutOfMemory>
+    ensures { IfOk result (λ posting. posting ≡ call_or_new_posted kind mode (unwrap_or (option_copied communicator.entry) []) draft tag (unwrap_or (option_copied name.entry) [])) }
+{
+    let on = match word_at(alloc, communicator) {
+        Ok(on) => on,
+        Err(e) => {
+            drop(draft);
+            return Err(e);
+        }
+    };
+    match kind {
+        Kind::NewCommunicator(made) => new_posted(alloc, made, on, draft, tag, name),
+        Kind::Exchange(_) | Kind::Reduction(_) | Kind::Neighbourhood(_) | Kind::Free => {
+            call_posted(alloc, mode, on, draft, name)
+        }
+    }
 }
 
 // The word, or one without bytes.
@@ -147,13 +185,7 @@ fn call_of(
         Ok(draft) => draft,
         Err(e) => return Err(e),
     };
-    let on = word_at(alloc, communicator)?;
-    match kind {
-        Kind::NewCommunicator(made) => { Ok(new_posted(alloc, made, on, draft, tag, call.name)?) }
-        Kind::Exchange(_) | Kind::Reduction(_) | Kind::Neighbourhood(_) | Kind::Free => {
-            Ok(call_posted(alloc, mode, on, draft, call.name)?)
-        }
-    }
+    Ok(call_or_new_posted(alloc, kind, mode, communicator, draft, tag, call.name)?)
 }
 
 // The words of a line.
