@@ -51,7 +51,8 @@ def twice(text):
     """Names that stand in two files, and these files."""
     found = collections.defaultdict(set)
     for it in text:
-        found[it.name.split("::")[-1]].add(place(it))
+        if it.kind != "promise":
+            found[it.name].add(place(it))
     return {name: sorted(files) for name, files in sorted(found.items()) if len(files) > 1}
 
 

@@ -165,7 +165,7 @@ class Sources:
         *places, function = path.split("::")
         found = []
         for files in self.files.values():
-            for file, text in files.items():
+            for file, text in ((file, text) for file, text in files.items() if f"fn {function}" in text):
                 for said in re.finditer(rf"^( *)(?:pub )?fn {re.escape(function)}\b(.*?)(?:\n(?:    )?\{{|;\n)", text, re.S | re.M):
                     owner = self.owner_of(text, said.start())
                     where = [file.relative_to(ROOT).parts[0], *file.relative_to(ROOT).with_suffix("").parts[2:], owner[1]]

@@ -1,4 +1,5 @@
 """The definitions as one text, in chapters: by the rooms of crates.txt, and in a chapter each definition in front of those that name it."""
+import itertools
 import re
 from collections import defaultdict
 
@@ -10,7 +11,7 @@ CHAPTERS = ["joins", "numbers", "posts and rows", "verdicts", "values", "childre
 OF_ROOM = {1: "joins", 2: "posts and rows", 3: "posts and rows", 4: "values", 5: "boards", 6: "boards", 7: "worlds", 8: "programs of one's own",
            9: "scripts", 10: "runs", 11: "the program", 12: "the program"}
 OF_CRATE = {"mpx_num": "numbers", "mpx_affine": "numbers", "mpx_match": "verdicts", "mpx_node": "nodes"}
-OF_FILE = {"mpx_value/specs/Children.antt": "children and histories", "mpx_value/specs/Histories.antt": "children and histories"}
+OF_FILE = {f"mpx_value/specs/{name}.antt": "children and histories" for name in ("Children", "Values", "Histories")}
 HEAD = """The text to trust for {what}, in chapters: what a name means stands in front of where it is used, where that can be.
 - `(X = Type)` at a file's head: in this file `X.Name` is the constructor `Name` of that type.
 - `module _ (x : X) where`: what stands under it takes `x` first. Inside that file it isn't written, elsewhere it is.
@@ -60,20 +61,25 @@ def after_what_it_names(keys, names):
     return ordered
 
 
+def unit(text, key):
+    """What stands together: a file of specs, or one type of `src/`."""
+    return key if text.definitions[key].kind == "type" else key[0]
+
+
 def in_chapters(text):
-    """The definitions by chapter; in a chapter by file, each file behind those that it names, and so in a file."""
+    """The definitions by chapter; in a chapter by files of specs and single types, each behind those that it names, and so in a file."""
     room, chapters = rooms(), defaultdict(list)
     for key, it in text.definitions.items():
         chapters[chapter_of(it, room)].append(key)
     found = []
     for chapter, keys in sorted(chapters.items()):
-        files, of_file = defaultdict(list), defaultdict(list)
+        units, of_unit = defaultdict(list), defaultdict(list)
         for key in keys:
-            of_file[key[0]].append(key)
-            files[key[0]] += [name[0] for name in text.names[key] if name[0] != key[0]]
+            of_unit[unit(text, key)].append(key)
+            units[unit(text, key)] += [unit(text, name) for name in text.names[key] if unit(text, name) != unit(text, key)]
         is_last = CHAPTERS[chapter] == "what is promised"
-        order = list(of_file) if is_last else after_what_it_names(list(of_file), files)
-        found.append((CHAPTERS[chapter], [key for file in order for key in (of_file[file] if is_last else after_what_it_names(of_file[file], text.names))]))
+        order = list(of_unit) if is_last else after_what_it_names(list(of_unit), units)
+        found.append((CHAPTERS[chapter], [key for it in order for key in (of_unit[it] if is_last else after_what_it_names(of_unit[it], text.names))]))
     return found
 
 
@@ -113,10 +119,8 @@ def print_text(text, what):
     print(HEAD.format(what=what))
     for number, (title, keys) in enumerate(in_chapters(text), 1):
         print(f"\n\n==== {number}. {title[0].upper()}{title[1:]}")
-        files = defaultdict(list)
-        for key in keys:
-            files[key[0]].append(text.definitions[key])
-        for file, definitions in files.items():
+        for file, together in itertools.groupby(keys, lambda key: key[0]):
+            definitions = [text.definitions[key] for key in together]
             print(f"\n== {file.relative_to(ROOT)}{aliases(file, definitions)}")
             print_file(definitions)
     print("\n\n==== Constructors that stand for two or more things")
