@@ -12,9 +12,6 @@ int main(int argc, char **argv)
     MPI_Alltoallv(x, twos, far, MPI_INT, y, twos, near, MPI_INT, W);
     MPI_Gatherv(x, 2, MPI_INT, y, twos, near, MPI_INT, 0, W);
     MPI_Allgatherv(x, 2, MPI_INT, y, twos, near, MPI_INT, W);
-    MPI_Request request;
-    MPI_Iallgatherv(x, 2, MPI_INT, y, twos, near, MPI_INT, W, &request);
-    MPI_Wait(&request, MPI_STATUS_IGNORE);
     for (int i = 0; i < n + 1; i++) y[i] = 10 * me + i;
     MPI_Alltoall(y, 1, MPI_INT, y + 1, 1, MPI_INT, W);
     MPI_Scatterv(x, twos, none, MPI_INT, y, 2, MPI_INT, 0, W);

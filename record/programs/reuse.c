@@ -12,7 +12,7 @@ int main(int argc, char **argv)
     int me, n;
     MPI_Init(&argc, &argv);
     MPI_Comm_rank(W, &me); MPI_Comm_size(W, &n);
-    for (int i = 0; i < 20; i++) {
+    for (int i = 0; i < 5; i++) {
         MPI_Comm copy, half, across, merged, again, other, grid, row;
         MPI_Request request;
         MPI_Comm_dup(W, &copy); use(&copy);
