@@ -125,13 +125,16 @@ class Sources:
         if value:
             brought = {**imports(text), **imports(seen.group(1))}
             return Definition(file, name, [f"{name} is seen as {value.group(1)}"], comment, kind="type"), of_specs(value.group(1), brought)
-        body = re.sub(r"^ +ghost \w+: \{.*?\},?\n", "", said.group(0), flags=re.S | re.M)
-        body = re.sub(r"^ *#\[.*?\]\n", "", body, flags=re.S | re.M)
+        body = re.sub(r"^ *#\[.*?\]\n", "", said.group(0), flags=re.S | re.M)
         lines = [line for line in body.splitlines() if line.strip()]
         bare = "\n".join(line for line in lines if not line.strip().startswith("//"))
         constructors = tuple(re.findall(r"^    ([A-Z]\w*)", bare, re.M)) if kind == "enum" else ()
+        # Ghost fields name specs; the proof behind `by` is none of the type.
+        ghosts = re.findall(r"^ +ghost \w+: (\{.*?\}),?(?: by \{.*?\},?)?\n", bare + "\n", re.S | re.M)
+        bare = re.sub(r"^ +ghost .*?\},?\n", "", bare + "\n", flags=re.S | re.M)
         used = bare.partition(name)[2] if kind != "enum" else re.sub(r"^    [A-Z]\w*", "", bare, flags=re.M)
-        return Definition(file, name, lines, comment, constructors=constructors, kind="type"), self.types_in(file, used)
+        of_ghosts = of_specs("\n".join(ghosts), imports(text))
+        return Definition(file, name, lines, comment, constructors=constructors, kind="type"), self.types_in(file, used) + of_ghosts
 
     def trait_at(self, file, name, members):
         """A trait's ghost members: all, or these."""
