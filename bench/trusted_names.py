@@ -162,19 +162,35 @@ class Text:
             if key in self.definitions:
                 promise = promise._replace(lines=[*self.definitions[key].lines, *promise.lines])
             self.definitions[key] = promise
-            todo = [(key, name) for name in reversed(used)]
-            while todo:
-                by, name = todo.pop()
-                if not name[1] or crate_of(name) in without:
-                    continue
-                came = house.found(name)
-                if not came:
-                    continue
-                key = (came[0].file, came[0].name)
-                self.names[by].append(key)
-                if key not in self.definitions:
-                    self.definitions[key], its = entered(*came, said.get(key[1]))
-                    todo += [(key, name) for name in reversed(its)]
+            own = {asked.partition(".")[0].split("::")[-2]} if "::" in asked else set()
+            self.follow(house, [(key, name) for name in reversed(used)], without, said)
+            while self.add_ghosts(house, own, without, said):
+                pass
+
+    def follow(self, house, todo, without, said):
+        while todo:
+            by, name = todo.pop()
+            came = house.found(name) if name[1] and crate_of(name) not in without else None
+            if not came:
+                continue
+            key = (came[0].file, came[0].name)
+            self.names[by].append(key)
+            if key not in self.definitions:
+                self.definitions[key], its = entered(*came, said.get(key[1]))
+                todo += [(key, name) for name in reversed(its)]
+
+    def add_ghosts(self, house, own, without, said):
+        """Adds to types the ghost fields that a definition or a clause names, and all of the asked function's own type."""
+        named = {word for it in self for line in it.lines if it.kind != "type" for word in re.findall(r"\.([a-z]\w*)", line)}
+        added = False
+        for key, it in list(self.definitions.items()):
+            new = [ghost for ghost in it.ghosts if ghost[0] in named or it.name in own]
+            if new:
+                lines = [*it.lines[:-1], *(line for ghost in new for line in ghost[1]), it.lines[-1]]
+                self.definitions[key] = it._replace(lines=lines, ghosts=tuple(ghost for ghost in it.ghosts if ghost not in new))
+                self.follow(house, [(key, name) for ghost in new for name in ghost[2]], without, said)
+                added = True
+        return added
 
     def __iter__(self):
         return iter(self.definitions.values())

@@ -13,8 +13,10 @@ MEMBER = re.compile(r"⟦<(\w+)[^⟧]* as (\w+)>⟧\.(\w+)")
 DECLARED = r"^(?:pub(?:\(crate\))? )?(struct|enum|type|trait) {}\b"
 
 # One definition: its file and name there, its lines, the comment above, the parameters of its module, the lemma that decides it (its name and file), the
-# names of its constructors, whether it is a definition of specs, a type or a promise, and the law for which it isn't entered.
-Definition = collections.namedtuple("Definition", "file name lines comment module lemma constructors kind law", defaults=[(), (), None, (), "definition", None])
+# names of its constructors, whether it is a definition of specs, a type or a promise, the law for which it isn't entered, and the ghost fields of a type: each
+# with its lines and what these name.
+Definition = collections.namedtuple("Definition", "file name lines comment module lemma constructors kind law ghosts",
+                                    defaults=[(), (), None, (), "definition", None, ()])
 
 
 def imports(text):
@@ -129,12 +131,13 @@ class Sources:
         lines = [line for line in body.splitlines() if line.strip()]
         bare = "\n".join(line for line in lines if not line.strip().startswith("//"))
         constructors = tuple(re.findall(r"^    ([A-Z]\w*)", bare, re.M)) if kind == "enum" else ()
-        # Ghost fields name specs; the proof behind `by` is none of the type.
-        ghosts = re.findall(r"^ +ghost \w+: (\{.*?\}),?(?: by \{.*?\},?)?\n", bare + "\n", re.S | re.M)
-        bare = re.sub(r"^ +ghost .*?\},?\n", "", bare + "\n", flags=re.S | re.M)
+        found = list(re.finditer(r"^ +ghost (\w+): (\{.*?\}),?(?: by \{.*?\},?)?\n", bare + "\n", re.S | re.M))
+        ghosts = tuple((it.group(1), it.group(0).splitlines(), of_specs(it.group(2), imports(text))) for it in found)
+        hidden = {line for _, its, _ in ghosts for line in its}
+        bare = "\n".join(line for line in bare.splitlines() if line not in hidden)
+        lines = [line for line in lines if line not in hidden]
         used = bare.partition(name)[2] if kind != "enum" else re.sub(r"^    [A-Z]\w*", "", bare, flags=re.M)
-        of_ghosts = of_specs("\n".join(ghosts), imports(text))
-        return Definition(file, name, lines, comment, constructors=constructors, kind="type"), self.types_in(file, used) + of_ghosts
+        return Definition(file, name, lines, comment, constructors=constructors, kind="type", ghosts=ghosts), self.types_in(file, used)
 
     def trait_at(self, file, name, members):
         """A trait's ghost members: all, or these."""

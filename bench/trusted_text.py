@@ -15,8 +15,9 @@ OF_FILE = {f"mpx_value/specs/{name}.antt": "children and histories" for name in 
 HEAD = """The text to trust for {what}, in chapters: what a name means stands in front of where it is used, where that can be.
 - `(X = Type)` at a file's head: in this file `X.Name` is the constructor `Name` of that type.
 - `module _ (x : X) where`: what stands under it takes `x` first. Inside that file it isn't written, elsewhere it is.
-- `Post is seen as Given`: in contracts a value of `Post` is a `Given`. Its own fields are private, and no clause names them. What is always so of
-  such values is left out: each function that makes one has to prove it. A `ghost` field in a type says what is always so of that type's values."""
+- `Post is seen as Given`: in contracts a value of `Post` is a `Given`. Its own fields are private, and no clause names them.
+- A `ghost` field says what is always so of a type's values. It stands there where a definition names it, and in the type of an asked function. The
+  others are left out: each function that makes such a value has to prove them."""
 
 
 def counted(definition):
