@@ -192,11 +192,12 @@ class Sources:
         return last.group(1) or last.group(3), last.group(2) or last.group(3)
 
     def promised(self, file, function, said, owner, clause, path):
+        """A function's comment, its signature where it takes or gives something, and the clauses; and what these name."""
         text = self.files[file.relative_to(ROOT).parts[0]][file]
-        signature, clauses, home = self.parts_of(said), None, file
-        if not signature[1] and owner[0] != owner[1]:
+        signature = self.parts_of(said)
+        home = self.place_of(file, owner[0]) if not signature[1] and owner[0] and owner[0] != owner[1] else None
+        if home:
             # what the trait says of its function
-            home = self.place_of(file, owner[0])
             there = self.files[home.relative_to(ROOT).parts[0]][home]
             body = re.search(rf"^pub trait {owner[0]}\b.*?^\}}", there, re.S | re.M).group(0)
             said = re.search(rf"^( *)fn {re.escape(path.split('::')[-1])}\b(.*?)(?:\n(?:    )?\{{|;\n)", body, re.S | re.M)
@@ -208,14 +209,13 @@ class Sources:
         if not clauses:
             sys.exit(f"trusted.py: {path} has no clause {clause or 'at all'}")
         named = "\n".join(clauses)
-        takes = re.search(r"\(\s*\S", head) is not None and not re.search(r"\(\s*\)", head)
-        used = []
-        if takes:
+        is_law, used = re.search(r"fn \w+\(\)$", head) is not None, []
+        if not is_law:
             used += self.types_in(file, head) + ([("type", self.place_of(file, owner[1]) or file, owner[1])] if "self" in head and owner[1] else [])
         used += self.bounds_in(file, text[:said.start()] if there is text else "", head, named)
         used += [("member", file, owner[1], None, it) for it in dict.fromkeys(re.findall(r"\bSelf\.(\w+)", named)) if owner[1]]
         used += self.members_in(file, named) + of_specs(NO_NAMES.sub("", named), imports(there))
-        lines = (head.splitlines() if takes else []) + named.splitlines()
+        lines = ([] if is_law else head.splitlines()) + named.splitlines()
         return Definition(file, function, lines, comment, kind="promise"), used
 
     def parts_of(self, said):
