@@ -14,8 +14,10 @@ It follows names: from the clauses, and the types that the function takes, to th
 the types of `src/`; and from these to the types in their fields and variants. A type with private fields counts as one line: as what contracts see
 it. Words inside texts are no names, nor are fields: the record that a field belongs to is named by the type of what has it.
 
-Lines count that have something in them, without comments, `use` and attributes. What is always so of a type's values, its invariant or a `ghost`
-field, stands there where a definition names it, and in the type of an asked function. Elsewhere not: each function that makes such a value proves it.
+Lines count that have something in them, without comments, `use` and attributes. A `ghost` field, which says what
+is always so of a type's values, stands there where a definition names it, and in the type of an asked function. The others don't, nor does the
+invariant of a type with private fields: each function that makes such a value has to prove them.
+
 An equality test is not entered where a lemma of `specs/`, which the prover has checked, says that it is true of equal values alone: its signature
 counts, and `IsEquality`, and no more of it. How many tests that are is told with the count, and which lemmas by -v and in the text. What only the
 crates of threads lead to is counted apart."""
