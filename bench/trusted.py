@@ -15,6 +15,7 @@ something in them, without comments and without `use`. An equality test is not e
 that it is true of equal values alone: its signature counts, and `IsEquality`, and no more of it; how many tests that are is told with the count, and
 which lemmas by -v and in the text. What only the crates of threads lead to is counted apart."""
 import collections
+import os
 import pathlib
 import re
 import sys
@@ -277,4 +278,11 @@ def main(words):
 
 
 if __name__ == "__main__":
-    sys.exit(main(sys.argv[1:]))
+    try:
+        status = main(sys.argv[1:])
+        sys.stdout.flush()
+    except BrokenPipeError:
+        # who reads, as `head`, has seen enough
+        os.dup2(os.open(os.devnull, os.O_WRONLY), sys.stdout.fileno())
+        status = 0
+    sys.exit(status)
