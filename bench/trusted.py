@@ -22,6 +22,7 @@ An equality test is not entered where a lemma of `specs/`, which the prover has 
 counts, and `IsEquality`, and no more of it. How many tests that are is told with the count, and which lemmas by -v and in the text. What only the
 crates of threads lead to is counted apart."""
 import collections
+import os
 import sys
 
 from trusted_names import House, Text
@@ -106,4 +107,11 @@ def main(words):
 
 
 if __name__ == "__main__":
-    sys.exit(main(sys.argv[1:]))
+    try:
+        status = main(sys.argv[1:])
+        sys.stdout.flush()
+    except BrokenPipeError:
+        # who reads, as `head`, has seen enough
+        os.dup2(os.open(os.devnull, os.O_WRONLY), sys.stdout.fileno())
+        status = 0
+    sys.exit(status)
