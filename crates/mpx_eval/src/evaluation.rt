@@ -28,9 +28,21 @@ pub fn eval(alloc: Global, script: &Script, ops: &Ops) -> Result<Report, OutOfMe
 {
     let mut ranks = start(alloc, script)?;
     let mut table = Table::new(alloc);
-    rounds(alloc, &mut ranks, &mut table, ops)?;
-    drop(table);
-    let waiting = waiting_of(alloc, ranks.as_slice(), script.ranks())?;
+    match rounds(alloc, &mut ranks, &mut table, ops) {
+        Ok(()) => drop(table),
+        Err(e) => {
+            drop(table);
+            drop(ranks);
+            return Err(e);
+        }
+    }
+    let waiting = match waiting_of(alloc, ranks.as_slice(), script.ranks()) {
+        Ok(waiting) => waiting,
+        Err(e) => {
+            drop(ranks);
+            return Err(e);
+        }
+    };
     let transcripts = lines_of(alloc, ranks)?;
     Ok(Report {
         transcripts,

@@ -1,7 +1,13 @@
 //! What is told of a script's evaluation beside its transcripts.
-ghost use Rattle.std.specs.Prelude.{IfOk, map};
+ghost use Rattle.std.specs.Prelude.{◌≡◌, ◌≤◌, IfOk, length, map, slice_get};
+ghost use Rattle.mpx_meaning.specs.Reports.{which};
+ghost use Rattle.mpx_eval.specs.Carrying.{shown};
+ghost use Rattle.mpx_eval.specs.Complaints.{complaints_upto};
 ghost use Rattle.mpx_eval.specs.Findings.{AreFindings};
-ghost use Rattle.mpx_eval.specs.Found.{complaint_view, waiting_view};
+ghost use Rattle.mpx_eval.specs.Found.{complaint_view, complaints_found, found_at, waiting_view};
+ghost use Rattle.mpx_eval.specs.Rounds.{is_waiting_at};
+ghost use Rattle.mpx_eval.specs.Tables.{table_of};
+ghost use Rattle.mpx_eval.specs.Unheard.{unheard_found};
 
 use crate::complaints::{Complaint, complaints_of};
 use crate::evaluation::start;
@@ -11,6 +17,7 @@ use crate::unheard::unheard_of;
 use crate::who_waits::{WaitingRank, waiting_ranks};
 use join_core::OutOfMemory;
 use mpx_num::{Listing, Ops};
+use mpx_rank::Interpreter;
 use mpx_script::Script;
 use std::alloc::Global;
 
@@ -35,14 +42,57 @@ pub fn examine(alloc: Global, script: &Script, ops: &Ops) -> Result<Findings, Ou
     let count = script.ranks();
     let mut ranks = start(alloc, script)?;
     let mut table = Table::new(alloc);
-    rounds(alloc, &mut ranks, &mut table, ops)?;
-    let places = ranks.as_slice();
-    let waiting = waiting_ranks(alloc, script, count, places, &table)?;
-    let complaints = complaints_of(alloc, script, count, places)?;
-    let unheard = unheard_of(alloc, script, count, places, &table, ops)?;
-    Ok(Findings {
-        waiting,
-        complaints,
-        unheard,
-    })
+    match rounds(alloc, &mut ranks, &mut table, ops) {
+        Ok(()) => {
+            let places = ranks.as_slice();
+            let found = findings_of(alloc, script, count, places, &table, ops);
+            drop(table);
+            drop(ranks);
+            found
+        }
+        Err(e) => {
+            drop(table);
+            drop(ranks);
+            Err(e)
+        }
+    }
+}
+
+// The findings of the first so many of these ranks.
+fn findings_of(
+    alloc: Global,
+    script: &Script,
+    count: u8,
+    places: &[Interpreter<'_, Table>],
+    table: &Table,
+    ops: &Ops,
+) -> Result<Findings, OutOfMemory>
+    requires { count ≤ length places.now }
+    ensures { IfOk result (λ found.
+        (map waiting_view found.waiting.items ≡ map (λ p. found_at script.now.statements (table_of table.now) p (slice_get (map shown places.now) p))
+        (which (λ p. is_waiting_at (slice_get (map shown places.now) p)) count))
+        × ((map complaint_view found.complaints.items ≡ complaints_upto (λ p. complaints_found script.now.statements p (slice_get (map shown places.now) p)) count)
+        × (map complaint_view found.unheard.items
+        ≡ complaints_upto (λ p. unheard_found (⟦<Ops as Listing>⟧.operations ops.now) script.now.statements (table_of table.now) p (slice_get (map shown places.now) p)) count))) }
+{
+    let waiting = waiting_ranks(alloc, script, count, places, table)?;
+    let complaints = match complaints_of(alloc, script, count, places) {
+        Ok(complaints) => complaints,
+        Err(e) => {
+            drop(waiting);
+            return Err(e);
+        }
+    };
+    match unheard_of(alloc, script, count, places, table, ops) {
+        Ok(unheard) => Ok(Findings {
+            waiting,
+            complaints,
+            unheard,
+        }),
+        Err(e) => {
+            drop(waiting);
+            drop(complaints);
+            Err(e)
+        }
+    }
 }

@@ -26,8 +26,8 @@ returns g c =
     let begin = start_state script.statements script.ranks in
     let are : AreIn ops script.ranks (map shown xs) t begin = are_in_start ops script.statements script.ranks (map shown xs) t many c.in_ok-ranks.ensures c.new-table.ensures in
     let lent : AreIn ops script.ranks (map shown c.deref_mut.result.now) t begin = subst (λ (ps : List (Interpreter Table CommunicatorView (Name × ℕ))). AreIn ops script.ranks (map shown ps) t begin) (sym c.deref_mut.ensures.value) are in
-    let ran = c.in_ok-rounds.ensures script.statements script.ranks begin (reached_start ops script.statements script.ranks) lent in
+    let ran = c.in-Ok.ensures script.statements script.ranks begin (reached_start ops script.statements script.ranks) lent in
     let same = written_back c.in_ok-ranks.ranks.len xs c.rounds.new.ranks (c.rounds.auto.ranks ∙ ap length c.deref_mut.ensures.value) (sym (ap length c.deref_mut.ensures.value) ∙ c.deref_mut.ensures.len) in
-    evaluated ops script (map shown c.rounds.new.ranks) (table_of c.rounds.new.table) ran (transcripts_of (record { transcripts = c.in_ok-transcripts.transcripts; waiting = c.in_ok-waiting.waiting })) c.in_ok-waiting.waiting.items
+    evaluated ops script (map shown c.rounds.new.ranks) (table_of c.rounds.new.table) ran (transcripts_of (record { transcripts = c.in_ok-transcripts.transcripts; waiting = c.in-Ok-waiting_of.waiting })) c.in-Ok-waiting_of.waiting.items
     (c.in_ok-transcripts.ensures ∙ ap (λ (ps : List (Interpreter Table CommunicatorView (Name × ℕ))). map (λ (r : TableRank). r.lines) (map shown ps)) same)
-    (c.in_ok-waiting.ensures ∙ ap (λ (ps : List (Interpreter Table CommunicatorView (Name × ℕ))). which (λ p. is_waiting_at (slice_get (map shown ps) p)) c.ranks.result) (c.as_slice.ensures.value ∙ same) ∙ ap (which (λ p. is_waiting_at (slice_get (map shown c.rounds.new.ranks) p))) c.ranks.ensures.ranks)
+    (c.in-Ok-waiting_of.ensures ∙ ap (λ (ps : List (Interpreter Table CommunicatorView (Name × ℕ))). which (λ p. is_waiting_at (slice_get (map shown ps) p)) c.ranks.result) (c.as_slice.ensures.value ∙ same) ∙ ap (which (λ p. is_waiting_at (slice_get (map shown c.rounds.new.ranks) p))) c.ranks.ensures.ranks)
