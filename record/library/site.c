@@ -11,6 +11,7 @@
 /* ---- Python ---- */
 
 static struct {
+    int (*is_running)(void);
     int (*ensure)(void);
     void (*release)(int);
     void (*forget)(void *);
@@ -28,12 +29,13 @@ static void *python_function(const char *name, int *is_whole)
     return found;
 }
 
+/* Whether Python runs is asked at each call: what is called at its end (Py_AtExit) finds none. */
 static int has_python(void)
 {
     static int is_known, has = 1;
-    if (is_known) return has;
+    if (is_known) return has && python.is_running();
     is_known = 1;
-    int (*is_running)(void) = (int (*)(void))python_function("Py_IsInitialized", &has);
+    python.is_running = (int (*)(void))python_function("Py_IsInitialized", &has);
     python.ensure = (int (*)(void))python_function("PyGILState_Ensure", &has);
     python.release = (void (*)(int))python_function("PyGILState_Release", &has);
     python.forget = (void (*)(void *))python_function("Py_DecRef", &has);
@@ -42,7 +44,7 @@ static int has_python(void)
     python.attribute = (void *(*)(void *, const char *))python_function("PyObject_GetAttrString", &has);
     python.line = (int (*)(void *))python_function("PyFrame_GetLineNumber", &has);
     python.text = (const char *(*)(void *))python_function("PyUnicode_AsUTF8", &has);
-    return has = has && is_running();
+    return has && python.is_running();
 }
 
 static int name_python_line(char word[SITE_SIZE])
