@@ -11,13 +11,16 @@ use std::alloc::Global;
 use std::snapshot::Snapshot;
 use std::sync::Wait;
 use std::thread::{PromisedHandle, Scope, Threads, scope, scope_env};
+use thiserror::Error;
 
 /// Why tasks were not done.
-#[derive(Clone, Copy, Debug, Drop, PartialEq, Eq)]
+#[derive(Clone, Copy, Debug, Drop, PartialEq, Eq, Error)]
 pub enum AtOnceError {
     /// Memory was wanting.
+    #[error("out of memory")]
     OutOfMemory,
     /// The system refused a thread.
+    #[error("the system refused a thread")]
     NoThread,
 }
 

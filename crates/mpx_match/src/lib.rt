@@ -7,6 +7,7 @@
 
 mod amounts;
 mod edges;
+mod fault_texts;
 mod faults;
 mod fits;
 mod groups;

@@ -20,6 +20,7 @@ use std::alloc::Global;
 use std::marker::Brand;
 use std::sync::Wait;
 use std::thread::Threads;
+use thiserror::Error;
 
 /// So many frames have room in the queue of a job.
 const ROOM: usize = 256;
@@ -34,13 +35,16 @@ pub struct Ran<A> {
 }
 
 /// Why a job came to nothing.
-#[derive(Clone, Copy, Debug, Drop, PartialEq, Eq)]
+#[derive(Clone, Copy, Debug, Drop, PartialEq, Eq, Error)]
 pub enum RanksError {
     /// There are no ranks, or more than 64 ranks and relays.
+    #[error("a job has 1 to 64 ranks, and at most 64 ranks and relays")]
     BadCount,
     /// Memory was wanting.
+    #[error("out of memory")]
     OutOfMemory,
     /// The system refused a thread.
+    #[error("the system refused a thread")]
     NoThread,
 }
 

@@ -11,6 +11,8 @@ mod port_pairs;
 #[cfg(test)]
 mod port_rooms;
 #[cfg(test)]
+mod port_threads;
+#[cfg(test)]
 mod ports;
 #[cfg(test)]
 mod shared_pairs;

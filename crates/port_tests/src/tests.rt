@@ -2,6 +2,7 @@
 use crate::port_fleets::all_results;
 use crate::port_pairs::meet_two;
 use crate::port_rooms::room_of;
+use crate::port_threads::meet_threads;
 use crate::shared_pairs::meet;
 use crate::shared_threads::posted;
 use mpx_num::Ops;
@@ -17,6 +18,13 @@ fn two_ports_meet_with_what_both_finished(rt: HostRuntime) -> Result<(), Fail> {
             "{harvest}"
         );
     }
+    Ok(())
+}
+
+#[test]
+fn two_ports_in_a_thread_each_have_one_sum(rt: HostRuntime) -> Result<(), Fail> {
+    let ops = Ops::none(rt.alloc());
+    assert_eq!(rt; meet_threads(&rt, rt.alloc(), &ops)?, 1);
     Ok(())
 }
 
