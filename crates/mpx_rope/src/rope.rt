@@ -6,7 +6,7 @@ use crate::frozen::FrozenRope;
 use crate::rope_ref::RopeRef;
 use crate::shared::Shared;
 use crate::source::FEWEST_SHARED;
-use bytes::{BufMut, BytesMut};
+use bytes::Bytes;
 use mpx_num::Spelled;
 use std::alloc::{AllocError, Global};
 use std::marker::Model;
@@ -17,7 +17,7 @@ const MOST_SHARED: usize = 4_611_686_018_427_387_904;
 /// Bytes that are written, of which a part is shared.
 #[derive(Debug, Drop)]
 pub struct Rope {
-    own: BytesMut,
+    own: Vec<u8>,
     shared: Vec<Shared>,
     carried: usize,
 }
@@ -39,7 +39,7 @@ impl Rope {
         ensures { result ≡ [] }
     {
         Rope {
-            own: BytesMut::new(alloc),
+            own: Vec::new(alloc),
             shared: Vec::new(alloc),
             carried: 0,
         }
@@ -50,7 +50,7 @@ impl Rope {
         ensures { result ≡ bytes.items }
     {
         Rope {
-            own: BytesMut::from_vec(bytes),
+            own: bytes,
             shared: Vec::new(alloc),
             carried: 0,
         }
@@ -151,18 +151,21 @@ impl Rope {
             shared,
             carried,
         } = self;
-        Ok(FrozenRope::over(own.freeze()?, shared, carried))
+        Ok(FrozenRope::over(Bytes::from_vec(own)?, shared, carried))
     }
 }
 
-fn push_byte(own: &mut BytesMut, byte: u8) -> Result<(), AllocError>
+fn push_byte(own: &mut Vec<u8>, byte: u8) -> Result<(), AllocError>
     ensures ok { OnOk result (own.new.items ≡ own.old.items ++ byte ∷ []) }
     ensures err { OnErr result (own.new.items ≡ own.old.items) }
 {
-    own.put_u8(byte)
+    match own.push(byte) {
+        Ok(()) => Ok(()),
+        Err(_) => Err(AllocError),
+    }
 }
 
-fn append(own: &mut BytesMut, bytes: &[u8]) -> Result<(), AllocError>
+fn append(own: &mut Vec<u8>, bytes: &[u8]) -> Result<(), AllocError>
     ensures ok { OnOk result (own.new.items ≡ own.old.items ++ bytes.now) }
     ensures err { OnErr result (own.new.items ≡ own.old.items) }
 {

@@ -11,7 +11,7 @@ invariant_of-self-2 c =
     let b : List ℕ = item_bytes c.args.items.now in
     let s : ℕ × List ℕ = (c.len-place.result, b) in
     let count : length c.bytes-count.result.now ≡ length b = ap length c.bytes-count.ensures.spelling in
-    let place : c.len-place.result ≡ length own.items = omega (arith, c.len-place.ensures.value) in
+    let place : c.len-place.result ≡ length own.items = omega (arith, c.len-place.ensures, own.ok.0) in
     let few : carried + length b < 2 ^ 62 = omega (arith, c.if-self-count.false, c.self.invariant.few, count) in
     rw (c.in_ok-push_piece.ensures.ok, count) (rope_share own.items ss s carried c.self.invariant place few c.requires)
 
@@ -21,5 +21,5 @@ returns-clause-ok c =
     let ss = c.self.inside.shared.items in
     let b : List ℕ = item_bytes c.args.items.now in
     let s : ℕ × List ℕ = (c.len-place.result, b) in
-    let place : c.len-place.result ≡ length own.items = omega (arith, c.len-place.ensures.value) in
+    let place : c.len-place.result ≡ length own.items = omega (arith, c.len-place.ensures, own.ok.0) in
     ap (woven 0 own.items) c.in_ok-push_piece.ensures.ok ∙ rope_shared own.items ss s c.self.inside.carried c.self.invariant place ∙ ap (λ l. l ++ b) c.self.view_is
