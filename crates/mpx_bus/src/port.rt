@@ -228,7 +228,7 @@ impl Bus {
             return Pop::Empty;
         };
         popped::<Brand>(&port.empty, &mut port.line, &frame);
-        match port.node.take_rope(alloc, frame.rope()) {
+        match port.node.take_rope(alloc, &frame.lent()) {
             Ok(()) => {
                 took::<Brand>(&port.empty, &mut port.line, &frame);
                 Pop::Took(frame)

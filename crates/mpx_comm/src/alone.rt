@@ -21,7 +21,7 @@ use mpx_name::Name;
 use mpx_node::{Finished, Harvest, Node};
 use mpx_num::{Listing, Ops};
 use mpx_post::{Draft, PostError};
-use mpx_rope::Rope;
+use mpx_rope::{Rope, RopeRef};
 use std::alloc::Global;
 
 /// A node that hears of nobody in a turn: whoever has it takes the others' boards.
@@ -110,7 +110,7 @@ impl Desk<Node> {
     }
 
     /// The same of a frame whose items may be shared, as [`Node::take_rope`] does.
-    pub fn take_rope(&mut self, alloc: Global, frame: &Rope) -> Result<(), OutOfMemory>
+    pub fn take_rope(&mut self, alloc: Global, frame: &RopeRef<'_>) -> Result<(), OutOfMemory>
         requires spelled { (parts : PartsView) × IsSpelled frame.now parts }
         ensures ok { OnOk result (node_of self.new.host ≡ learn (shown (decoded frame.now)) (node_of self.old.host)) }
         ensures err { OnErr result (StopsTaking (shown (decoded frame.now)) (node_of self.old.host) (node_of self.new.host)) }

@@ -84,7 +84,7 @@ pub fn encode(alloc: Global, board: &Board) -> Result<Vec<u8>, EncodeError>
     ensures too_long { IsErrOf result EncodeError.TooLong ↔ (is_too_long (parts_of board.now) ≡ true) }
 {
     let frame = encode_rope(alloc, board)?;
-    Ok(frame.joined(alloc)?)
+    Ok(frame.lent().joined(alloc)?)
 }
 
 /// The frame of the board as [`encode`] makes it, which shares items of 64 bytes or more with the board's posts.

@@ -8,7 +8,7 @@ ghost use Rattle.mpx_format.specs.Decoding.{IsSpelled, decoded, shown};
 use crate::node::Node;
 use join_core::OutOfMemory;
 use mpx_board::Board;
-use mpx_rope::Rope;
+use mpx_rope::RopeRef;
 use mpx_wire::{take_rope, take_spelled};
 use std::alloc::Global;
 
@@ -40,7 +40,7 @@ impl Node {
     }
 
     /// The same of a frame whose items may be shared.
-    pub fn take_rope(&mut self, alloc: Global, frame: &Rope) -> Result<(), OutOfMemory>
+    pub fn take_rope(&mut self, alloc: Global, frame: &RopeRef<'_>) -> Result<(), OutOfMemory>
         requires spelled { (parts : PartsView) × IsSpelled frame.now parts }
         ensures ok { OnOk result (node_of self.new ≡ learn (shown (decoded frame.now)) (node_of self.old)) }
         ensures err { OnErr result (StopsTaking (shown (decoded frame.now)) (node_of self.old) (node_of self.new)) }

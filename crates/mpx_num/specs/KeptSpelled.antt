@@ -1,6 +1,5 @@
 -- The items, however their bytes are kept.
 use Rattle.std.specs.Prelude.{◌≡◌, ◌≤◌, ℕ, List, take}
-use Rattle.std.specs.Arc.{arc_value}
 use Rattle.std.specs.List.{flat_map}
 use Rattle.mpx_num.specs.declared.types.Ty.{Ty}
 use Rattle.mpx_num.specs.ItemList.{AreItems, ItemList}
@@ -14,7 +13,7 @@ kept_type (Shared ty bytes) = ty
 
 abbrev pub kept_bytes : KeptBytes → List ℕ
 kept_bytes (Few ty len bytes) = take len bytes
-kept_bytes (Shared ty bytes) = (arc_value bytes).items
+kept_bytes (Shared ty bytes) = bytes
 
 abbrev pub spelled_items : KeptBytes → ItemList
 spelled_items kept = record { ty = kept_type kept; nums = numbers_in (kept_type kept) (kept_bytes kept) }

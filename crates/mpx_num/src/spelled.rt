@@ -9,9 +9,9 @@ ghost use Rattle.mpx_num.specs.KeptSpelled.{spelled_items};
 
 use crate::items::Items;
 use crate::types::Ty;
+use bytes::Bytes;
 use std::alloc::{AllocError, Global};
 use std::marker::Model;
-use std::sync::Arc;
 
 // So many bytes are kept in place, at most.
 const FEW: usize = 16;
@@ -26,7 +26,7 @@ pub struct Spelled {
 #[derive(Debug, Drop)]
 enum KeptBytes {
     Few(Ty, u8, [u8; 16]),
-    Shared(Ty, Arc<Vec<u8>>),
+    Shared(Ty, Bytes),
 }
 
 impl Model for Spelled {
@@ -61,7 +61,7 @@ impl Spelled {
         };
         let mut bytes = Vec::with_capacity(alloc, room)?;
         spell_numbers(ty, nums, &mut bytes)?;
-        Spelled::new(alloc, ty, bytes)
+        Spelled::new(ty, bytes)
     }
 
     /// Items of the type whose bytes these are.
@@ -75,12 +75,12 @@ impl Spelled {
         if bytes.len() <= FEW {
             Ok(few(ty, bytes))
         } else {
-            shared(alloc, ty, Vec::from_slice(alloc, bytes)?)
+            shared(ty, Vec::from_slice(alloc, bytes)?)
         }
     }
 
     // Items of the type whose bytes these are, which it takes over.
-    fn new(alloc: Global, ty: Ty, bytes: Vec<u8>) -> Result<Self, AllocError>
+    fn new(ty: Ty, bytes: Vec<u8>) -> Result<Self, AllocError>
         requires items { AreItems ty (numbers_in ty bytes.items) }
         requires spelling { flat_map (bytes_of ty) (numbers_in ty bytes.items) ≡ bytes.items }
         ensures { IfOk result (λ spelled. spelled ≡ record { ty = ty; nums = numbers_in ty bytes.items }) }
@@ -88,7 +88,7 @@ impl Spelled {
         if bytes.len() <= FEW {
             Ok(few(ty, &bytes))
         } else {
-            shared(alloc, ty, bytes)
+            shared(ty, bytes)
         }
     }
 
@@ -147,7 +147,7 @@ impl Spelled {
     {
         let kept = match &self.kept {
             KeptBytes::Few(ty, len, bytes) => KeptBytes::Few(*ty, *len, *bytes),
-            KeptBytes::Shared(ty, bytes) => KeptBytes::Shared(*ty, Arc::try_clone(bytes)?),
+            KeptBytes::Shared(ty, bytes) => KeptBytes::Shared(*ty, bytes.slice(..)?),
         };
         Ok(Spelled { kept })
     }
@@ -168,12 +168,12 @@ fn few(ty: Ty, bytes: &[u8]) -> Spelled
 }
 
 // Items whose bytes copies share.
-fn shared(alloc: Global, ty: Ty, bytes: Vec<u8>) -> Result<Spelled, AllocError>
+fn shared(ty: Ty, bytes: Vec<u8>) -> Result<Spelled, AllocError>
     requires items { AreItems ty (numbers_in ty bytes.items) }
     requires spelling { flat_map (bytes_of ty) (numbers_in ty bytes.items) ≡ bytes.items }
     ensures { IfOk result (λ spelled. spelled ≡ record { ty = ty; nums = numbers_in ty bytes.items }) }
 {
-    match Arc::new(alloc, bytes) {
+    match Bytes::from_vec(bytes) {
         Ok(bytes) => Ok(Spelled {
             kept: KeptBytes::Shared(ty, bytes),
         }),

@@ -1,13 +1,17 @@
-//! Bytes of which a part is shared: what a frame is written to, and what its reader may share.
+//! Bytes of which a part is shared: what a frame is written to, what it is then, and what its reader may share.
 //!
 //! A [`Rope`] is seen as the list of its bytes. Short fields are written into bytes of its own. Long items are put in as they are, and
-//! copies share them. All bytes in one place are had by [`Rope::joined`]; who reads these asks a [`Source`] for items, and gets those of the
-//! rope where it has them there.
+//! shared. A [`FrozenRope`] is one that is finished: its copies share all of its bytes. Both lend theirs as a [`RopeRef`]. All bytes in one
+//! place are had by [`RopeRef::joined`]; who reads these asks a [`Source`] for items, and gets those of the rope where it has them there.
 #![tactic(auto)]
 
+mod frozen;
 mod rope;
+mod rope_ref;
 mod shared;
 mod source;
 
+pub use frozen::FrozenRope;
 pub use rope::Rope;
+pub use rope_ref::RopeRef;
 pub use source::{FEWEST_SHARED, Source};

@@ -1,9 +1,12 @@
-//! Bytes of which a part is shared.
-ghost use Rattle.std.specs.Prelude.{◌≡◌, ◌≤◌, ◌++◌, ◌∷◌, [], IfNone, IfOk, IfSome, OnErr, OnOk, length, slice_range};
-ghost use Rattle.mpx_rope.specs.Ropes.{ArePlaced, item_bytes, woven};
+//! Ropes while they are written.
+ghost use Rattle.std.specs.Prelude.{◌≡◌, ◌≤◌, ◌++◌, ◌∷◌, [], IfNone, IfOk, IfSome, OnErr, OnOk, length};
+ghost use Rattle.mpx_rope.specs.Ropes.{item_bytes};
 
+use crate::frozen::FrozenRope;
+use crate::rope_ref::RopeRef;
 use crate::shared::Shared;
-use crate::source::{FEWEST_SHARED, Source};
+use crate::source::FEWEST_SHARED;
+use bytes::Bytes;
 use mpx_num::Spelled;
 use std::alloc::{AllocError, Global};
 use std::marker::Model;
@@ -11,7 +14,7 @@ use std::marker::Model;
 // Fewer bytes than these are shared.
 const MOST_SHARED: usize = 4_611_686_018_427_387_904;
 
-/// Bytes, of which copies may share a part.
+/// Bytes that are written, of which a part is shared.
 #[derive(Debug, Drop)]
 pub struct Rope {
     own: Vec<u8>,
@@ -73,7 +76,7 @@ impl Rope {
     pub fn len(&self) -> usize
         ensures { result ≡ length self.now }
     {
-        self.own.len() + self.carried
+        self.lent().len()
     }
 
     /// Appends a byte.
@@ -121,41 +124,34 @@ impl Rope {
         Ok(())
     }
 
-    /// A copy, which shares what this one shares.
-    pub fn copy(&self, alloc: Global) -> Result<Rope, AllocError>
-        ensures { IfOk result (λ copied. copied ≡ self.now) }
-    {
-        Ok(Rope {
-            own: Vec::from_slice(alloc, self.own.as_slice())?,
-            shared: copies(alloc, self.shared.as_slice())?,
-            carried: self.carried,
-        })
-    }
-
     /// All its bytes where they lie, if they lie in one place: those of a rope that shares no items.
     pub fn in_one_place(&self) -> Option<&[u8]>
         ensures some { IfSome result (λ bytes. bytes.now ≡ self.now) }
         ensures none { IfNone result (64 ≤ length self.now) }
     {
-        if self.carried == 0 {
-            Some(self.own.as_slice())
-        } else {
-            None
-        }
+        self.lent().in_one_place()
     }
 
-    /// A copy of all its bytes, in one place.
-    pub fn joined(&self, alloc: Global) -> Result<Vec<u8>, AllocError>
-        ensures { IfOk result (λ bytes. bytes.items ≡ self.now) }
+    /// The bytes, lent to who reads them.
+    pub fn lent(&self) -> RopeRef<'_>
+        ensures { result ≡ self.now }
     {
-        let mut bytes = Vec::with_capacity(alloc, self.len())?;
-        write_woven(self.own.as_slice(), self.shared.as_slice(), &mut bytes)?;
-        Ok(bytes)
+        RopeRef::over(self.own.as_slice(), &self.shared, self.carried)
     }
 
-    /// What a reader of all its bytes may share.
-    pub fn source(&self, alloc: Global) -> Source<'_> {
-        Source::over(alloc, self.len(), self.shared.as_slice())
+    /// The bytes, which nobody writes any more. Where it has bytes of its own, it takes memory to count who shares them.
+    ///
+    /// # Errors
+    /// `AllocError` where memory is refused; the rope is let go then.
+    pub fn freeze(self) -> Result<FrozenRope, AllocError>
+        ensures { IfOk result (λ frozen. frozen ≡ self) }
+    {
+        let Rope {
+            own,
+            shared,
+            carried,
+        } = self;
+        Ok(FrozenRope::over(Bytes::from_vec(own)?, shared, carried))
     }
 }
 
@@ -191,45 +187,4 @@ fn push_piece(
         Ok(()) => Ok(()),
         Err(_) => Err(AllocError),
     }
-}
-
-// Copies of these.
-fn copies(alloc: Global, pieces: &[Shared]) -> Result<Vec<Shared>, AllocError>
-    ensures { IfOk result (λ made. made.items ≡ pieces.now) }
-{
-    let mut made = Vec::with_capacity(alloc, pieces.len())?;
-    for piece in pieces {
-        made.push(piece.copy()?)?;
-    }
-    Ok(made)
-}
-
-// Writes own bytes at the end, with the shared ones put in.
-fn write_woven(own: &[u8], pieces: &[Shared], bytes: &mut Vec<u8>) -> Result<(), AllocError>
-    requires { ArePlaced 0 (length own.now) pieces.now }
-    ensures { OnOk result (bytes.new.items ≡ bytes.old.items ++ woven 0 own.now pieces.now) }
-{
-    let mut from: usize = 0;
-    for piece in pieces {
-        from = write_piece(own, from, piece, bytes)?;
-    }
-    bytes.extend_from_slice(&own[from..])
-}
-
-// Writes the own bytes from a place on to that of the shared ones, and then these. Tells the place.
-fn write_piece(
-    own: &[u8],
-    from: usize,
-    piece: &Shared,
-    bytes: &mut Vec<u8>,
-) -> Result<usize, AllocError>
-    requires from { from ≤ piece.now.0 }
-    requires place { piece.now.0 ≤ length own.now }
-    ensures bytes { OnOk result (bytes.new.items ≡ bytes.old.items ++ slice_range own.now from piece.now.0 ++ piece.now.1) }
-    ensures place { IfOk result (λ place. place ≡ piece.now.0) }
-{
-    let place = piece.place();
-    bytes.extend_from_slice(&own[from..place])?;
-    bytes.extend_from_slice(piece.bytes())?;
-    Ok(place)
 }

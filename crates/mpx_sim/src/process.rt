@@ -318,7 +318,7 @@ impl<'a> Process<'a> {
     ) -> Result<(), OutOfMemory>
         ensures { OnOk result (process_of self.new ≡ record { rank = (process_of self.old).rank; node = learn (part_of frame.now) (process_of self.old).node }) }
     {
-        self.carrier.desk.take_rope(alloc, &frame.bytes)
+        self.carrier.desk.take_rope(alloc, &frame.bytes.lent())
     }
 
     /// Its number.

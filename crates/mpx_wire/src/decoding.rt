@@ -16,7 +16,7 @@ use join_core::{Exact, OutOfMemory};
 use mpx_board::{Board, Parts};
 use mpx_decode::{read_parts, read_version, take_parts};
 use mpx_format::{Defect, Kept, ReadError, SHORT, Version, WireError, placed};
-use mpx_rope::{Rope, Source};
+use mpx_rope::{RopeRef, Source};
 use std::alloc::Global;
 
 // This byte; else the fault.
@@ -125,7 +125,7 @@ pub fn take_rope(
     alloc: Global,
     board: &mut Board,
     kept: &mut Kept,
-    rope: &Rope,
+    rope: &RopeRef<'_>,
 ) -> Result<(), OutOfMemory>
     requires kept { AreKept kept.old.of.items (parts_of board.old).1 }
     requires spelled { (v : PartsView) × IsSpelled rope.now v }

@@ -1,6 +1,6 @@
-//! Ropes, and what their readers share.
+//! Ropes, finished ones, and what their readers share.
 use mpx_num::{Items, Numbers, Spelled, Ty};
-use mpx_rope::{Rope, Source};
+use mpx_rope::{Rope, RopeRef, Source};
 use std::alloc::{AllocError, Global};
 use std::test::Fail;
 
@@ -38,14 +38,13 @@ fn is_whole(bytes: &[u8]) -> bool {
         && bytes[131..] == [4, 5]
 }
 
-fn holds(alloc: Global, rope: &Rope) -> Result<bool, AllocError> {
-    Ok(rope.len() == 133 && is_whole(&rope.joined(alloc)?))
+fn holds(alloc: Global, rope: &RopeRef<'_>) -> Result<bool, AllocError> {
+    Ok(rope.len() == 133 && rope.in_one_place().is_none() && is_whole(&rope.joined(alloc)?))
 }
 
-// Whether a rope of a hundred bytes of its own lends them, and one that shares items doesn't.
-fn lends(alloc: Global, shared: &Rope) -> Result<bool, AllocError> {
-    let own = Rope::from_vec(alloc, vec![in alloc; 7u8; 100]?);
-    Ok(own.in_one_place() == Some([7; 100].as_slice()) && shared.in_one_place().is_none())
+// Whether these are a hundred bytes in one place.
+fn lends(rope: &RopeRef<'_>) -> bool {
+    rope.len() == 100 && rope.in_one_place() == Some([7; 100].as_slice())
 }
 
 #[test]
@@ -53,13 +52,33 @@ fn ropes_hold_what_is_put_in(rt: HostRuntime) -> Result<(), Fail> {
     let alloc = rt.alloc();
     let items = sevens(alloc)?;
     let mut rope = rope(alloc, &items)?;
-    let copy = rope.copy(alloc)?;
-    assert!(rt; holds(alloc, &rope)?);
-    assert!(rt; lends(alloc, &rope)?);
+    assert!(rt; holds(alloc, &rope.lent())?);
+    assert_eq!(rt; rope.len(), 133);
+    assert!(rt; rope.in_one_place().is_none());
     rope.clear();
+    rope.reserve(1000)?;
     assert_eq!(rt; rope.len(), 0);
-    assert!(rt; rope.joined(alloc)?.is_empty());
-    assert!(rt; holds(alloc, &copy)?);
+    assert!(rt; rope.lent().joined(alloc)?.is_empty());
+    rope.extend_from_slice(&[7; 100])?;
+    assert!(rt; lends(&rope.lent()));
+    assert!(rt; rope.in_one_place() == Some([7; 100].as_slice()));
+    Ok(())
+}
+
+#[test]
+fn finished_ropes_and_their_copies_hold_the_same(rt: HostRuntime) -> Result<(), Fail> {
+    let alloc = rt.alloc();
+    let items = sevens(alloc)?;
+    let frozen = rope(alloc, &items)?.freeze()?;
+    let copy = frozen.copy()?;
+    assert!(rt; holds(alloc, &frozen.lent())?);
+    drop(frozen);
+    assert!(rt; holds(alloc, &copy.copy()?.lent())?);
+    let own = Rope::from_vec(alloc, vec![in alloc; 7u8; 100]?).freeze()?;
+    assert!(rt; lends(&own.copy()?.lent()));
+    let none = Rope::new(alloc).freeze()?.copy()?;
+    assert_eq!(rt; none.lent().len(), 0);
+    assert!(rt; none.lent().joined(alloc)?.is_empty());
     Ok(())
 }
 
@@ -73,13 +92,16 @@ fn gives(source: Source<'_>, ty: Ty, left: usize) -> Result<bool, AllocError> {
 fn sources_give_the_items_of_bytes(rt: HostRuntime) -> Result<(), Fail> {
     let alloc = rt.alloc();
     let items = sevens(alloc)?;
-    let rope = rope(alloc, &items)?;
+    let written = rope(alloc, &items)?;
+    let copy = rope(alloc, &items)?.freeze()?.copy()?;
     for (ty, left) in PLACES {
-        assert!(rt; gives(rope.source(alloc), ty, left)?);
+        assert!(rt; gives(written.lent().source(alloc), ty, left)?);
+        assert!(rt; gives(copy.lent().source(alloc), ty, left)?);
         assert!(rt; gives(Source::of(alloc), ty, left)?);
     }
     assert!(rt;
-        rope.source(alloc)
+        copy.lent()
+            .source(alloc)
             .items(Ty::I64, &[7; 128], 130)?
             .same(&items)
     );

@@ -1,5 +1,5 @@
 use Rattle.mpx_rope.proofs.Weaves.{next_place, next_placed, next_written}
-use Rattle.mpx_rope.proofs.rope.write_woven.Goals as goal
+use Rattle.mpx_rope.proofs.rope_ref.write_woven.Goals as goal
 
 pub write_piece-requires-clause-place : goal.write_piece-requires-clause-place
 write_piece-requires-clause-place c = next_place c.args.own.now c.args.pieces.now c.loop-piece.piece-index c.piece-item.result c.loop-piece.from c.loop-piece-test.true c.piece-item.is c.loop-piece.invariant.placed

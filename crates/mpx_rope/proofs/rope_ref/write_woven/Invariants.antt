@@ -1,6 +1,6 @@
 use Rattle.std.proofs.Common.{◌≡◌, ◌++◌, drop, length}
 use Rattle.mpx_rope.specs.Ropes.{ArePlaced, woven}
-use Rattle.mpx_rope.proofs.rope.write_woven.Given as goal
+use Rattle.mpx_rope.proofs.rope_ref.write_woven.Given as goal
 
 abbrev pub invariant-loop-piece : goal.invariant-loop-piece
 invariant-loop-piece l = record {
