@@ -6,7 +6,7 @@ use Rattle.std.specs.Option.{option_map}
 use Rattle.std.specs.declared.cmp.Ordering.{Ordering}
 use Rattle.std.specs.Cmp.{IsTotalOrder}
 use Rattle.std.specs.FinMap.{FinMap, IsAntisymmetric, is_sorted, from_sorted, insert}
-use Rattle.join_core.specs.Cases.{both_true, first_true, second_true}
+use Rattle.join_core.specs.laws.Cases.{both_true, first_true, second_true}
 use Rattle.join_nest.specs.Place.{IsAt, IsGap}
 use Rattle.join_nest.specs.Placed.{rise_from, set_value, set_values, taken, taken_at, values_in, with_values, with_values_under}
 use Rattle.join_nest.specs.Seen.{keyed_view, seen}
