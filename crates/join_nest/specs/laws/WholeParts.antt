@@ -77,8 +77,8 @@ module _ {V : Type 0} {j : Joining V} (p : JoinLaws j) {between : V → V → V 
       apart = λ x u v. same_map o exact _ _ (λ q.
           get_join o j x a q
           ∙ (at_key q).apart (get x q)
-            (sym (get_join o j x m q) ∙ ap (λ n. get n q) u)
-            (ap (option_join j (get x q)) (sym (other_at q)) ∙ sym (get_join o j x others q) ∙ ap (λ n. get n q) v ∙ other_at q));
+          (sym (get_join o j x m q) ∙ ap (λ n. get n q) u)
+          (ap (option_join j (get x q)) (sym (other_at q)) ∙ sym (get_join o j x others q) ∙ ap (λ n. get n q) v ∙ other_at q));
       least = λ x u. same_map o exact _ _ (λ q.
           get_join o j others ((keyed_joining j).join a x) q
           ∙ (λ i. option_join j (other_at q i) (get_join o j a x q i))
