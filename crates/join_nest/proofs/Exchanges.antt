@@ -1,7 +1,7 @@
 -- Values exchanged at their places, and exchanged back.
 use Rattle.std.proofs.Common.{◌≡◌, ℕ, zero, suc, ◌+◌, ◌<◌, ◌≤◌, true, nat_le, ◌&&◌, List, [], ◌∷◌, ◌++◌, length, get_or, map, set, take, drop, refl, sym, ap, ◌∙◌, arith}
 use Rattle.std.proofs.lemmas.Bool.Decides.{nat_tests}
-use Rattle.std.proofs.lemmas.List.{append-nil, append_assoc, at_drop_more, drop_all, drop-set-lt, get_or-set_same, length-set, set-get_or, set-set, take_all, take_more_set}
+use Rattle.std.proofs.lemmas.List.{append-nil, drop_all, get_or-set_same, length-set, set-get_or, set-set, take_all}
 use Rattle.std.specs.Option.{option_map}
 use Rattle.std.specs.declared.cmp.Ordering.{Ordering}
 use Rattle.std.specs.Cmp.{IsTotalOrder}

@@ -1,8 +1,8 @@
 -- Proofs that numbers keep the laws of joins.
-use Rattle.std.specs.Prelude.{◌≡◌, ℕ, max, nat_le, nat_eq}
+use Rattle.std.specs.Prelude.{◌≡◌, max, nat_le, nat_eq}
 use Rattle.std.proofs.Common.{inl, inr, arith}
 use Rattle.std.proofs.lemmas.Bool.Decides.{nat_tests}
-use Rattle.join_core.specs.Joins.{IsEquality, JoinLaws, TakesWholeParts, old_or_joined}
+use Rattle.join_core.specs.Joins.{IsEquality, JoinLaws}
 use Rattle.join_core.specs.Max.{max_joining, NumbersAreWhole}
 use Rattle.join_core.specs.laws.Cases.{yes, no, answer}
 use Rattle.join_core.specs.Order.{HasEmptyDeltas}

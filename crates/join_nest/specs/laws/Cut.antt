@@ -1,10 +1,10 @@
 -- Proofs that the calls below a front are cut off.
-use Rattle.std.specs.Prelude.{◌≡◌, ℕ, true, false, nat_le, List, [], ◌∷◌, Some, None}
+use Rattle.std.specs.Prelude.{◌≡◌, ℕ, false, nat_le, List, [], ◌∷◌, Some, None}
 use Rattle.std.proofs.Common.{sym, ap, ◌∙◌, subst, cond, T}
 use Rattle.std.specs.Ordering.{nat_cmp, eq_by_cmp}
 use Rattle.std.specs.Cmp.{nat_cmp_total}
 use Rattle.std.specs.FinMap.{FinMap, find, is_sorted, entries, entries_sorted, get, get-entries, get-from_sorted, nat_cmp-IsAntisymmetric}
-use Rattle.std.specs.FinMap.Entries.{where_key, is_sorted-where_key, find-where_key}
+use Rattle.std.specs.FinMap.Entries.{is_sorted-where_key, find-where_key}
 use Rattle.join_core.specs.laws.Cases.{second, both, is_tied, yes, no, answer}
 use Rattle.join_nest.specs.Cut.{is_from, cut}
 use Rattle.join_nest.specs.laws.Entries.{find_first}

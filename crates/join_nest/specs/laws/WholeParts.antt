@@ -1,12 +1,12 @@
 -- Proofs that joins in place of maps and of calls above a front take parts whole.
-use Rattle.std.specs.Prelude.{◌≡◌, ℕ, ◌+◌, max, Bool, true, false, ◌&&◌, nat_le, Option, Some, None, refl}
-use Rattle.std.proofs.Common.{inl, inr, sym, ap, ◌∙◌, subst, cond, arith}
+use Rattle.std.specs.Prelude.{◌≡◌, ℕ, ◌+◌, max, true, false, ◌&&◌, nat_le, Option, Some, None, refl}
+use Rattle.std.proofs.Common.{inl, sym, ap, ◌∙◌, subst, cond, arith}
 use Rattle.std.proofs.lemmas.Bool.Decides.{nat_tests}
 use Rattle.std.specs.declared.cmp.Ordering.{Ordering}
 use Rattle.std.specs.Ordering.{nat_cmp}
 use Rattle.std.specs.Cmp.{IsTotalOrder, nat_cmp_total}
 use Rattle.std.specs.FinMap.{FinMap, get, same_map, IsAntisymmetric, nat_cmp-IsAntisymmetric}
-use Rattle.join_core.specs.Joins.{Joining, JoinLaws, TakesWholeParts, old_or_joined}
+use Rattle.join_core.specs.Joins.{Joining, JoinLaws, TakesWholeParts}
 use Rattle.join_core.specs.Max.{max_joining}
 use Rattle.join_core.specs.laws.Cases.{first_true, second_true, yes, no, answer}
 use Rattle.join_core.specs.laws.Max.{max_laws}
