@@ -106,7 +106,7 @@ class House:
         lines, lemma = specs.lines[name], self.lemmas.get((file, name)) or self.lemmas.get(specs.meaning(name))
         lines = lines[:1] if lemma else lines
         used = names_in("\n".join(lines), specs, module)
-        used += [("specs", "Rattle.join_core.specs.Laws", "IsEquality")] if lemma else []
+        used += [("specs", "Rattle.join_core.specs.Joins", "IsEquality")] if lemma else []
         above, comment = specs.above[name]
         constructors = tuple(it for it, owner in specs.owner.items() if owner == name)
         return Definition(file, name, lines, tuple(comment), tuple(above), lemma, constructors), used

@@ -78,8 +78,68 @@ const POSTS_ON_THE_CHILD: &[BoardStep] = &[
     BoardStep::Adds(0, 1, &[8], Ok(())),
 ];
 
+// A whole board that has dropped calls of the world and killed the first child.
+const BURIED: &[BoardStep] = &[
+    BoardStep::Members(3),
+    BoardStep::Front(0, 5),
+    BoardStep::Front(1, 5),
+    BoardStep::Front(2, 5),
+    BoardStep::Prunes(5, Ok(())),
+    BoardStep::Acknowledges(0, 1, 5),
+    BoardStep::On(On::Below(1)),
+    BoardStep::Members(2),
+    BoardStep::Adds(0, 0, &[7], Ok(())),
+    BoardStep::Kills(Ok(())),
+    BoardStep::Acknowledges(0, 1, 1),
+];
+
+// A whole board that has heard of neither, with a second child.
+const UNAWARE: &[BoardStep] = &[
+    BoardStep::Members(3),
+    BoardStep::Front(0, 4),
+    BoardStep::Adds(3, 1, &[7], Ok(())),
+    BoardStep::Adds(6, 1, &[7], Ok(())),
+    BoardStep::On(On::Below(1)),
+    BoardStep::Members(2),
+    BoardStep::Front(1, 1),
+    BoardStep::Adds(0, 0, &[7], Ok(())),
+    BoardStep::Adds(0, 1, &[8], Ok(())),
+    BoardStep::Acknowledges(1, 0, 1),
+    BoardStep::On(On::Below(2)),
+    BoardStep::Members(2),
+    BoardStep::Adds(4, 1, &[7], Ok(())),
+];
+
+// The child is dead and says nothing but what is acknowledged, the world's early call is dropped, and its late one and the
+// second child are kept.
+const BURIED_FOR_BOTH: &[BoardStep] = &[
+    BoardStep::Members(3),
+    BoardStep::Front(0, 5),
+    BoardStep::Front(1, 5),
+    BoardStep::Front(2, 5),
+    BoardStep::Prunes(5, Ok(())),
+    BoardStep::Adds(6, 1, &[7], Ok(())),
+    BoardStep::Acknowledges(0, 1, 5),
+    BoardStep::HasDropped(5),
+    BoardStep::Lacks(3, 1),
+    BoardStep::On(On::Below(1)),
+    BoardStep::Members(2),
+    BoardStep::Kills(Ok(())),
+    BoardStep::Acknowledges(0, 1, 1),
+    BoardStep::Acknowledges(1, 0, 1),
+    BoardStep::IsDead(true),
+    BoardStep::HasBirth(false),
+    BoardStep::HasFront(1, 0),
+    BoardStep::Lacks(0, 0),
+    BoardStep::Lacks(0, 1),
+    BoardStep::On(On::Below(2)),
+    BoardStep::Members(2),
+    BoardStep::Adds(4, 1, &[7], Ok(())),
+    BoardStep::Holds(4, 1),
+];
+
 // Two boards, and their join.
-const JOINS: [(&str, [&[BoardStep]; 3]); 4] = [
+const JOINS: [(&str, [&[BoardStep]; 3]); 5] = [
     (
         "what is dropped stays dropped",
         [DROPPED, LATE, STAYS_DROPPED],
@@ -89,6 +149,10 @@ const JOINS: [(&str, [&[BoardStep]; 3]); 4] = [
     (
         "what is dead stays dead",
         [DEAD_CHILD, POSTS_ON_THE_CHILD, DEAD_CHILD],
+    ),
+    (
+        "two whole boards, of which one has killed a child",
+        [BURIED, UNAWARE, BURIED_FOR_BOTH],
     ),
 ];
 

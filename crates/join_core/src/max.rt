@@ -1,8 +1,9 @@
 //! Numbers that only go up, and numbers as keys.
 ghost use Rattle.std.specs.Prelude.{ℕ, nat_eq};
-ghost use Rattle.join_core.specs.Max.{nat_equality, max_joining, max_laws, max_deltas};
-ghost use Rattle.join_core.specs.Laws.{never_between, never_joined, old_or_joined};
-ghost use Rattle.join_core.specs.BetweenLaws.{old_or_joined-laws};
+ghost use Rattle.join_core.specs.Max.{max_joining};
+ghost use Rattle.join_core.specs.laws.Max.{nat_equality, max_laws, max_deltas};
+ghost use Rattle.join_core.specs.Joins.{never_between, never_joined, old_or_joined};
+ghost use Rattle.join_core.specs.laws.Between.{old_or_joined-laws};
 ghost use Rattle.std.specs.FinMap.{nat_cmp-IsAntisymmetric};
 
 use crate::{EmptyDelta, Exact, Join, Key, OutOfMemory};

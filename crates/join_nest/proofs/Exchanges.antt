@@ -1,12 +1,12 @@
 -- Values exchanged at their places, and exchanged back.
 use Rattle.std.proofs.Common.{◌≡◌, ℕ, zero, suc, ◌+◌, ◌<◌, ◌≤◌, true, nat_le, ◌&&◌, List, [], ◌∷◌, ◌++◌, length, get_or, map, set, take, drop, refl, sym, ap, ◌∙◌, arith}
 use Rattle.std.proofs.lemmas.Bool.Decides.{nat_tests}
-use Rattle.std.proofs.lemmas.List.{append-nil, append_assoc, at_drop_more, drop_all, drop-set-lt, get_or-set_same, length-set, set-get_or, set-set, take_all, take_more_set}
+use Rattle.std.proofs.lemmas.List.{append-nil, drop_all, get_or-set_same, length-set, set-get_or, set-set, take_all}
 use Rattle.std.specs.Option.{option_map}
 use Rattle.std.specs.declared.cmp.Ordering.{Ordering}
 use Rattle.std.specs.Cmp.{IsTotalOrder}
 use Rattle.std.specs.FinMap.{FinMap, IsAntisymmetric, is_sorted, from_sorted, insert}
-use Rattle.join_core.specs.Cases.{both_true, first_true, second_true}
+use Rattle.join_core.specs.laws.Cases.{both_true, first_true, second_true}
 use Rattle.join_nest.specs.Place.{IsAt, IsGap}
 use Rattle.join_nest.specs.Placed.{rise_from, set_value, set_values, taken, taken_at, values_in, with_values, with_values_under}
 use Rattle.join_nest.specs.Seen.{keyed_view, seen}
@@ -58,25 +58,7 @@ module _ {K J : Type 0} where
 
 -- ONE AFTER THE OTHER
 
-module _ {K J : Type 0} (es more : List (K × J)) (cs : List (ℕ × J)) (i : ℕ) (c d : ℕ × J) (lt : i < length cs) (is : c ≡ get_or cs i c) (made : more ≡ set_value es c.0 c.1) where
-  pub next_values : set_values more (drop (i + 1) (set cs i d)) ≡ set_values es (drop i cs)
-  next_values =
-      (λ t. set_values (made t) (drop-set-lt (i + 1) cs i d (omega arith) t))
-      ∙ ap (λ (y : ℕ × J). set_values (set_value es y.0 y.1) (drop (i + 1) cs)) is
-      ∙ sym (at_drop_more (set_values es) cs i c lt)
-
-  pub next_taken : d ≡ (c.0, taken_at es c.0 c.1) → take (i + 1) (set cs i d) ++ taken more (drop (i + 1) (set cs i d)) ≡ take i cs ++ taken es (drop i cs)
-  next_taken old =
-      (λ t. take_more_set cs i d lt t ++ taken (made t) (drop-set-lt (i + 1) cs i d (omega arith) t))
-      ∙ append_assoc (take i cs) (d ∷ []) (taken (set_value es c.0 c.1) (drop (i + 1) cs))
-      ∙ ap (λ (y : ℕ × J). take i cs ++ y ∷ taken (set_value es c.0 c.1) (drop (i + 1) cs)) old
-      ∙ ap (λ (y : ℕ × J). take i cs ++ (y.0, taken_at es y.0 y.1) ∷ taken (set_value es y.0 y.1) (drop (i + 1) cs)) is
-      ∙ sym (at_drop_more (λ l. take i cs ++ taken es l) cs i c lt)
-
 module _ {K J : Type 0} (es : List (K × J)) (cs : List (ℕ × J)) (i : ℕ) (past : length cs ≤ i) where
-  pub all_values : es ≡ set_values es (drop i cs)
-  all_values = ap (set_values es) (sym (drop_all i cs past))
-
   pub all_taken : cs ≡ take i cs ++ taken es (drop i cs)
   all_taken = sym (append-nil cs) ∙ (λ t. sym (take_all i cs past) t ++ taken es (sym (drop_all i cs past) t))
 

@@ -6,8 +6,8 @@ use Rattle.std.specs.declared.cmp.Ordering.{Ordering}
 use Rattle.std.specs.Cmp.{IsTotalOrder}
 use Rattle.std.specs.FinMap.{find, put, is_sorted, from_sorted, get, get-from_sorted}
 use Rattle.std.specs.FinMap.Entries.{below_all, find_tied, find-put, is_sorted-put}
-use Rattle.join_core.specs.Cases.{answer, yes, no, is_tied}
-use Rattle.join_core.specs.Laws.{Joining}
+use Rattle.join_core.specs.laws.Cases.{answer, yes, no, is_tied}
+use Rattle.join_core.specs.Joins.{Joining}
 use Rattle.join_nest.specs.Entries.{put_all}
 use Rattle.join_nest.specs.Prepared.{entries_there, joined_there, joined_to, put_over}
 use Rattle.join_nest.specs.Seen.{seen, keyed_view}

@@ -8,11 +8,11 @@ use Rattle.std.specs.Ordering.{eq_by_cmp, is_lt, ordering_reverse}
 use Rattle.std.specs.Cmp.{IsTotalOrder, alike_right}
 use Rattle.std.specs.FinMap.{find, is_sorted, from_sorted, get-from_sorted, same_map, IsAntisymmetric}
 use Rattle.std.specs.FinMap.Entries.{below_all}
-use Rattle.join_core.specs.Cases.{answer, yes, no, is_tied, first, second, first_true, second_true, both_true}
-use Rattle.join_core.specs.Laws.{Joining, JoinLaws}
-use Rattle.join_nest.specs.EntriesLaws.{below_tied, find_below}
+use Rattle.join_core.specs.laws.Cases.{answer, yes, no, is_tied, first, second, first_true, second_true, both_true}
+use Rattle.join_core.specs.Joins.{Joining, JoinLaws}
+use Rattle.join_nest.specs.laws.Entries.{below_tied, find_below}
 use Rattle.join_nest.specs.Keyed.{keyed_joining}
-use Rattle.join_nest.specs.KeyedLaws.{get_join}
+use Rattle.join_nest.specs.laws.Keyed.{get_join}
 use Rattle.join_nest.specs.Optional.{option_join}
 use Rattle.join_nest.specs.Place.{IsAt}
 use Rattle.join_nest.specs.Placed.{raised_at, rise_from, set_value, set_values}

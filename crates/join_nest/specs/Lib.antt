@@ -6,16 +6,11 @@ pub mod Place
 pub mod Placed
 pub mod Trunc
 pub mod TruncSeen
-pub mod OptionalLaws
-pub mod EntriesLaws
-pub mod KeyedLaws
 pub mod Cut
-pub mod TruncLaws
 pub mod Between
 pub mod Passed
 pub mod Lift
 pub mod LiftSeen
-pub mod LiftLaws
-pub mod NestLaws
 pub mod Prepared
 pub mod Room
+pub mod laws

@@ -2,7 +2,7 @@
 use Rattle.std.specs.Prelude.{◌≡◌, ℕ, false, List, [], ◌∷◌, ◌++◌, length, take, drop, Some}
 use Rattle.std.specs.declared.cmp.Ordering.{Ordering}
 use Rattle.std.specs.FinMap.{find}
-use Rattle.join_core.specs.Laws.{Joining, never_joined}
+use Rattle.join_core.specs.Joins.{Joining, never_joined}
 use Rattle.join_nest.specs.Between.{option_between}
 use Rattle.join_nest.specs.Entries.{entries_delta}
 use Rattle.join_nest.specs.Seen.{seen}

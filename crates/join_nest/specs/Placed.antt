@@ -2,7 +2,7 @@
 use Rattle.std.specs.Prelude.{ℕ, zero, suc, Bool, true, cond, ◌&&◌, nat_le, List, [], ◌∷◌, Option, Some, None}
 use Rattle.std.specs.declared.cmp.Ordering.{Ordering}
 use Rattle.std.specs.FinMap.{FinMap, entries, from_sorted, get, insert}
-use Rattle.join_core.specs.Laws.{Joining}
+use Rattle.join_core.specs.Joins.{Joining}
 
 module _ {K V : Type 0} where
   -- another value at the place; where there is no such place nothing changes

@@ -3,7 +3,7 @@ use Rattle.std.specs.Prelude.{List, map, Option, Some, None}
 use Rattle.std.specs.Option.{option_map}
 use Rattle.std.specs.declared.cmp.Ordering.{Ordering}
 use Rattle.std.specs.FinMap.{find}
-use Rattle.join_core.specs.Laws.{Joining}
+use Rattle.join_core.specs.Joins.{Joining}
 
 module _ {V : Type 0} where
   -- the value, joined with the old one, if there is one

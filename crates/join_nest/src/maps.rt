@@ -3,9 +3,9 @@ ghost use Rattle.std.specs.Prelude.{◌≡◌, nat_eq, IsTrue, IfOk, IfSome, OnO
 ghost use Rattle.std.specs.FinMap.{FinMap, is_sorted, empty, get, entries, len, insert, from_sorted};
 ghost use Rattle.std.specs.Option.{option_map, option_copied};
 ghost use Rattle.join_nest.specs.Between.{keyed_between};
-ghost use Rattle.join_nest.specs.NestLaws.{keyed_between_laws};
+ghost use Rattle.join_nest.specs.laws.Between.{keyed_between_laws};
 ghost use Rattle.join_nest.specs.Keyed.{keyed_equal, keyed_joining, replaced};
-ghost use Rattle.join_nest.specs.KeyedLaws.{keyed_deltas, keyed_equality, keyed_laws};
+ghost use Rattle.join_nest.specs.laws.Keyed.{keyed_deltas, keyed_equality, keyed_laws};
 ghost use Rattle.join_nest.specs.Placed.{with_values, with_values_under};
 ghost use Rattle.join_nest.specs.Prepared.{joined_there, put_over};
 ghost use Rattle.join_nest.specs.Seen.{keyed_view, seen};

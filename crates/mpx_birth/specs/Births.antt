@@ -6,7 +6,7 @@ use Rattle.std.specs.List.{list_all}
 use Rattle.std.proofs.lemmas.Bool.Decides.{Decides-and, Decides-eqb, Decides-like}
 use Rattle.std.proofs.lemmas.Slice.Eq.{slice_eq-Decides}
 use lib.Pointwise.{pointwise}
-use Rattle.join_core.specs.Laws.{IsEquality}
+use Rattle.join_core.specs.Joins.{IsEquality}
 use Rattle.mpx_group.specs.Group.{IsGroup, has_twice}
 pub use Rattle.mpx_group.specs.Group.{rank_in}
 pub use Rattle.mpx_birth.specs.Orders.{upto}

@@ -32,7 +32,7 @@ impl Model for Birth {
 }
 
 impl Exact for Birth {
-    ghost use Rattle.join_core.specs.Laws.{never_between, never_joined};
+    ghost use Rattle.join_core.specs.Joins.{never_between, never_joined};
     ghost use Rattle.mpx_birth.specs.Births.{BirthView, same_birth, birth_equality};
 
     ghost View = { BirthView };

@@ -6,7 +6,7 @@ use Rattle.std.specs.declared.cmp.Ordering.{Ordering}
 use Rattle.std.specs.Ordering.{eq_by_cmp, nat_cmp}
 use Rattle.std.specs.Cmp.{IsTotalOrder, unsigned_tied, nat_cmp_total}
 use Rattle.std.specs.FinMap.{empty as no_entry, get, get-empty, get-insert, get_tied, insert, nat_cmp-IsAntisymmetric}
-use Rattle.join_core.specs.Cases.{answer, yes, no, is_tied, both_true, first_true, second_true}
+use Rattle.join_core.specs.laws.Cases.{answer, yes, no, is_tied, both_true, first_true, second_true}
 use Rattle.join_nest.specs.Keyed.{replaced}
 use Rattle.join_nest.specs.Placed.{values_in, with_values, with_values_under}
 use Rattle.join_nest.specs.Optional.{option_join}

@@ -4,7 +4,7 @@ use Rattle.std.proofs.lemmas.Bool.Decides.{nat_tests}
 use Rattle.std.specs.Ordering.{eq_by_cmp, nat_cmp}
 use Rattle.std.specs.Cmp.{unsigned_tied, nat_cmp_total}
 use Rattle.std.specs.FinMap.{get, get-insert, get_tied, insert, same_map, nat_cmp-IsAntisymmetric}
-use Rattle.join_core.specs.Cases.{answer, yes, no, is_tied}
+use Rattle.join_core.specs.laws.Cases.{answer, yes, no, is_tied}
 use Rattle.join_nest.specs.Keyed.{replaced}
 use Rattle.mpx_board.specs.declared.acks.Raised.{Raised}
 use Rattle.mpx_board.specs.Boards.{IsBoardBelow, Look}

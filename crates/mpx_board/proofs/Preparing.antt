@@ -3,9 +3,9 @@ use Rattle.std.proofs.Common.{◌≡◌, ℕ, Option, Some, None, refl, sym, ap,
 use Rattle.std.specs.Cmp.{IsTotalOrder, nat_cmp_total}
 use Rattle.std.specs.declared.cmp.Ordering.{Ordering}
 use Rattle.std.specs.FinMap.{FinMap, get, nat_cmp-IsAntisymmetric, same_map}
-use Rattle.join_core.specs.Laws.{Joining, JoinLaws}
+use Rattle.join_core.specs.Joins.{Joining, JoinLaws}
 use Rattle.join_nest.specs.Keyed.{keyed_joining}
-use Rattle.join_nest.specs.KeyedLaws.{get_join}
+use Rattle.join_nest.specs.laws.Keyed.{get_join}
 use Rattle.join_nest.specs.Optional.{option_join}
 use Rattle.join_nest.specs.Prepared.{joined_there, put_over}
 use Rattle.mpx_name.specs.Order.{name_exact, name_total}

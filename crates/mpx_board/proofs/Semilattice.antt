@@ -2,9 +2,9 @@
 use Rattle.std.proofs.Common.{◌≡◌, ℕ, ◌<◌, ◌&&◌, ◌||◌, max, Bool, true, false, cond, refl, sym, ap, ◌∙◌, subst, arith}
 use Rattle.std.specs.Prelude.{nat_le}
 use Rattle.std.proofs.lemmas.Bool.Decides.{nat_tests}
-use Rattle.join_core.specs.Cases.{yes, no, answer}
+use Rattle.join_core.specs.laws.Cases.{yes, no, answer}
 use Rattle.join_core.specs.Flat.{FlatView, unknown, flat_join}
-use Rattle.join_core.specs.FlatLaws.{flat_laws}
+use Rattle.join_core.specs.laws.Flat.{flat_laws}
 use Rattle.mpx_birth.specs.Births.{birth_equality}
 use Rattle.mpx_name.specs.Name.{Name}
 use Rattle.mpx_post.specs.Posts.{Given}

@@ -26,7 +26,7 @@ use Rattle.mpx_comm.specs.declared.answers.CallError.{CallError}
 use Rattle.mpx_comm.specs.declared.answers.CallError.TheVariants as C
 use Rattle.mpx_comm.specs.Later.{Later, IsPending, IsOwn}
 use Rattle.mpx_comm.specs.Harvested.{ComesByHarvests, WasPending}
-use Rattle.join_core.specs.Cases.{first_true, second_true, TestAnswer, yes, no, answer}
+use Rattle.join_core.specs.laws.Cases.{first_true, second_true, TestAnswer, yes, no, answer}
 use Rattle.mpx_comm.proofs.Harvesting.{still_pending, pending_now}
 use Rattle.mpx_comm.proofs.Steps.{get_either, held_joined, held_added}
 use Rattle.mpx_node.specs.declared.finished.Finished.{Finished}

@@ -6,7 +6,7 @@ use Rattle.std.proofs.lemmas.Bool.Decides.{nat_tests}
 use Rattle.std.proofs.lemmas.Option.{same_Some, option_and_then_some, slice_get_cases}
 use Rattle.std.proofs.lemmas.List.{length-append}
 use Rattle.mpx_name.specs.Order.{name_equality}
-use Rattle.join_core.specs.Cases.{TestAnswer, yes, no, answer}
+use Rattle.join_core.specs.laws.Cases.{TestAnswer, yes, no, answer}
 use Rattle.join_core.specs.declared.memory.OutOfMemory.{OutOfMemory}
 use Rattle.join_core.specs.Flat.{FlatView, known, unknown, clash, flat_join, flat_leq}
 use Rattle.mpx_post.specs.Posts.{Given}

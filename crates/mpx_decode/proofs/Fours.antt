@@ -6,7 +6,7 @@ use Rattle.std.specs.declared.cmp.Ordering.{Ordering}
 use Rattle.std.specs.Ordering.{nat_cmp}
 use Rattle.std.specs.Cmp.{IsTotalOrder, nat_cmp_total}
 use Rattle.std.specs.FinMap.{is_sorted, IsAntisymmetric, nat_cmp-IsAntisymmetric}
-use Rattle.join_core.specs.Laws.{Joining}
+use Rattle.join_core.specs.Joins.{Joining}
 use Rattle.join_core.specs.Max.{max_joining}
 use Rattle.join_core.specs.declared.max.Max.{Max}
 use Rattle.mpx_format.specs.Fields.{process, some_calls}

@@ -5,15 +5,16 @@ use Rattle.std.specs.Int.{w32}
 use Rattle.std.specs.Ordering.{nat_cmp}
 use Rattle.std.specs.Cmp.{nat_cmp_total}
 use Rattle.std.specs.FinMap.{FinMap, from_sorted, get}
-use Rattle.join_core.specs.Laws.{Joining}
-use Rattle.join_core.specs.Cases.{answer, yes, no}
+use Rattle.join_core.specs.Joins.{Joining}
+use Rattle.join_core.specs.laws.Cases.{answer, yes, no}
 use Rattle.join_nest.specs.Between.{option_between, trunc_between}
 use Rattle.join_nest.specs.Optional.{option_join}
 use Rattle.join_nest.specs.Keyed.{keyed_joining}
-use Rattle.join_nest.specs.KeyedLaws.{get_join}
-use Rattle.join_nest.specs.Cut.{cut, get_cut}
+use Rattle.join_nest.specs.laws.Keyed.{get_join}
+use Rattle.join_nest.specs.Cut.{cut}
+use Rattle.join_nest.specs.laws.Cut.{get_cut}
 use Rattle.join_nest.specs.Trunc.{TruncView, drop_below, trunc_joining, trunc_of}
-use Rattle.join_nest.specs.TruncLaws.{get_dropped, same_trunc}
+use Rattle.join_nest.specs.laws.Trunc.{get_dropped, same_trunc}
 use Rattle.mpx_board.specs.Parts.{CallView, call_between, call_joining}
 use Rattle.mpx_format.specs.declared.defects.Defect.{Defect}
 use Rattle.mpx_format.specs.declared.defects.ReadError.{ReadError}

@@ -1,6 +1,6 @@
 -- Values side by side, and values that may be dead, joined as they are read.
 use Rattle.std.proofs.Common.{◌≡◌, ◌≢◌, ℕ, zero, suc, true, cond, List, Result, Ok, Err, IfOk, OnErr, refl, sym, ap, ◌∙◌, subst, nat_lt}
-use Rattle.join_core.specs.Laws.{Joining, BetweenLaws}
+use Rattle.join_core.specs.Joins.{Joining, BetweenLaws}
 use Rattle.join_core.specs.Pair.{pair_between, pair_joining}
 use Rattle.join_nest.specs.Lift.{LiftView, dead, lift_between, lift_joining, live}
 use Rattle.mpx_format.specs.declared.defects.ReadError.{ReadError}

@@ -8,8 +8,8 @@ use Rattle.std.specs.declared.cmp.Ordering.{Ordering}
 use Rattle.std.specs.Ordering.{eq_by_cmp, nat_cmp}
 use Rattle.std.specs.Cmp.{IsTotalOrder, nat_cmp_total, unsigned_tied}
 use Rattle.std.specs.FinMap.{IsAntisymmetric, entries, find, get, is_sorted, nat_cmp-IsAntisymmetric}
-use Rattle.join_core.specs.Cases.{answer, yes, no, is_tied, first_true, second_true}
-use Rattle.join_core.specs.Laws.{Joining, JoinLaws}
+use Rattle.join_core.specs.laws.Cases.{answer, yes, no, is_tied, first_true, second_true}
+use Rattle.join_core.specs.Joins.{Joining, JoinLaws}
 use Rattle.join_nest.specs.Optional.{option_join}
 use Rattle.join_nest.specs.Seen.{keyed_view, seen}
 use Rattle.join_nest.proofs.Steps.{find_seen}

@@ -8,10 +8,10 @@ use Rattle.std.specs.Ordering.{eq_by_cmp}
 use Rattle.std.specs.Cmp.{IsTotalOrder, tied_itself}
 use Rattle.std.specs.FinMap.{find, put, is_sorted, IsAntisymmetric}
 use Rattle.std.specs.FinMap.Entries.{find-put}
-use Rattle.join_core.specs.Laws.{Joining, JoinLaws, BetweenLaws}
-use Rattle.join_core.specs.Cases.{answer, yes, no, is_tied}
+use Rattle.join_core.specs.Joins.{Joining, JoinLaws, BetweenLaws}
+use Rattle.join_core.specs.laws.Cases.{answer, yes, no, is_tied}
 use Rattle.join_nest.specs.Optional.{option_join}
-use Rattle.join_nest.specs.NestLaws.{option_between_laws}
+use Rattle.join_nest.specs.laws.Between.{option_between_laws}
 use Rattle.join_nest.specs.Place.{IsAt, IsGap}
 use Rattle.join_nest.specs.Seen.{seen}
 use Rattle.join_nest.proofs.JoinsIn.{put_keeps_order}

@@ -4,16 +4,16 @@ use Rattle.std.proofs.lemmas.Bool.Decides.{nat_tests}
 use Rattle.std.specs.Ordering.{eq_by_cmp, nat_cmp}
 use Rattle.std.specs.Cmp.{nat_cmp_total}
 use Rattle.std.specs.FinMap.{FinMap, find, is_sorted, from_sorted, get, get-from_sorted, insert, nat_cmp-IsAntisymmetric}
-use Rattle.join_core.specs.Laws.{Joining, JoinLaws, BetweenLaws}
-use Rattle.join_core.specs.Cases.{answer, yes, no, is_tied}
+use Rattle.join_core.specs.Joins.{Joining, JoinLaws, BetweenLaws}
+use Rattle.join_core.specs.laws.Cases.{answer, yes, no, is_tied}
 use Rattle.join_nest.specs.Optional.{option_join}
 use Rattle.join_nest.specs.Between.{option_between}
-use Rattle.join_nest.specs.NestLaws.{option_between_laws}
+use Rattle.join_nest.specs.laws.Between.{option_between_laws}
 use Rattle.join_nest.specs.Keyed.{keyed_joining}
-use Rattle.join_nest.specs.KeyedLaws.{get_join}
-use Rattle.join_nest.specs.Cut.{get_cut}
+use Rattle.join_nest.specs.laws.Keyed.{get_join}
+use Rattle.join_nest.specs.laws.Cut.{get_cut}
 use Rattle.join_nest.specs.Trunc.{TruncView, trunc_of}
-use Rattle.join_nest.specs.TruncLaws.{get_dropped, same_trunc}
+use Rattle.join_nest.specs.laws.Trunc.{get_dropped, same_trunc}
 use Rattle.join_nest.proofs.Places.{holds}
 use Rattle.mpx_board.proofs.Setting.{IsSet, set_by_insert}
 use Rattle.mpx_format.specs.Fields.{call}

@@ -8,13 +8,13 @@ use Rattle.std.specs.Ordering.{eq_by_cmp, is_lt, ordering_reverse}
 use Rattle.std.specs.Cmp.{IsTotalOrder}
 use Rattle.std.specs.FinMap.{FinMap, find, is_sorted, from_sorted, get-from_sorted, same_map, IsAntisymmetric}
 use Rattle.std.specs.FinMap.Entries.{below_all}
-use Rattle.join_core.specs.Laws.{Joining, JoinLaws, BetweenLaws}
-use Rattle.join_core.specs.Cases.{answer, yes, no, is_tied}
+use Rattle.join_core.specs.Joins.{Joining, JoinLaws, BetweenLaws}
+use Rattle.join_core.specs.laws.Cases.{answer, yes, no, is_tied}
 use Rattle.join_nest.specs.Optional.{option_join, option_joining}
 use Rattle.join_nest.specs.Between.{option_between, keyed_between}
-use Rattle.join_nest.specs.NestLaws.{option_between_laws}
+use Rattle.join_nest.specs.laws.Between.{option_between_laws}
 use Rattle.join_nest.specs.Keyed.{keyed_joining}
-use Rattle.join_nest.specs.KeyedLaws.{get_join}
+use Rattle.join_nest.specs.laws.Keyed.{get_join}
 use Rattle.join_nest.specs.Seen.{seen, keyed_view}
 use Rattle.join_nest.proofs.Places.{holds}
 use Rattle.join_nest.proofs.Steps.{find_seen}

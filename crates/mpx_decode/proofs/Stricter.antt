@@ -2,7 +2,7 @@
 use Rattle.std.proofs.Common.{◌≡◌, ℕ, zero, suc, Bool, true, cond, List, [], ◌∷◌, ◌++◌, Option, Some, None, Result, Ok, Err, IfOk, OnErr, refl, sym, ap, ◌∙◌}
 use Rattle.std.specs.declared.cmp.Ordering.{Ordering}
 use Rattle.std.specs.FinMap.{from_sorted}
-use Rattle.join_core.specs.Laws.{Joining}
+use Rattle.join_core.specs.Joins.{Joining}
 use Rattle.mpx_format.specs.declared.defects.Defect.{Defect}
 use Rattle.mpx_format.specs.Format.{Format, ◌>>=◌, both, counted, many, many_read, not_canonical, only}
 use Rattle.mpx_format.specs.Rising.{always, entry, keyed, last_of, may_come}

@@ -2,7 +2,7 @@
 use Rattle.std.proofs.Common.{◌≡◌, ◌≢◌, ℕ, true, List, [], None, Result, Ok, Err, IfOk, OnErr, refl, sym, ap, ◌∙◌, subst}
 use Rattle.std.specs.declared.cmp.Ordering.{Ordering}
 use Rattle.std.specs.FinMap.{FinMap, from_sorted}
-use Rattle.join_core.specs.Laws.{Joining, JoinLaws}
+use Rattle.join_core.specs.Joins.{Joining, JoinLaws}
 use Rattle.join_nest.specs.Between.{keyed_between}
 use Rattle.join_nest.specs.Keyed.{keyed_joining}
 use Rattle.mpx_board.specs.Parts.{PartsView, parts_between, parts_joining}

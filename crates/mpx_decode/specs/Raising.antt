@@ -5,7 +5,7 @@ use Rattle.std.proofs.Common.{cond}
 use Rattle.std.specs.declared.cmp.Ordering.{Ordering}
 use Rattle.std.specs.Ordering.{eq_by_cmp, nat_cmp}
 use Rattle.std.specs.FinMap.{FinMap, empty, entries, find, from_sorted, get, insert}
-use Rattle.join_core.specs.Laws.{Joining}
+use Rattle.join_core.specs.Joins.{Joining}
 use Rattle.join_nest.specs.Between.{option_between}
 use Rattle.join_nest.specs.Keyed.{keyed_joining}
 use Rattle.join_nest.specs.Optional.{option_join}

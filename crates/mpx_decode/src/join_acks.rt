@@ -2,9 +2,10 @@
 ghost use Rattle.std.specs.Prelude.{◌≡◌, ◌≢◌, ◌<◌, ◌-◌, ◌^◌, ◌∷◌, ℕ, [], IfOk, IfSome, List, Ok, OnErr, length, reverse};
 ghost use Rattle.std.specs.FinMap.{FinMap};
 ghost use Rattle.std.specs.Ordering.{nat_cmp};
-ghost use Rattle.join_core.specs.BetweenLaws.{old_or_joined-laws};
-ghost use Rattle.join_core.specs.Laws.{old_or_joined};
-ghost use Rattle.join_core.specs.Max.{max_joining, max_laws};
+ghost use Rattle.join_core.specs.laws.Between.{old_or_joined-laws};
+ghost use Rattle.join_core.specs.Joins.{old_or_joined};
+ghost use Rattle.join_core.specs.Max.{max_joining};
+ghost use Rattle.join_core.specs.laws.Max.{max_laws};
 ghost use Rattle.join_nest.specs.Seen.{keyed_view};
 ghost use Rattle.mpx_name.specs.Order.{name_cmp};
 ghost use Rattle.join_nest.specs.Keyed.{keyed_joining};

@@ -3,7 +3,7 @@ ghost use Rattle.std.specs.Prelude.{◌≡◌, ◌++◌, IfOk, IfSome, Ok, OnErr
 ghost use Rattle.std.specs.Bool.{Decides};
 ghost use Rattle.join_core.specs.Flat.{flat_joining};
 ghost use Rattle.join_core.specs.FlatSeen.{flat_view};
-ghost use Rattle.join_core.specs.Laws.{old_or_joined};
+ghost use Rattle.join_core.specs.Joins.{old_or_joined};
 ghost use Rattle.mpx_birth.specs.Births.{same_birth};
 ghost use Rattle.mpx_format.specs.Births.{birth as birth_format};
 ghost use Rattle.mpx_format.specs.Contexts.{told as told_format};

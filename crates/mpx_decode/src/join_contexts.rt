@@ -1,11 +1,11 @@
 //! What is said of contexts joined as its bytes are read.
 ghost use Rattle.std.specs.Prelude.{◌≡◌, ◌≢◌, ℕ, IfOk, List, Ok, OnErr};
 ghost use Rattle.std.specs.Ordering.{nat_cmp};
-ghost use Rattle.join_core.specs.BetweenLaws.{old_or_joined-laws};
+ghost use Rattle.join_core.specs.laws.Between.{old_or_joined-laws};
 ghost use Rattle.join_core.specs.Flat.{FlatView, flat_joining};
-ghost use Rattle.join_core.specs.FlatLaws.{flat_laws};
+ghost use Rattle.join_core.specs.laws.Flat.{flat_laws};
 ghost use Rattle.join_core.specs.FlatSeen.{flat_view};
-ghost use Rattle.join_core.specs.Laws.{old_or_joined};
+ghost use Rattle.join_core.specs.Joins.{old_or_joined};
 ghost use Rattle.join_core.specs.Pair.{pair_between, pair_joining};
 ghost use Rattle.join_nest.specs.Between.{keyed_between, trunc_between};
 ghost use Rattle.join_nest.specs.Keyed.{keyed_joining};

@@ -3,7 +3,7 @@ ghost use Rattle.std.specs.Prelude.{◌≡◌, ◌+◌, ◌≤◌, ◌<◌, ℕ,
 ghost use Rattle.std.specs.Ordering.{nat_cmp};
 ghost use Rattle.std.specs.FinMap.{is_sorted};
 ghost use Rattle.join_core.specs.Max.{max_joining};
-ghost use Rattle.join_core.specs.Laws.{old_or_joined};
+ghost use Rattle.join_core.specs.Joins.{old_or_joined};
 ghost use Rattle.join_nest.specs.Between.{keyed_between};
 ghost use Rattle.join_nest.specs.Keyed.{keyed_joining};
 ghost use Rattle.join_nest.specs.Seen.{keyed_view};

@@ -1,7 +1,7 @@
 //! Values joined as their bytes are read. The bytes are known to be spelled, so a refusal is want of memory.
 ghost use Rattle.std.specs.Prelude.{◌≡◌, ◌<◌, IfOk, IfSome, IsTrue, Ok, OnErr, length};
 ghost use Rattle.std.specs.FinMap.{is_sorted};
-ghost use Rattle.join_core.specs.Laws.{BetweenLaws, JoinLaws, Joining};
+ghost use Rattle.join_core.specs.Joins.{BetweenLaws, JoinLaws, Joining};
 ghost use Rattle.join_nest.specs.Keyed.{keyed_joining};
 ghost use Rattle.join_nest.specs.Between.{keyed_between};
 ghost use Rattle.join_nest.specs.Seen.{keyed_view};

@@ -8,8 +8,8 @@ use Rattle.std.specs.Ordering.{eq_by_cmp}
 use Rattle.std.specs.Cmp.{IsTotalOrder, nat_cmp_total}
 use Rattle.std.specs.FinMap.{FinMap, find, is_sorted, entries, entries_sorted, get, get-entries, nat_cmp-IsAntisymmetric, IsAntisymmetric}
 use Rattle.join_core.specs.Flat.{FlatView, unknown}
-use Rattle.join_core.specs.Cases.{answer, yes, no, is_tied, first, second, first_true, second_true}
-use Rattle.join_nest.specs.EntriesLaws.{find_first, find_below, below_tied}
+use Rattle.join_core.specs.laws.Cases.{answer, yes, no, is_tied, first, second, first_true, second_true}
+use Rattle.join_nest.specs.laws.Entries.{find_first, find_below, below_tied}
 use Rattle.join_nest.specs.Lift.{live, dead}
 use Rattle.mpx_name.specs.Name.{Name}
 use Rattle.mpx_name.specs.Order.{name_total, name_exact}

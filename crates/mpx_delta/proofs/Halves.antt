@@ -9,7 +9,7 @@ use Rattle.std.specs.FinMap.Entries.{below_all}
 use Rattle.std.proofs.lemmas.List.{take-append-drop, take_all, map-append}
 use Rattle.std.proofs.lemmas.List.Elements.{All-nil, All-cons, All-head, All-append}
 use Rattle.std.proofs.lemmas.List.Folds.{list_all-append}
-use Rattle.join_core.specs.Cases.{both_true, first_true, second_true}
+use Rattle.join_core.specs.laws.Cases.{both_true, first_true, second_true}
 use Rattle.join_nest.specs.Seen.{seen}
 use Rattle.mpx_board.specs.Boards.{Fact}
 use Rattle.mpx_board.specs.declared.board.Board.{Board}

@@ -7,7 +7,7 @@ use Rattle.std.specs.Ordering.{nat_cmp}
 use Rattle.std.specs.Cmp.{nat_cmp_total}
 use Rattle.std.specs.FinMap.{empty as no_entry, from_sorted, get, is_sorted, same_map, nat_cmp-IsAntisymmetric}
 use Rattle.join_core.specs.Flat.{FlatView}
-use Rattle.join_core.specs.Cases.{both_true, first_true, second_true}
+use Rattle.join_core.specs.laws.Cases.{both_true, first_true, second_true}
 use Rattle.join_nest.specs.Entries.{with_key}
 use Rattle.join_nest.specs.Lift.{live, dead}
 use Rattle.join_nest.specs.Placed.{rise_from, set_value, set_values, taken, with_values}

@@ -2,10 +2,10 @@
 use Rattle.std.proofs.Common.{◌≡◌, ◌≢◌, ◌≤◌, ◌<◌, ◌⊎◌, inl, inr, ◌||◌, ℕ, zero, suc, max, Bool, true, false, cond, List, [], ◌∷◌, ◌++◌, length, map, get_or, set, fold, refl, sym, ap, ◌∙◌, subst, arith}
 use Rattle.std.specs.Prelude.{All, nat_le}
 use Rattle.std.proofs.lemmas.List.Elements.{All-nil, All-cons, All-head, All-tail, All-append}
-use Rattle.join_core.specs.Laws.{JoinLaws}
-use Rattle.join_core.specs.Cases.{yes, no, answer}
+use Rattle.join_core.specs.Joins.{JoinLaws}
+use Rattle.join_core.specs.laws.Cases.{yes, no, answer}
 use Rattle.join_core.specs.Flat.{FlatView, unknown, known, clash, flat_join, flat_joining}
-use Rattle.join_core.specs.FlatLaws.{flat_laws}
+use Rattle.join_core.specs.laws.Flat.{flat_laws}
 use Rattle.join_core.proofs.Orders.{order_laws}
 use Rattle.mpx_post.specs.Posts.{Given}
 use Rattle.mpx_post.specs.Equality.{same_given, given_equality}

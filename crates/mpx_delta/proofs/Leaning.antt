@@ -7,11 +7,12 @@ use Rattle.std.specs.Ordering.{nat_cmp}
 use Rattle.std.specs.Cmp.{nat_cmp_total}
 use Rattle.std.specs.FinMap.{FinMap, get, get-empty, empty as no_entry, nat_cmp-IsAntisymmetric}
 use Rattle.join_core.specs.Flat.{FlatView, unknown, known, clash}
-use Rattle.join_core.specs.Cases.{yes, no, answer, both, first, second, both_true, first_true, second_true}
+use Rattle.join_core.specs.laws.Cases.{yes, no, answer, both, first, second, both_true, first_true, second_true}
 use Rattle.join_nest.specs.Entries.{with_key}
-use Rattle.join_nest.specs.Cut.{is_from, get_cut}
+use Rattle.join_nest.specs.Cut.{is_from}
+use Rattle.join_nest.specs.laws.Cut.{get_cut}
 use Rattle.join_nest.specs.Lift.{live, dead}
-use Rattle.join_nest.specs.TruncLaws.{get_dropped, same_trunc}
+use Rattle.join_nest.specs.laws.Trunc.{get_dropped, same_trunc}
 use Rattle.join_nest.specs.Trunc.{TruncView, trunc_of}
 use Rattle.mpx_name.specs.Name.{Name}
 use Rattle.mpx_name.specs.Order.{name_cmp, name_total, name_exact}

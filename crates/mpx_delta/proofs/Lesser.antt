@@ -8,7 +8,7 @@ use Rattle.std.specs.Option.{option_map}
 use Rattle.std.specs.Ordering.{nat_cmp}
 use Rattle.std.specs.Cmp.{nat_cmp_total}
 use Rattle.std.specs.FinMap.{get, get-empty, empty as no_entry, nat_cmp-IsAntisymmetric}
-use Rattle.join_core.specs.Cases.{yes, no, answer, second_true}
+use Rattle.join_core.specs.laws.Cases.{yes, no, answer, second_true}
 use Rattle.mpx_name.specs.Name.{Name}
 use Rattle.mpx_name.specs.Order.{name_cmp, name_total, name_exact}
 use Rattle.mpx_birth.specs.Orders.{upto}
@@ -16,7 +16,7 @@ use Rattle.mpx_board.specs.Boards.{Look, minimum}
 use Rattle.mpx_board.specs.Contexts.{or_zero, number_acked, ack_in, look_of}
 use Rattle.join_core.specs.Max.{max_joining}
 use Rattle.join_nest.specs.Optional.{option_leq}
-use Rattle.join_nest.specs.KeyedLaws.{leq_gets}
+use Rattle.join_nest.specs.laws.Keyed.{leq_gets}
 use Rattle.mpx_board.specs.Parts.{OfProcesses, AcksView, PartsView, acks_joining, numbers_joining}
 use Rattle.mpx_board.specs.Tidy.{is_bare, has_no_zero, is_tidy_numbers, are_tidy_numbers, is_tidy_acks, are_tidy_acks, are_tidy_entries, is_tidy}
 use Rattle.mpx_board.proofs.Entries.{all_empty, bare_gets, entries_get, get_entries}

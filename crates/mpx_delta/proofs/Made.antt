@@ -11,7 +11,7 @@ use Rattle.std.specs.FinMap.{FinMap, empty, entries, from_sorted, entries-from_s
 use Rattle.std.proofs.lemmas.List.{nil_from_length}
 use Rattle.std.proofs.lemmas.Option.{same_Some}
 use Rattle.join_core.specs.Flat.{FlatView, unknown}
-use Rattle.join_core.specs.Cases.{both_true, first_true}
+use Rattle.join_core.specs.laws.Cases.{both_true, first_true}
 use Rattle.join_nest.specs.Lift.{live}
 use Rattle.mpx_name.specs.Name.{Name}
 use Rattle.mpx_name.specs.Order.{name_cmp}

@@ -6,7 +6,7 @@ use Rattle.std.specs.declared.cmp.Ordering.TheVariants.{Less}
 use Rattle.std.specs.Ordering.{nat_cmp, is_lt}
 use Rattle.std.specs.FinMap.{is_sorted}
 use Rattle.std.specs.FinMap.Entries.{below_all}
-use Rattle.join_core.specs.Cases.{first_true, second_true}
+use Rattle.join_core.specs.laws.Cases.{first_true, second_true}
 use Rattle.std.proofs.lemmas.Cmp.{ranked}
 use Rattle.mpx_format.proofs.Rows.{is_less}
 

@@ -7,7 +7,7 @@ use Rattle.std.specs.declared.cmp.Ordering.{Ordering}
 use Rattle.std.specs.Ordering.{nat_cmp}
 use Rattle.std.specs.FinMap.{FinMap, empty, entries, from_sorted, len, len-entries}
 use Rattle.std.proofs.lemmas.List.Elements.{All-nil, All-cons, All-head}
-use Rattle.join_core.specs.Cases.{both_true}
+use Rattle.join_core.specs.laws.Cases.{both_true}
 use Rattle.join_nest.specs.Seen.{seen}
 use Rattle.join_nest.proofs.Views.{entries_of}
 use Rattle.join_nest.proofs.Steps.{length_seen}

@@ -8,8 +8,8 @@ use Rattle.std.specs.Cmp.{nat_cmp_total}
 use Rattle.std.specs.FinMap.{find, is_sorted, entries, entries_sorted, get, get-empty, get-entries, same_map, nat_cmp-IsAntisymmetric}
 use Rattle.std.specs.FinMap.Entries.{below_all}
 use Rattle.join_core.specs.Flat.{FlatView, unknown}
-use Rattle.join_core.specs.Cases.{yes, no, answer, both, first}
-use Rattle.join_nest.specs.EntriesLaws.{below_less, find_below}
+use Rattle.join_core.specs.laws.Cases.{yes, no, answer, both, first}
+use Rattle.join_nest.specs.laws.Entries.{below_less, find_below}
 use Rattle.join_nest.specs.Lift.{live, dead}
 use Rattle.mpx_name.specs.Name.{Name}
 use Rattle.mpx_name.specs.Order.{name_cmp, name_total, name_exact}

@@ -4,7 +4,7 @@ use Rattle.std.proofs.lemmas.Option.{same_Some}
 use Rattle.std.specs.declared.cmp.Ordering.{Ordering}
 use Rattle.std.specs.Cmp.{nat_cmp_total}
 use Rattle.std.specs.FinMap.{FinMap, nat_cmp-IsAntisymmetric}
-use Rattle.join_core.specs.Cases.{yes, no, answer, both_true}
+use Rattle.join_core.specs.laws.Cases.{yes, no, answer, both_true}
 use Rattle.mpx_board.specs.Contexts.{or_zero, number_acked}
 use Rattle.mpx_board.specs.Parts.{OfProcesses}
 use Rattle.mpx_board.specs.Tidy.{is_bare, has_no_zero, is_tidy_numbers}

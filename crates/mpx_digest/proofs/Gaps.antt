@@ -10,11 +10,11 @@ use Rattle.std.specs.Ordering.{eq_by_cmp, nat_cmp}
 use Rattle.std.specs.Cmp.{nat_cmp_total, unsigned_tied}
 use Rattle.std.specs.FinMap.Entries.{below_all}
 use Rattle.std.specs.FinMap.{empty as no_entry, find, is_sorted, entries, entries_sorted, get, get-empty, get-entries, get-from_sorted, nat_cmp-IsAntisymmetric}
-use Rattle.join_core.specs.Cases.{yes, no, answer, first, second, first_true, second_true, is_tied}
+use Rattle.join_core.specs.laws.Cases.{yes, no, answer, first, second, first_true, second_true, is_tied}
 use Rattle.join_core.specs.Flat.{FlatView, unknown, known, clash}
-use Rattle.join_nest.specs.EntriesLaws.{below_less, below_tied, find_below, find_first}
+use Rattle.join_nest.specs.laws.Entries.{below_less, below_tied, find_below, find_first}
 use Rattle.join_nest.specs.Lift.{live, dead}
-use Rattle.join_nest.specs.TruncLaws.{get_dropped}
+use Rattle.join_nest.specs.laws.Trunc.{get_dropped}
 use Rattle.mpx_birth.specs.Orders.{upto}
 use Rattle.mpx_name.specs.Name.{Name}
 use Rattle.mpx_name.specs.Order.{name_cmp, name_total, name_exact}

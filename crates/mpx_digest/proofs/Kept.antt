@@ -6,9 +6,9 @@ use Rattle.std.specs.declared.cmp.Ordering.{Ordering}
 use Rattle.std.specs.Cmp.{IsTotalOrder}
 use Rattle.std.specs.FinMap.{FinMap, find, is_sorted, entries, entries_sorted, get, get-entries, get-from_sorted, IsAntisymmetric}
 use Rattle.std.specs.FinMap.Entries.{below_all}
-use Rattle.join_core.specs.Cases.{both, first, second, yes, no, answer, is_tied}
+use Rattle.join_core.specs.laws.Cases.{both, first, second, yes, no, answer, is_tied}
 use Rattle.join_nest.specs.Entries.{with_key}
-use Rattle.join_nest.specs.EntriesLaws.{find_below, below_tied}
+use Rattle.join_nest.specs.laws.Entries.{find_below, below_tied}
 use Rattle.mpx_digest.specs.Keep.{kept, keep}
 
 module _ {K V W : Type 0} (R : K → K → Ordering) (f : K → V → Option W) where

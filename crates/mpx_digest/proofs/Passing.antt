@@ -5,9 +5,9 @@ use Rattle.std.specs.Ordering.{nat_cmp}
 use Rattle.std.specs.declared.cmp.Ordering.TheVariants.{Less}
 use Rattle.std.specs.FinMap.{is_sorted}
 use Rattle.std.specs.FinMap.Entries.{below_all}
-use Rattle.join_core.specs.Cases.{yes, no, answer, both, first, second}
+use Rattle.join_core.specs.laws.Cases.{yes, no, answer, both, first, second}
 use Rattle.join_nest.specs.Cut.{is_from}
-use Rattle.join_nest.specs.EntriesLaws.{less}
+use Rattle.join_nest.specs.laws.Entries.{less}
 use Rattle.mpx_board.specs.Parts.{CallView}
 use Rattle.mpx_digest.specs.Reach.{is_told_of, next_number, reach}
 use Rattle.mpx_digest.proofs.Steps.{true_of}

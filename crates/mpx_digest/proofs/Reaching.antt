@@ -18,11 +18,11 @@ use Rattle.std.specs.Cmp.{nat_cmp_total, unsigned_tied}
 use Rattle.std.specs.FinMap.{find, is_sorted}
 use Rattle.std.specs.FinMap.Entries.{below_all}
 use Rattle.join_core.specs.Flat.{FlatView}
-use Rattle.join_nest.specs.EntriesLaws.{below_tied, less}
+use Rattle.join_nest.specs.laws.Entries.{below_tied, less}
 use Rattle.mpx_post.specs.Posts.{Given}
 use Rattle.mpx_board.specs.Contexts.{or_unknown}
 use Rattle.mpx_board.specs.Tidy.{is_unknown}
-use Rattle.join_core.specs.Cases.{yes, no, answer, first, second, first_true, is_tied}
+use Rattle.join_core.specs.laws.Cases.{yes, no, answer, first, second, first_true, is_tied}
 
 -- the numbers of one process more
 pub one_more : (n : ℕ) (ns : List ℕ) → numbers_with (ns ++ n ∷ []) ≡ numbers_with ns ++ (n, tt) ∷ []

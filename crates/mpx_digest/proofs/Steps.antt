@@ -5,7 +5,7 @@ use Rattle.std.specs.FinMap.{is_sorted}
 use Rattle.std.specs.List.{list_all}
 use Rattle.std.proofs.lemmas.List.{take_more, take_all, append-nil}
 use Rattle.std.proofs.lemmas.List.Sums.{AllPass-from_list_all}
-use Rattle.join_core.specs.Cases.{both_true, first_true, second_true}
+use Rattle.join_core.specs.laws.Cases.{both_true, first_true, second_true}
 use Rattle.join_nest.specs.Entries.{with_key}
 use Rattle.join_nest.specs.Seen.{seen, sorted_seen}
 use Rattle.mpx_digest.specs.Keep.{kept}

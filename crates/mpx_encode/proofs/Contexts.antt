@@ -5,7 +5,7 @@ use Rattle.std.specs.Int.{w32, to_be_bytes}
 use Rattle.std.specs.Ordering.{nat_cmp}
 use Rattle.std.specs.FinMap.{is_sorted, entries}
 use Rattle.std.proofs.lemmas.Bool.{lt-ltb, ltb-true, le-leb}
-use Rattle.join_core.specs.Cases.{both_true, first_true, second_true}
+use Rattle.join_core.specs.laws.Cases.{both_true, first_true, second_true}
 use Rattle.join_core.specs.Flat.{known}
 use Rattle.join_nest.specs.Trunc.{TruncView}
 use Rattle.join_nest.specs.Cut.{is_from}

@@ -8,7 +8,7 @@ use Rattle.std.proofs.lemmas.Bool.{eqb-true}
 use Rattle.std.proofs.lemmas.Grind.{flat_map-append}
 use Rattle.std.proofs.lemmas.List.{take-append-drop, take_all, drop-drop}
 use Rattle.std.proofs.lemmas.List.Folds.{list_all-append}
-use Rattle.join_core.specs.Cases.{answer, yes, no, first_true, second_true}
+use Rattle.join_core.specs.laws.Cases.{answer, yes, no, first_true, second_true}
 use Rattle.join_nest.specs.Seen.{seen}
 use Rattle.join_nest.proofs.Places.{find_at}
 use Rattle.join_nest.proofs.Steps.{length_seen}

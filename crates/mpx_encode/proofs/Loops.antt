@@ -5,7 +5,7 @@ use Rattle.std.proofs.lemmas.List.{take_more, append-nil, take-append-drop, get_
 use Rattle.std.proofs.lemmas.List.Folds.{list_all_more}
 use Rattle.std.proofs.lemmas.Grind.{flat_map-append}
 use Rattle.byteorder.proofs.Slices.{write_step}
-use Rattle.join_core.specs.Cases.{both_true, first_true, second_true}
+use Rattle.join_core.specs.laws.Cases.{both_true, first_true, second_true}
 use Rattle.join_nest.specs.Seen.{seen}
 use Rattle.mpx_encode.specs.Room.{room_left}
 use Rattle.mpx_encode.proofs.Rooms.{room_stops_at, room_behind}

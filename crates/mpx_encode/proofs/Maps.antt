@@ -6,7 +6,7 @@ use Rattle.std.proofs.lemmas.Bool.{lt-ltb, ltb-true}
 use Rattle.std.specs.declared.cmp.Ordering.{Ordering}
 use Rattle.std.specs.FinMap.{FinMap, is_sorted, entries, len, len-entries}
 use Rattle.std.specs.List.{list_all}
-use Rattle.join_core.specs.Cases.{both_true, first_true, second_true}
+use Rattle.join_core.specs.laws.Cases.{both_true, first_true, second_true}
 use Rattle.mpx_format.specs.Format.{Format, byte, many_fit}
 use Rattle.mpx_format.specs.Rising.{entry, keyed}
 use Rattle.mpx_format.specs.Fields.{process, some_byte, some_calls}

@@ -5,7 +5,7 @@ use Rattle.std.specs.Int.{w16, w32, to_be_bytes}
 use Rattle.std.specs.List.{flat_map}
 use Rattle.std.specs.Option.{option_map}
 use Rattle.std.proofs.lemmas.Bool.{ltb-true}
-use Rattle.join_core.specs.Cases.{first_true, second_true}
+use Rattle.join_core.specs.laws.Cases.{first_true, second_true}
 use Rattle.mpx_num.specs.ItemList.{ItemList}
 use Rattle.mpx_num.specs.declared.types.Ty.{Ty}
 use Rattle.mpx_num.specs.declared.types.Ty.TheVariants.{I32}

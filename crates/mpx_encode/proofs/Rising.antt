@@ -7,7 +7,7 @@ use Rattle.std.specs.FinMap.{is_sorted}
 use Rattle.std.specs.FinMap.Entries.{below_all}
 use Rattle.std.specs.List.{flat_map, list_all}
 use Rattle.std.proofs.lemmas.Bool.{ltb-true, le-ltb, leb-true}
-use Rattle.join_core.specs.Cases.{both_true, first_true, second_true}
+use Rattle.join_core.specs.laws.Cases.{both_true, first_true, second_true}
 use Rattle.join_nest.specs.Cut.{is_from}
 use Rattle.mpx_format.specs.Format.{Format, many_fit, many_spelled}
 use Rattle.mpx_format.specs.Rising.{may_come, last_of, entry, many_rising}

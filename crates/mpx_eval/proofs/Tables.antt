@@ -13,7 +13,7 @@ use Rattle.std.proofs.lemmas.List.{get_or-map, append-nil}
 use Rattle.std.proofs.lemmas.List.Folds.{list_any_at}
 use Rattle.std.proofs.lemmas.List.Quantifiers.{position-Some}
 use Rattle.std.proofs.lemmas.Option.{same_Some}
-use Rattle.join_core.specs.Cases.{is_tied}
+use Rattle.join_core.specs.laws.Cases.{is_tied}
 use Rattle.mpx_num.specs.declared.own.Operation.{Operation}
 use Rattle.mpx_group.specs.Group.{has, has_twice}
 use Rattle.mpx_name.specs.Name.{Name, same_name}

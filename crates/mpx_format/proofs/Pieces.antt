@@ -7,9 +7,9 @@ use Rattle.std.specs.Ordering.{nat_cmp}
 use Rattle.std.specs.Cmp.{nat_cmp_total}
 use Rattle.std.specs.FinMap.{get}
 use Rattle.std.specs.Cmp.{unsigned_tied}
-use Rattle.join_core.specs.Cases.{answer, yes, no}
+use Rattle.join_core.specs.laws.Cases.{answer, yes, no}
 use Rattle.join_nest.specs.Keyed.{replaced}
-use Rattle.join_nest.specs.KeyedLaws.{get_replaced}
+use Rattle.join_nest.specs.laws.Keyed.{get_replaced}
 use Rattle.mpx_board.specs.Parts.{AcksView, OfProcesses}
 use Rattle.mpx_format.specs.declared.kept.KeptAcks.{KeptAcks}
 use Rattle.mpx_format.specs.Kept.{AreKept, ArePieces, IsPiece, Row, pieces_of, rows_of}

@@ -3,7 +3,7 @@ use Rattle.std.proofs.Common.{◌≡◌, ◌==◌, ℕ, zero, suc, cond, true, f
 use Rattle.std.proofs.lemmas.Bool.Decides.{nat_tests}
 use Rattle.std.specs.Cmp.{nat_cmp_total, unsigned_tied}
 use Rattle.std.specs.FinMap.{entries, entries_sorted, entries-from_sorted, get, get-insert}
-use Rattle.join_core.specs.Cases.{answer, yes, no}
+use Rattle.join_core.specs.laws.Cases.{answer, yes, no}
 use Rattle.join_nest.specs.Placed.{rise_from, set_value, set_values, taken, values_in, with_values, with_values_under}
 use Rattle.join_nest.specs.Seen.{seen}
 use Rattle.join_nest.proofs.Exchanges.{exchanged_back, taken_places}

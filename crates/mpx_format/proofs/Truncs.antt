@@ -4,8 +4,9 @@ use Rattle.std.specs.Prelude.{nat_le}
 use Rattle.std.specs.Ordering.{nat_cmp}
 use Rattle.std.specs.FinMap.{FinMap, entries, from_sorted, get}
 use Rattle.join_nest.specs.Trunc.{TruncView, trunc_of}
-use Rattle.join_nest.specs.Cut.{is_from, cut, get_cut}
-use Rattle.join_nest.specs.TruncLaws.{same_trunc, get_dropped}
+use Rattle.join_nest.specs.Cut.{is_from, cut}
+use Rattle.join_nest.specs.laws.Cut.{get_cut}
+use Rattle.join_nest.specs.laws.Trunc.{same_trunc, get_dropped}
 
 module _ {V : Type 0} (t : TruncView V) where
   kept : (q : ℕ) (b : Bool) → nat_le t.dropped q ≡ b → cond b (get t.calls q) None ≡ get t.calls q

@@ -2,7 +2,7 @@
 use Rattle.std.specs.Prelude.{◌≡◌, ℕ, ◌<◌, ◌≤◌, Bool, false, not, ◌&&◌, ◌||◌, ◌==◌, nat_eq, if◌then◌else◌, List, [], ◌∷◌, ◌++◌, length, filter, position, Option, All, refl}
 use Rattle.std.specs.List.{list_any, list_all}
 use Rattle.std.specs.Cmp.Lexicographic.{pointwise, bytes_decides}
-use Rattle.join_core.specs.Laws.{IsEquality}
+use Rattle.join_core.specs.Joins.{IsEquality}
 use Rattle.mpx_group.specs.declared.ranks.Comparison.{Comparison}
 use Rattle.mpx_group.specs.declared.ranks.Comparison.TheVariants.{Ident, Similar, Unequal}
 

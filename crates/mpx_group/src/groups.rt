@@ -3,7 +3,7 @@ ghost use Rattle.std.specs.Prelude.{◌≡◌, ◌<◌, ◌↔◌, ℕ, nat_eq, 
 ghost use Rattle.std.specs.Bool.{OnTrue, OnFalse};
 ghost use Rattle.std.specs.List.{list_all};
 ghost use Rattle.std.specs.Cmp.Lexicographic.{pointwise};
-ghost use Rattle.join_core.specs.Laws.{never_between, never_joined};
+ghost use Rattle.join_core.specs.Joins.{never_between, never_joined};
 ghost use Rattle.mpx_group.specs.Group.{numbers_equality, IsGroup, has, has_twice, union_of, intersection_of, difference_of, rank_in, comparison_of};
 ghost use Rattle.mpx_group.specs.Choice.{ranks_refusal, triplets_refusal, incl_of, excl_of, ranks_of};
 ghost use Rattle.mpx_group.specs.Translation.{translated};

@@ -8,7 +8,7 @@ use Rattle.std.specs.Cmp.{IsTotalOrder, on_total, tied_itself}
 use Rattle.std.specs.Cmp.Lexicographic.{slice_cmp, nat_list_cmp_total, lists_total}
 use Rattle.std.specs.FinMap.{IsAntisymmetric, slice_cmp-IsAntisymmetric, nat_cmp-IsAntisymmetric}
 use Rattle.std.proofs.lemmas.List.{reverse-reverse}
-use Rattle.join_core.specs.Laws.{IsEquality}
+use Rattle.join_core.specs.Joins.{IsEquality}
 use Rattle.mpx_name.specs.declared.steps.Step.{Step}
 use Rattle.mpx_name.specs.declared.steps.Step.TheVariants.{Child, Gathering}
 

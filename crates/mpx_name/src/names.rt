@@ -4,7 +4,7 @@ ghost use Rattle.std.specs.declared.cmp.Ordering.TheVariants.{Less};
 ghost use Rattle.std.specs.Cmp.{IsTotalOrder, partial_equiv_from_equiv, partial_order_from_total, eq_by_cmp_equiv};
 ghost use Rattle.std.specs.FinMap.{IsAntisymmetric};
 ghost use Rattle.std.specs.Ordering.{eq_by_cmp, as_partial_cmp};
-ghost use Rattle.join_core.specs.Laws.{never_between, never_joined};
+ghost use Rattle.join_core.specs.Joins.{never_between, never_joined};
 ghost use Rattle.mpx_name.specs.declared.steps.Step.{Step};
 ghost use Rattle.mpx_name.specs.declared.steps.Step.TheVariants.{Child, Gathering};
 ghost use Rattle.mpx_name.specs.Order.{name_cmp, name_total, name_exact, name_equality};

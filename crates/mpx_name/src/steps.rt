@@ -2,7 +2,7 @@
 ghost use Rattle.std.specs.Prelude.{refl};
 ghost use Rattle.std.specs.Cmp.{partial_equiv_from_equiv, partial_order_from_total, eq_by_cmp_equiv};
 ghost use Rattle.std.specs.Ordering.{eq_by_cmp, as_partial_cmp};
-ghost use Rattle.join_core.specs.Laws.{never_between, never_joined};
+ghost use Rattle.join_core.specs.Joins.{never_between, never_joined};
 
 use join_core::{Exact, OutOfMemory};
 use mpx_group::Group;

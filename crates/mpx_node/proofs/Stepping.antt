@@ -8,7 +8,7 @@ use Rattle.std.specs.declared.cmp.Ordering.{Ordering}
 use Rattle.std.specs.declared.cmp.Ordering.TheVariants.{Less, Equal, Greater}
 use Rattle.std.specs.BTreeMap.{BTreeMap, get, get_by, is_at, WritesThrough}
 use Rattle.join_core.specs.declared.memory.OutOfMemory.{OutOfMemory}
-use Rattle.join_core.specs.Cases.{yes, no, answer, is_tied}
+use Rattle.join_core.specs.laws.Cases.{yes, no, answer, is_tied}
 use Rattle.join_core.specs.Flat.{known, unknown}
 use Rattle.mpx_name.specs.Order.{name_cmp, name_total, name_exact}
 use Rattle.mpx_num.specs.declared.own.Operation.{Operation}

@@ -8,7 +8,7 @@ use Rattle.std.proofs.lemmas.Bool.Decides.{Decides-and, Decides-eqb, Decides-int
 use Rattle.std.proofs.lemmas.Slice.Eq.{slice_eq-Decides}
 use lib.Pointwise.{pointwise}
 use Rattle.std.specs.Option.{option_map}
-use Rattle.join_core.specs.Laws.{IsEquality}
+use Rattle.join_core.specs.Joins.{IsEquality}
 use Rattle.mpx_num.specs.declared.types.Ty.{Ty}
 use Rattle.mpx_num.specs.declared.operations.Op.{Op}
 use Rattle.mpx_num.specs.ItemList.{ItemList}

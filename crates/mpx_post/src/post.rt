@@ -44,7 +44,7 @@ impl Model for Post {
 }
 
 impl Exact for Post {
-    ghost use Rattle.join_core.specs.Laws.{never_between, never_joined};
+    ghost use Rattle.join_core.specs.Joins.{never_between, never_joined};
     ghost use Rattle.mpx_post.specs.Posts.{Given};
     ghost use Rattle.mpx_post.specs.Equality.{same_given, given_equality};
 

@@ -2,7 +2,7 @@
 use Rattle.std.proofs.Common.{◌≡◌, ◌⊎◌, ℕ, zero, suc, Bool, true, false, cond, List, [], ◌∷◌, Option, None, Some, Result, Ok, Err, slice_get, inl, inr, ap, ◌∙◌}
 use Rattle.std.specs.Prelude.{◌||◌, filter, not}
 use Rattle.std.proofs.lemmas.Option.{same_Some}
-use Rattle.join_core.specs.Cases.{TestAnswer, yes, no, answer}
+use Rattle.join_core.specs.laws.Cases.{TestAnswer, yes, no, answer}
 use Rattle.mpx_name.specs.Name.{Name}
 use Rattle.mpx_num.specs.declared.own.Operation.{Operation}
 use Rattle.mpx_post.specs.Posts.{Given}

@@ -3,7 +3,7 @@ use Rattle.std.proofs.Common.{◌≡◌, ℕ, ◌<◌, ◌≤◌, ◌⊎◌, Boo
 use Rattle.std.specs.Prelude.{◌&&◌, OnOk, OnErr, nat_le, not}
 use Rattle.std.proofs.lemmas.Bool.Decides.{nat_tests}
 use Rattle.std.proofs.lemmas.Option.{same_Some}
-use Rattle.join_core.specs.Cases.{TestAnswer, yes, no, answer}
+use Rattle.join_core.specs.laws.Cases.{TestAnswer, yes, no, answer}
 use Rattle.mpx_name.specs.Name.{Name}
 use Rattle.mpx_board.specs.Boards.{Look, Dead, Dropped, IsGone, floor_on, gone, join, nothing, only}
 use Rattle.mpx_board.specs.Changes.{pruned, pruned_on}

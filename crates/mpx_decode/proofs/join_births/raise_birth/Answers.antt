@@ -1,8 +1,8 @@
-use Rattle.join_core.specs.BetweenLaws.{old_or_joined-laws}
+use Rattle.join_core.specs.laws.Between.{old_or_joined-laws}
 use Rattle.join_core.specs.Flat.{flat_joining}
-use Rattle.join_core.specs.FlatLaws.{flat_laws}
+use Rattle.join_core.specs.laws.Flat.{flat_laws}
 use Rattle.join_core.specs.FlatSeen.{flat_view}
-use Rattle.join_core.specs.Laws.{old_or_joined}
+use Rattle.join_core.specs.Joins.{old_or_joined}
 use Rattle.join_nest.proofs.Fronts.{on_err}
 use Rattle.mpx_birth.specs.Births.{birth_equality, same_birth}
 use Rattle.mpx_format.specs.Births.{birth}

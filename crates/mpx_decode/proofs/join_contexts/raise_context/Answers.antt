@@ -1,8 +1,8 @@
-use Rattle.join_core.specs.BetweenLaws.{old_or_joined-laws, pair_between_laws}
-use Rattle.join_core.specs.FlatLaws.{flat_laws}
+use Rattle.join_core.specs.laws.Between.{old_or_joined-laws, pair_between_laws}
+use Rattle.join_core.specs.laws.Flat.{flat_laws}
 use Rattle.join_core.specs.Pair.{pair_between, pair_joining}
 use Rattle.join_nest.proofs.Fronts.{on_err}
-use Rattle.join_nest.specs.NestLaws.{trunc_between_laws}
+use Rattle.join_nest.specs.laws.Between.{trunc_between_laws}
 use Rattle.join_nest.specs.Between.{trunc_between}
 use Rattle.join_nest.specs.Trunc.{trunc_joining}
 use Rattle.mpx_birth.specs.Births.{birth_equality}

@@ -1,6 +1,6 @@
 use Rattle.std.proofs.Common.{ap, sym, ◌∙◌}
 use Rattle.std.specs.Ordering.{nat_cmp}
-use Rattle.join_core.specs.Laws.{old_or_joined}
+use Rattle.join_core.specs.Joins.{old_or_joined}
 use Rattle.join_core.specs.Max.{max_joining}
 use Rattle.mpx_board.specs.Views.{view_of_numbers}
 use Rattle.mpx_format.specs.Fields.{fronts, process, some_calls}

@@ -1,7 +1,7 @@
 use Rattle.join_nest.proofs.Fronts.{on_err}
 use Rattle.mpx_board.specs.Parts.{call_between_laws, call_laws, numbers_between_laws, call_joining, call_between}
 use Rattle.mpx_board.specs.Views.{view_of_calls}
-use Rattle.join_nest.specs.NestLaws.{trunc_between_laws}
+use Rattle.join_nest.specs.laws.Between.{trunc_between_laws}
 use Rattle.join_nest.specs.Between.{trunc_between}
 use Rattle.join_nest.specs.Trunc.{trunc_joining}
 use Rattle.mpx_format.specs.Contexts.{held, progress}

@@ -2,8 +2,9 @@ use Rattle.std.proofs.Common.{◌≡◌, ℕ, ◌+◌, subst, arith}
 use Rattle.std.specs.Ordering.{nat_cmp}
 use Rattle.std.specs.Cmp.{nat_cmp_total}
 use Rattle.std.specs.FinMap.{nat_cmp-IsAntisymmetric}
-use Rattle.join_core.specs.BetweenLaws.{old_or_joined-laws}
-use Rattle.join_core.specs.Max.{max_joining, max_laws}
+use Rattle.join_core.specs.laws.Between.{old_or_joined-laws}
+use Rattle.join_core.specs.Max.{max_joining}
+use Rattle.join_core.specs.laws.Max.{max_laws}
 use Rattle.join_nest.proofs.Fronts.{on_err}
 use Rattle.mpx_format.specs.Fields.{process, some_calls}
 use Rattle.mpx_decode.proofs.Fours.{number_of, rows_so_far}

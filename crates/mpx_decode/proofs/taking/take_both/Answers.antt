@@ -4,7 +4,7 @@ use Rattle.std.specs.Cmp.{nat_cmp_total}
 use Rattle.join_nest.proofs.Fronts.{on_err}
 use Rattle.join_nest.specs.Between.{keyed_between}
 use Rattle.join_nest.specs.Keyed.{keyed_joining}
-use Rattle.join_nest.specs.NestLaws.{keyed_between_laws}
+use Rattle.join_nest.specs.laws.Between.{keyed_between_laws}
 use Rattle.mpx_name.specs.Order.{name_exact, name_total}
 use Rattle.mpx_board.specs.Parts.{acks_between, acks_between_laws, acks_joining, acks_laws, lifted_between_laws, lifted_laws}
 use Rattle.mpx_board.specs.Views.{view_of_all_acks}

@@ -3,7 +3,7 @@ use Rattle.std.proofs.Common.{rules, ◌/◌, not, length, refl, ap, ◌∙◌, 
 use Rattle.std.proofs.lemmas.Result.{on_ok_weaker}
 use Rattle.std.specs.Prelude.{All}
 use Rattle.std.specs.List.{list_all}
-use Rattle.join_core.specs.Cases.{second_true}
+use Rattle.join_core.specs.laws.Cases.{second_true}
 use Rattle.mpx_board.specs.Tidy.{is_bare, is_tidy_acks, is_tidy_numbers}
 use Rattle.mpx_board.specs.Views.{view_of_acks}
 use Rattle.std.specs.Ordering.{nat_cmp}

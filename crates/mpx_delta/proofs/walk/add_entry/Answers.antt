@@ -3,7 +3,7 @@ use Rattle.std.proofs.Common.{not}
 use Rattle.std.proofs.lemmas.Result.{on_ok_weaker}
 use Rattle.std.specs.Prelude.{All}
 use Rattle.std.specs.FinMap.{entries}
-use Rattle.join_core.specs.Cases.{second_true}
+use Rattle.join_core.specs.laws.Cases.{second_true}
 use Rattle.mpx_board.specs.Tidy.{says_nothing, is_neat_entry, has_no_zero, all_entries, is_tidy_call}
 use Rattle.mpx_board.specs.Views.{view_of_entry}
 use Rattle.mpx_delta.specs.Facts.{SaysHead, SaysCall, SaysEntry}

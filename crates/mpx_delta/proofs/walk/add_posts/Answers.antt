@@ -2,7 +2,7 @@
 use Rattle.std.proofs.Common.{not}
 use Rattle.std.proofs.lemmas.List.Elements.{All-nil}
 use Rattle.join_core.specs.FlatSeen.{flat_view}
-use Rattle.join_core.specs.Cases.{second_true}
+use Rattle.join_core.specs.laws.Cases.{second_true}
 use Rattle.mpx_board.specs.Tidy.{is_bare, is_unknown, are_tidy_posts}
 use Rattle.mpx_board.specs.Views.{view_of_call}
 use Rattle.mpx_digest.proofs.Steps.{passes_at}

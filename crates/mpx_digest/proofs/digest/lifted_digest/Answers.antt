@@ -1,7 +1,7 @@
 -- The digest of a live context, or nobody's number.
 use Rattle.std.proofs.Common.{◌≡◌, true, not, sym, ap, ◌∙◌, subst}
 use Rattle.std.proofs.lemmas.Result.{IfOk-weaker}
-use Rattle.join_core.specs.Cases.{second_true}
+use Rattle.join_core.specs.laws.Cases.{second_true}
 use Rattle.mpx_board.specs.Tidy.{all_entries, has_no_zero, is_neat_entry, is_tidy_call, is_tidy_entry, is_tidy_lifted, says_nothing}
 use Rattle.mpx_board.specs.Views.{view_of_entry, view_of_lifted}
 use Rattle.mpx_digest.specs.Reach.{digest_lifted}

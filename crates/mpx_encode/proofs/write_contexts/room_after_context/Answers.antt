@@ -1,5 +1,5 @@
 use Rattle.std.proofs.Common.{◌≡◌, true, not, ◌++◌, length, Some, None, sym, ap, ◌∙◌, rules}
-use Rattle.join_core.specs.Cases.{first_true, second_true}
+use Rattle.join_core.specs.laws.Cases.{first_true, second_true}
 use Rattle.mpx_board.specs.Tidy.{all_entries, is_tidy_call, says_nothing, is_neat_entry, has_no_zero}
 use Rattle.mpx_board.specs.Views.{view_of_entry}
 use Rattle.mpx_encode.specs.Room.{room_left}

@@ -1,7 +1,7 @@
 use Rattle.std.proofs.Common.{◌≡◌, ◌<◌, length, sym, ap, ◌∙◌, subst, arith}
 use Rattle.std.specs.FinMap.{entries}
 use Rattle.std.specs.List.{list_all}
-use Rattle.join_core.specs.Cases.{second_true}
+use Rattle.join_core.specs.laws.Cases.{second_true}
 use Rattle.join_nest.specs.Seen.{seen}
 use Rattle.join_nest.proofs.Steps.{length_seen}
 use Rattle.mpx_board.specs.Looks.{parts_of}

@@ -2,7 +2,7 @@ use Rattle.std.proofs.Common.{◌≡◌, true, not, length, Some, None, rules, r
 use Rattle.std.specs.Prelude.{nat_le}
 use Rattle.std.specs.FinMap.{entries, is_sorted, len, len-entries}
 use Rattle.std.proofs.lemmas.Bool.{leb-true}
-use Rattle.join_core.specs.Cases.{first_true, second_true}
+use Rattle.join_core.specs.laws.Cases.{first_true, second_true}
 use Rattle.join_nest.specs.Seen.{seen, sorted_seen}
 use Rattle.mpx_name.specs.Order.{name_cmp}
 use Rattle.mpx_board.specs.Tidy.{is_bare, all_entries, is_tidy_numbers, is_tidy_acks}

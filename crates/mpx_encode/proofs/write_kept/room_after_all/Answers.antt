@@ -1,7 +1,7 @@
 use Rattle.std.proofs.Common.{◌≡◌, ◌<◌, ◌&&◌, true, length, Some, None, refl, sym, ◌∙◌, rules, arith}
 use Rattle.std.specs.Prelude.{nat_le}
 use Rattle.std.specs.FinMap.{len}
-use Rattle.join_core.specs.Cases.{both_true}
+use Rattle.join_core.specs.laws.Cases.{both_true}
 use Rattle.join_nest.specs.Seen.{seen}
 use Rattle.mpx_encode.specs.Room.{room_left}
 use Rattle.join_nest.proofs.Steps.{length_seen}

@@ -1,5 +1,5 @@
 use Rattle.std.proofs.Common.{◌≡◌, ◌<◌, ◌&&◌, ◌++◌, length, rules, arith}
-use Rattle.join_core.specs.Cases.{first_true, second_true}
+use Rattle.join_core.specs.laws.Cases.{first_true, second_true}
 use Rattle.join_nest.specs.Seen.{seen}
 use Rattle.join_nest.proofs.Steps.{length_seen}
 use Rattle.mpx_board.specs.Views.{view_of_acks}

@@ -1,7 +1,7 @@
 use Rattle.std.proofs.Common.{ap, sym, ◌∙◌}
 use Rattle.std.specs.Ordering.{nat_cmp}
 use Rattle.join_nest.specs.Seen.{keyed_view}
-use Rattle.join_core.specs.Laws.{old_or_joined}
+use Rattle.join_core.specs.Joins.{old_or_joined}
 use Rattle.join_core.specs.Max.{max_joining}
 use Rattle.mpx_format.specs.Fields.{numbers, process, some_byte, some_calls}
 use Rattle.mpx_decode.proofs.Taken.{count_stands, map_raised, map_stops, rows_stand}

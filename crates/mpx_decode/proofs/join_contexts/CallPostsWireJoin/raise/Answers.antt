@@ -1,7 +1,7 @@
 use Rattle.std.proofs.Common.{ap, sym, ◌∙◌}
 use Rattle.std.specs.Ordering.{nat_cmp}
 use Rattle.join_core.specs.Flat.{flat_joining}
-use Rattle.join_core.specs.Laws.{old_or_joined}
+use Rattle.join_core.specs.Joins.{old_or_joined}
 use Rattle.mpx_post.specs.Equality.{same_given}
 use Rattle.mpx_board.specs.Views.{view_of_call}
 use Rattle.mpx_format.specs.Contexts.{call_posts, posted}

@@ -2,7 +2,7 @@ use Rattle.std.proofs.Common.{◌≡◌, ◌<◌, true, not, length, refl, sym, 
 use Rattle.std.specs.Ordering.{nat_cmp}
 use Rattle.std.specs.FinMap.{is_sorted}
 use Rattle.std.specs.List.{list_all}
-use Rattle.join_core.specs.Cases.{first_true, second_true}
+use Rattle.join_core.specs.laws.Cases.{first_true, second_true}
 use Rattle.join_core.specs.declared.flats.Flat.{Flat}
 use Rattle.join_core.specs.Flat.{FlatView}
 use Rattle.join_core.specs.FlatSeen.{flat_view}

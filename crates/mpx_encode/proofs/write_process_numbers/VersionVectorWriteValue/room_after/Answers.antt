@@ -3,7 +3,7 @@ use Rattle.std.specs.Ordering.{nat_cmp}
 use Rattle.std.specs.FinMap.{is_sorted}
 use Rattle.std.specs.List.{list_all}
 use Rattle.std.specs.Prelude.{nat_lt}
-use Rattle.join_core.specs.Cases.{first_true, second_true}
+use Rattle.join_core.specs.laws.Cases.{first_true, second_true}
 use Rattle.join_core.specs.declared.max.Max.{Max}
 use Rattle.join_nest.specs.Seen.{seen, keyed_view, sorted_seen}
 use Rattle.mpx_board.specs.Tidy.{is_bare, has_no_zero}
