@@ -16,8 +16,8 @@ HEAD = """The text to trust for {what}, in chapters: what a name means stands in
 - `(X = Type)` at a file's head: in this file `X.Name` is the constructor `Name` of that type.
 - `module _ (x : X) where`: what stands under it takes `x` first. Inside that file it isn't written, elsewhere it is.
 - `Post is seen as Given`: in contracts a value of `Post` is a `Given`. Its own fields are private, and no clause names them.
-- A `ghost` field says what is always so of a type's values. It stands there where a definition names it, and in the type of an asked function. The
-  others are left out: each function that makes such a value has to prove them."""
+- A `ghost` field says what is always so of a type's values. It stands there where a definition names it, and in the type of an asked function whose
+  clauses ask for it. The others are left out: each function that makes such a value has to prove them."""
 
 
 def counted(definition):
@@ -140,6 +140,7 @@ def print_file(definitions):
             law = [f"-- {it.name.split('::')[-1]}"] if it.kind == "promise" and "fn " not in it.lines[0] else []
             print("\n".join([*law, *it.comment, *it.lines]))
         if it.lemma:
-            print(f"-- not entered: true just of equal values, by the lemma {it.lemma[0]} of {it.lemma[1].relative_to(ROOT)}")
+            said = "true just as this lemma says" if it.lemma[2] else f"true just of equal values, by the lemma {it.lemma[0]}"
+            print(f"-- not entered: {said}, of {it.lemma[1].relative_to(ROOT)}")
         if it.law:
-            print(f"-- not entered: {it.law}, which is promised below, says what it joins to")
+            print(f"-- not entered: {it.law}, which is promised below, says of it all that is asked")
