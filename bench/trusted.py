@@ -22,8 +22,8 @@ An equality test is not entered where a lemma of `specs/`, which the prover has 
 counts, and `IsEquality`, and no more of it. How many tests that are is told with the count, and which lemmas by -v and in the text. Nor is a definition
 entered where a law that is asked for too says all of it that the clauses need.
 
-What is counted apart is told with the count, and stands in the text: what only the crates of threads lead to, the tables of names, and how boards and
-nodes are seen."""
+What is counted apart is told with the count, and stands in the text: what only the crates of threads lead to, the tables of names, and how contracts see
+boards, nodes and a job's own operations."""
 import collections
 import os
 import sys
@@ -38,8 +38,8 @@ HEADLINE = ["what_may_be_opened_and_dropped.gathers", "what_may_be_opened_and_dr
             "completed_results_are_permanent.histories", "processes_agree_at_any_time.histories"]
 # What the laws of the headline have to do with functions: a world's run is such a history, and boards are joined as the laws say.
 ITS_CODE = ["World::run.happenings", "Board::joined", "boards_are_joined_by_their_facts.shown"]
-# There is an evaluation, and just one.
-EVALUATION = ["every_script_has_an_evaluation", "evaluations_are_one"]
+# There is an evaluation, and just one. Its posts fit their communicators.
+EVALUATION = ["every_script_has_an_evaluation", "evaluations_are_one", "checked_posts_fit"]
 PROMISES = {
     "the headline": HEADLINE,
     "the headline, with its code": [*HEADLINE, *ITS_CODE],
@@ -47,14 +47,14 @@ PROMISES = {
     "what a world's run answers": ["World::run"],
     "every run": [*EVALUATION, "every_run_begins_the_evaluation"],
     "what is printed": [*EVALUATION, "run_text.prints"],
-    "its words and status": ["run_job.prints"],
+    "its words and status": [*EVALUATION, "run_job.prints"],
 }
-# What is counted apart: what only the crates of threads lead to; which name or word stands for what, of each table its first line aside; and how boards
-# and nodes, whose fields are private, are seen in contracts.
+# What is counted apart: what only the crates of threads, and gates of threads, lead to; which name or word stands for what, of each table its first line aside; and how contracts
+# see boards, nodes and lists of a job's own operations, whose fields are private.
 THREADS = {"mpx_bus", "mpx_shared", "mpx_threads"}
 TABLES = {"kind_named", "local_named", "predefined_named", "type_named", "refusal_name", "fault_name", "script_fault_name", "relation_text"}
-VIEWS = {"look", "look_of", "parts_of", "node_of", "PartsView"}
-APART = {"for threads": (THREADS, set()), "in tables of names": (set(), TABLES), "by which boards and nodes are seen": (set(), VIEWS)}
+VIEWS = {"look", "look_of", "parts_of", "node_of", "PartsView", "Ops.operations"}
+APART = {"for threads": (THREADS, {"IsGivenUp"}), "in tables of names": (set(), TABLES), "for how values with private fields are seen": (set(), VIEWS)}
 
 
 def by_file(text):
