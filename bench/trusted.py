@@ -32,10 +32,10 @@ from trusted_names import House, Text
 from trusted_sources import ROOT
 from trusted_text import counted, jumps, place, print_text, two_things
 
-# When a process may open a gathering and drop posts; joining boards is a semilattice; and after all that can happen what boards and results tell is so,
-# processes agree, and results stay.
-HEADLINE = ["what_may_be_opened_and_dropped.gathers", "what_may_be_opened_and_dropped.prunes", "joining_boards_is_a_semilattice", "every_history_is_sound",
-            "completed_results_are_permanent.histories", "processes_agree_at_any_time.histories"]
+# Joining boards is a semilattice; and after all that can happen what boards and results tell is so, processes agree, and results stay. A law says which
+# gatherings and prunings can happen.
+HEADLINE = ["joining_boards_is_a_semilattice", "every_history_is_sound", "completed_results_are_permanent.histories", "processes_agree_at_any_time.histories",
+            "what_may_be_opened_and_dropped.gathers", "what_may_be_opened_and_dropped.prunes"]
 # What the laws of the headline have to do with functions: a world's run is such a history, and boards are joined as the laws say.
 ITS_CODE = ["World::run.happenings", "Board::joined", "boards_are_joined_by_their_facts.shown"]
 # There is an evaluation, and just one. Its posts fit their communicators.

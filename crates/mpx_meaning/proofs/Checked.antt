@@ -1,10 +1,11 @@
 -- A post that a check lets through fits its communicator.
-use Rattle.std.proofs.Common.{◌≡◌, ◌∷◌, [], ◌++◌, ℕ, zero, suc, ◌*◌, ◌==◌, Bool, true, false, not, ◌&&◌, ◌||◌, cond, List, ℤ, pos, negsuc, length, map, Option, Some, None, Result, Ok, Err, refl, sym, ap, ◌∙◌, absurd, inl, inr, arith, eqb-true}
+use Rattle.std.proofs.Common.{◌≡◌, ◌∷◌, [], ◌++◌, ℕ, zero, suc, ◌*◌, ◌==◌, Bool, true, false, not, ◌&&◌, ◌||◌, cond, List, ℤ, pos, negsuc, length, map, Option, Some, None, Result, Ok, Err, refl, sym, ap, ◌∙◌, inl, inr, arith, eqb-true}
 use Rattle.std.specs.Prelude.{nat_lt, int_le}
 use Rattle.std.specs.List.{list_all, sum}
 use Rattle.std.specs.Option.{option_map_or}
 use Rattle.std.specs.Ordering.{int_eq}
 use Rattle.std.proofs.lemmas.Bool.{and_from, and_parts, cases_Bool, or_parts}
+use Rattle.std.proofs.lemmas.Bool.Decides.{same_from_decides, Decides-eqb, Decides-int_eq, Decides-like}
 use Rattle.std.proofs.lemmas.List.{length-map, map-append}
 use Rattle.mpx_num.specs.declared.types.Ty.{Ty}
 use Rattle.mpx_num.specs.declared.types.Ty.TheVariants.{I8, TwoInt}
@@ -63,7 +64,7 @@ root_fits true size z h = (and_parts (int_le (pos 0) z) (nat_lt (natural z) size
 root_fits false size z h = refl
 
 root_same : (had : Bool) (size rank : ℕ) (z : ℤ) → (had && not (is_rank size z)) ≡ false → option_map_or (λ root. root == rank) (where_had had (natural z)) false ≡ (had && int_eq z (pos rank))
-root_same true size rank (pos n) h = refl
+root_same true size rank (pos n) h = same_from_decides _ _ (Decides-like _ (ap pos) (λ e. cc) (Decides-eqb n rank)) (Decides-int_eq (pos n) (pos rank))
 root_same true size rank (negsuc n) h = cc
 root_same false size rank z h = refl
 

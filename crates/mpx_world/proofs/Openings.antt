@@ -35,7 +35,8 @@ Accepted found birth me depth tag ranks g = (rank : ℕ) × (found ≡ Some rank
 accepted_at : (found : Option ℕ) (birth : BirthView) (me depth : ℕ) (tag : ℤ) (ranks : List ℤ) (g : GatheringView) → gathering_at found birth.members me depth false tag ranks ≡ Ok g → Accepted found birth me depth tag ranks g
 accepted_at None birth me depth tag ranks g h = cc
 accepted_at (Some rank) birth me depth tag ranks g h =
-    (rank, refl, passed false (nat_le most_steps depth) (is_bad_group birth.members me ranks) (not (is_tag tag)) _ g h)
+    let tests = passed false (nat_le most_steps depth) (is_bad_group birth.members me ranks) (not (is_tag tag)) _ g h in
+    (rank, refl, tests.0, tests.1, tests.2, tests.3)
 
 accepted : (birth : BirthView) (me depth : ℕ) (tag : ℤ) (ranks : List ℤ) (g : GatheringView) → gathering birth me depth false tag ranks ≡ Ok g → Accepted (rank_in me birth.members) birth me depth tag ranks g
 unfolding gathering
@@ -53,7 +54,7 @@ pub gathers_may : (node : NodeView) (parent : Name) (tag : ℤ) (ranks : List �
 gathers_may node parent tag ranks g e =
     let is = gathers_is (node.opened parent) (told (node.board.contexts parent).birth) node.me parent tag ranks g e in
     let a = accepted is.0 node.me (length parent) tag ranks g is.2 in
-    let room : length parent < most_steps = grind (arith, nat_tests, a.2.0) in
+    let room : length parent < most_steps = grind (arith, nat_tests, a.2) in
     record {
       opened = may_post (node.opened parent) (told (node.board.contexts parent).birth) node.me parent tag ranks g e;
       birth = is.0;
@@ -61,15 +62,18 @@ gathers_may node parent tag ranks g e =
       born = is.1;
       member = a.1;
       room = room;
-      group = a.2.1;
-      tagged = from_not _ a.2.2.0;
-      is = sym a.2.2.1;
+      group = a.3;
+      tagged = from_not _ a.4;
+      is = sym a.5;
     }
 
 open_by : (x : Option OpenedView) (o : Option BirthView) (birth : BirthView) (me : ℕ) (parent : Name) (tag : ℤ) (ranks : List ℤ) (g : GatheringView) → MayPost x → o ≡ Some birth
     → gathering birth me (length parent) false tag ranks ≡ Ok g → gathers_by x o me parent tag ranks ≡ Ok g
 open_by None o birth me parent tag ranks g may born e = absurd may
-open_by (Some v) o birth me parent tag ranks g may born e = rw (may, born) e
+open_by (Some v) o birth me parent tag ranks g may born e =
+    ap (λ freed. let r : Result GatheringView PostError = cond freed (Err Closed) (gathers_there o me parent tag ranks) in r) may
+    ∙ ap (λ x. gathers_there x me parent tag ranks) born
+    ∙ e
 
 pub may_gathers : (node : NodeView) (parent : Name) (tag : ℤ) (ranks : List ℤ) (g : GatheringView) → MayGather node parent tag ranks g → gathers_on node parent tag ranks ≡ Ok g
 may_gathers node parent tag ranks g m =
@@ -100,7 +104,7 @@ may_prunes b name n (inr low) = by_dead (b.contexts name).dead where
   reached =
       let few = low.2 in
       let passes : nat_le n low.0 ≡ true = grind (arith, nat_tests, few) in
-      rw (low.1, passes) refl
+      ap (λ o. pruned o n) low.1 ∙ ap (λ b. let r : Result (Unit {0}) PruneError = cond b (Ok tt) (Err (AboveFloor low.0)) in r) passes
 
   by_dead : (dead : Bool) → (let r : Result (Unit {0}) PruneError = cond dead (Ok tt) (pruned (floor_on b name) n) in r) ≡ Ok tt
   by_dead true = refl

@@ -1,5 +1,5 @@
 -- When a process may open a gathering, and when it may drop posts.
-use Rattle.std.specs.Prelude.{◌≡◌, ◌<◌, ◌≤◌, ◌⊎◌, ℕ, ℤ, true, false, List, length, Option, Some}
+use Rattle.std.specs.Prelude.{◌≡◌, ◌<◌, ◌≤◌, ◌⊎◌, ℕ, ℤ, true, false, List, length, Some}
 use Rattle.mpx_birth.specs.Births.{BirthView, rank_in}
 use Rattle.mpx_post.specs.Drafts.{is_tag, most_steps, natural}
 use Rattle.mpx_post.specs.Gatherings.{GatheringView, is_bad_group, members_at}
