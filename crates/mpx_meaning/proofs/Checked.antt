@@ -1,6 +1,6 @@
 -- A post that a check lets through fits its communicator.
 use Rattle.std.proofs.Common.{◌≡◌, ◌∷◌, [], ◌++◌, ℕ, zero, suc, ◌*◌, ◌==◌, Bool, true, false, not, ◌&&◌, ◌||◌, cond, List, ℤ, pos, negsuc, length, map, Option, Some, None, Result, Ok, Err, refl, sym, ap, ◌∙◌, inl, inr, arith, eqb-true}
-use Rattle.std.specs.Prelude.{nat_lt, int_le}
+use Rattle.std.specs.Prelude.{nat_le, nat_lt, int_le}
 use Rattle.std.specs.List.{list_all, sum}
 use Rattle.std.specs.Option.{option_map_or}
 use Rattle.std.specs.Ordering.{int_eq}
@@ -30,10 +30,11 @@ use Rattle.mpx_group.specs.Group.{has_twice}
 use Rattle.mpx_post.specs.declared.draft.At.{At}
 use Rattle.mpx_post.specs.declared.draft.Draft.{Draft}
 use Rattle.mpx_post.specs.declared.draft.PostError.{PostError}
-use Rattle.mpx_post.specs.declared.draft.PostError.TheVariants.{ItemOutOfRange, TooManyItems, NoTopology}
+use Rattle.mpx_post.specs.declared.draft.PostError.TheVariants.{ItemOutOfRange, TooManyItems, NoTopology, CallsUsedUp, DepthUsedUp, BadGroup, BadEdge, TooManyEdges, BadTag}
 use Rattle.mpx_post.specs.declared.drafted_edges.DraftedEdge.{DraftedEdge}
 use Rattle.mpx_post.specs.declared.drafted_edges.DraftedNeighbour.{DraftedNeighbour}
-use Rattle.mpx_post.specs.Drafts.{are_edges, are_ranks, checked, checked_as, checked_at, checked_in, drafted_making, drafted_numbers, drafted_seat, edge_of, first_that_holds, given_by, graph_of, has_bad_group, has_its_counts, is_count, is_drafted_root, is_edge, is_misfilled, is_misplaced, is_neighbour, is_of, is_rank, is_weight, misfill, natural, naturals, neighbour_of, ranks_in, received_counts, refusals, sent_counts, stray_refusals, unless, where_had}
+use Rattle.mpx_post.specs.Drafts.{are_edges, are_ranks, checked, checked_as, checked_at, checked_in, drafted_making, drafted_numbers, drafted_seat, edge_count, edge_of, first_that_holds, given_by, graph_of, has_bad_group, has_colour_and_key, has_its_counts, is_count, is_drafted_root, is_edge, is_misfilled, is_misplaced, is_neighbour, is_of, is_rank, is_weight, misfill, most_calls, most_steps, natural, naturals, neighbour_of, ranks_in, received_counts, refusals, sent_counts, stray_refusals, unless, where_had}
+use Rattle.mpx_post.specs.Graphs.{most_edges}
 use Rattle.mpx_post.specs.Posts.{Given, destinations_in, edges_in, group_in, sources_in, suits, fits_root, fits_type}
 use Rattle.mpx_post.specs.Seats.{lacks_topology, seat_at}
 use Rattle.mpx_post.specs.Blocks.{blocks_sent, repeated}
@@ -194,10 +195,11 @@ module _ (ops : List Operation) (birth : BirthView) (rank : ℕ) (at : At) (draf
       let items = passed_first _ _ _ counts.1 in
       let ranges = passed_first _ _ _ items.1 in
       let many = passed_first _ _ _ ranges.1 in
-      let calls = passed_first _ _ _ many.1 in
-      let depth = passed_first _ _ _ calls.1 in
-      let group = passed_first _ _ _ depth.1 in
-      let edges = passed_first _ _ _ group.1 in
+      let calls = passed_first (at.call == most_calls) CallsUsedUp _ many.1 in
+      let depth = passed_first (makes_communicators kind && nat_le most_steps at.depth) DepthUsedUp _ calls.1 in
+      let group = passed_first (has_bad_group size at draft) BadGroup _ depth.1 in
+      let behind : Option PostError = first_that_holds ((nat_lt most_edges (edge_count (fields_of kind).makes (graph_of draft)), TooManyEdges) ∷ (not (has_colour_and_key (fields_of kind).makes draft), BadTag) ∷ []) in
+      let edges = passed_first (not (are_edges (fields_of kind).makes size (graph_of draft))) BadEdge behind group.1 in
       let rootless : ((fields_of kind).root && not (is_rank size draft.root)) ≡ false = root.0 in
       let opless : ((fields_of kind).op && not for_type) ≡ false = op.0 in
       let so_many = and_parts _ _ (from_not (has_its_counts seat draft) counts.0) in
