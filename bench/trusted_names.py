@@ -4,13 +4,22 @@ from collections import defaultdict
 
 from trusted_sources import NO_NAMES, ROOT, WORD, Definition, Sources, imports
 
-# A lemma that decides an equality test, and the test in it: its name, or in brackets what it is by definition.
+# A lemma that decides an equality test, and the test in it: its name, or in brackets what it is by definition. One of the third form says of what the two have
+# to be equal, so its own line is kept.
 LEMMAS = [
     re.compile(r"^(?:pub )?([\w'-]+) : IsEquality (?P<test>[\w'-]+|\([\w' -]+\))$"),
     re.compile(r"^(?:pub )?([\w'-]+) : \((\w+) (\w+) : [^()]+\) → Decides \((?P<test>[\w'-]+) \2 \3\) \(\2 ≡ \3\)$"),
+    re.compile(r"^(?:pub )?([\w'-]+) : \((\w+) (\w+) : [^()]+\) → Decides \((?P<test>[\w'-]+) \2 \3\) (?P<of>\(.* ≡ .*\))$"),
 ]
+# A lemma by which a test of two made of others, as options, decides their equality where the test that it is given does.
+LIFT = re.compile(r"^(?:pub )?([\w'-]+) : \{A : Type 0\} \(same : A → A → Bool\) → \(\(a b : A\) → Decides \(same a b\) \(a ≡ b\)\) → "
+                  r"\(a b : [^()]+\) → Decides \((?P<lift>[\w'-]+) same a b\) \(a ≡ b\)$")
+LIFTED = re.compile(r"^[\w'-]+ a b = (?P<lift>[\w'-]+) (?P<test>[\w'-]+) a b$")
+# The library's test of numbers.
+LIBRARYS = {"nat_eq"}
 # A definition that isn't entered where this law is asked for too, since the law says all of it that the clauses need.
-BY_LAW = {"parts_joining": "boards_are_joined_by_their_facts.shown"}
+BY_LAW = {"parts_joining": "boards_are_joined_by_their_facts.shown", "gathers_on": "what_may_be_opened_and_dropped.gathers",
+          "pruned_on": "what_may_be_opened_and_dropped.prunes", "fits_there": "checked_posts_fit"}
 # What stands before the name on a definition's first line.
 BEFORE = re.compile(r"^\s*(?:(?:abbrev|unfoldable|pattern|pub|data|record) +)*")
 
@@ -21,7 +30,7 @@ class Specs:
     def __init__(self, file):
         self.file, text = file, file.read_text()
         self.imports = imports(text)
-        self.lines, self.above, self.owner, self.lemmas = defaultdict(list), {}, {}, {}
+        self.lines, self.above, self.owner, self.lemmas, self.lifts = defaultdict(list), {}, {}, {}, {}
         current, base, module, comment, is_data = None, 0, [], [], False
         for line in text.splitlines():
             bare = line.strip()
@@ -55,7 +64,11 @@ class Specs:
         for form in LEMMAS:
             found = form.match(line)
             if found:
-                self.lemmas.setdefault(found.group("test"), found.group(1))
+                self.lemmas.setdefault(found.group("test"), (found.group(1), line if "of" in found.groupdict() else None))
+                return
+        found = LIFT.match(line)
+        if found:
+            self.lifts.setdefault(found.group("lift"), found.group(1))
 
     def meaning(self, name):
         """What a definition without arguments is, in brackets: `(eq_by_cmp name_cmp)`."""
@@ -69,14 +82,28 @@ class House:
 
     def __init__(self):
         self.files = {file: Specs(file) for file in sorted(ROOT.glob("*/specs/**/*.antt"))}
-        self.sources, self.known, self.lemmas = Sources(), {}, {}
+        self.sources, self.known, self.lemmas, self.lifts = Sources(), {}, {}, {}
         for file, specs in self.files.items():
-            for test, lemma in specs.lemmas.items():
-                home = file if test in specs.lines else self.of_specs((specs.imports.get(test) or ("",))[0])
+            for test, (lemma, line) in specs.lemmas.items():
+                home = self.home_of(specs, test)
                 if home:
-                    self.lemmas.setdefault((home, test), (lemma, file))
+                    self.lemmas.setdefault((home, test), (lemma, file, line))
                 elif test.startswith("("):
-                    self.lemmas.setdefault(test, (lemma, file))
+                    self.lemmas.setdefault(test, (lemma, file, line))
+            for lift, lemma in specs.lifts.items():
+                self.lifts[self.home_of(specs, lift), lift] = (lemma, file, None)
+
+    def home_of(self, specs, name):
+        """The file of specs in which a name of a file stands."""
+        return specs.file if name in specs.lines else self.of_specs((specs.imports.get(name) or ("",))[0])
+
+    def lemma_of(self, specs, name):
+        """The lemma that decides an equality test: its own, or that of which it is made by one that is decided."""
+        own = self.lemmas.get((specs.file, name)) or self.lemmas.get(specs.meaning(name))
+        made = LIFTED.match(specs.lines[name][-1].strip()) if not own and len(specs.lines[name]) == 2 else None
+        if made and (made.group("test") in LIBRARYS or self.lemmas.get((self.home_of(specs, made.group("test")), made.group("test")))):
+            return self.lifts.get((self.home_of(specs, made.group("lift")), made.group("lift")))
+        return own
 
     def of_specs(self, module):
         parts = module.split(".")
@@ -103,9 +130,9 @@ class House:
             # handed on by `pub use`
             path, there = specs.imports.get(name, (None, None))
             return self.found(("specs", path, there)) if path and there else None
-        lines, lemma = specs.lines[name], self.lemmas.get((file, name)) or self.lemmas.get(specs.meaning(name))
-        lines = lines[:1] if lemma else lines
-        used = names_in("\n".join(lines), specs, module)
+        lines, lemma = specs.lines[name], self.lemma_of(specs, name)
+        lines = lines[:1] + [lemma[2]] * bool(lemma[2]) if lemma else lines
+        used = names_in("\n".join([*lines[:1], lemma[2].partition(" : ")[2]] if lemma and lemma[2] else lines), specs, module)
         used += [("specs", "Rattle.join_core.specs.Joins", "IsEquality")] if lemma else []
         above, comment = specs.above[name]
         constructors = tuple(it for it, owner in specs.owner.items() if owner == name)
@@ -130,7 +157,7 @@ def names_in(text, specs, module):
         first, _, rest = word.partition(".")
         if first in specs.imports:
             path, there = specs.imports[first]
-            found.append(("specs", path, there or rest))
+            found.append(("specs", path + ".TheVariants" * bool(there and rest and ".declared." in path), there or rest))
         elif first in specs.lines or first in specs.owner:
             found.append(("specs", module, first))
     return found
@@ -141,54 +168,77 @@ def crate_of(name):
     return name[1].split(".")[1] if name[0] == "specs" and "." in name[1] else "" if name[0] == "specs" else name[1].relative_to(ROOT).parts[0]
 
 
-def entered(definition, used, law):
-    """A definition and what it names; where a law says all of it, its first line and what that names."""
-    if not law:
+def entered(definition, used, law, is_cut):
+    """A definition and what it names; where a law says all of it, or it is counted apart, its first line and what that names."""
+    if not law and not is_cut:
         return definition, used
-    first = definition.lines[0]
+    # of what a member of a type is, its name
+    first = definition.lines[0].partition(" = ")[0] if definition.kind == "type" else definition.lines[0]
     words = {word.split(".")[0] for word in WORD.findall(first)} - {definition.name}
     return definition._replace(lines=[first], law=law), [name for name in used if name[-1] in words]
 
 
-class Text:
-    """The definitions that functions lead to, each behind the first that names it, and which of them names which; none of the crates `without`."""
+def names_a_variant(name):
+    """Whether a name is that of an enum's variant, and not the enum's own."""
+    return name[0] == "specs" and name[1].endswith(".TheVariants")
 
-    def __init__(self, house, functions, without=()):
-        self.definitions, self.names = {}, defaultdict(list)
-        said = {name: law for name, law in BY_LAW.items() if law in functions}
+
+class Text:
+    """The definitions that functions lead to, each behind the first that names it, and which of them names which; none of the crates `without`, and of the
+    definitions `cut` the first lines alone. An enum of which nothing names a variant is one line."""
+
+    def __init__(self, house, functions, without=(), cut=()):
+        self.house, self.without, self.cut = house, without, cut
+        self.definitions, self.names, self.shut, promised = {}, defaultdict(list), {}, ""
+        self.said = {name: law for name, law in BY_LAW.items() if law in functions}
         for asked in functions:
             promise, used = house.sources.clauses(asked)
             key = (promise.file, promise.name)
             if key in self.definitions:
                 promise = promise._replace(lines=[*self.definitions[key].lines, *promise.lines])
             self.definitions[key] = promise
+            promised += "\n".join(promise.lines) + "\n"
             own = {asked.partition(".")[0].split("::")[-2]} if "::" in asked else set()
-            self.follow(house, [(key, name) for name in reversed(used)], without, said)
-            while self.add_ghosts(house, own, without, said):
+            self.follow([(key, name) for name in reversed(used)])
+            while self.add_ghosts(own, {name[-1] for name in used}):
                 pass
+        for key in [key for key in self.shut if re.search(rf"\b{key[1]}\.[A-Z]", promised)]:
+            self.open(key)
 
-    def follow(self, house, todo, without, said):
+    def follow(self, todo):
         while todo:
             by, name = todo.pop()
-            came = house.found(name) if name[1] and crate_of(name) not in without else None
+            came = self.house.found(name) if name[1] and crate_of(name) not in self.without else None
             if not came:
                 continue
             key = (came[0].file, came[0].name)
             self.names[by].append(key)
             if key not in self.definitions:
-                self.definitions[key], its = entered(*came, said.get(key[1]))
+                definition, its = entered(*came, self.said.get(key[1]), key[1] in self.cut)
+                if definition.kind == "type" and definition.constructors:
+                    self.shut[key] = (definition, its)
+                    line = f"enum {definition.name}: nothing here names a variant of it"
+                    definition, its = definition._replace(lines=[line], constructors=()), []
+                self.definitions[key] = definition
                 todo += [(key, name) for name in reversed(its)]
+            if key in self.shut and names_a_variant(name):
+                self.open(key)
 
-    def add_ghosts(self, house, own, without, said):
-        """Adds to types the ghost fields that a definition or a clause names, and all of the asked function's own type."""
+    def open(self, key):
+        """Gives an enum its variants, and follows what these name."""
+        self.definitions[key], its = self.shut.pop(key)
+        self.follow([(key, name) for name in reversed(its)])
+
+    def add_ghosts(self, own, asked):
+        """Adds to types the ghost fields that a definition or a clause names, and those of the asked function's own type that say what its clauses ask."""
         named = {word for it in self for line in it.lines if it.kind != "type" for word in re.findall(r"\.([a-z]\w*)", line)}
         added = False
         for key, it in list(self.definitions.items()):
-            new = [ghost for ghost in it.ghosts if ghost[0] in named or it.name in own]
+            new = [ghost for ghost in it.ghosts if ghost[0] in named or it.name in own and asked & {name[-1] for name in ghost[2]}]
             if new:
                 lines = [*it.lines[:-1], *(line for ghost in new for line in ghost[1]), it.lines[-1]]
                 self.definitions[key] = it._replace(lines=lines, ghosts=tuple(ghost for ghost in it.ghosts if ghost not in new))
-                self.follow(house, [(key, name) for ghost in new for name in ghost[2]], without, said)
+                self.follow([(key, name) for ghost in new for name in ghost[2]])
                 added = True
         return added
 

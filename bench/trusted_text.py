@@ -13,11 +13,11 @@ OF_ROOM = {1: "joins", 2: "posts and rows", 3: "posts and rows", 4: "values", 5:
 OF_CRATE = {"mpx_num": "numbers", "mpx_affine": "numbers", "mpx_match": "verdicts", "mpx_node": "nodes"}
 OF_FILE = {f"mpx_value/specs/{name}.antt": "children and histories" for name in ("Children", "Values", "Histories")}
 HEAD = """The text to trust for {what}, in chapters: what a name means stands in front of where it is used, where that can be.
-- `(X = Type)` at a file's head: in this file `X.Name` is the constructor `Name` of that type.
+- `(X = Type)` at a file's head: in this file `X.Name` is the constructor `Name` of that type. `(Name = Type.Name)`: so is `Name` alone.
 - `module _ (x : X) where`: what stands under it takes `x` first. Inside that file it isn't written, elsewhere it is.
 - `Post is seen as Given`: in contracts a value of `Post` is a `Given`. Its own fields are private, and no clause names them.
-- A `ghost` field says what is always so of a type's values. It stands there where a definition names it, and in the type of an asked function. The
-  others are left out: each function that makes such a value has to prove them."""
+- A `ghost` field says what is always so of a type's values. It stands there where a definition names it, and in the type of an asked function whose
+  clauses ask for it. The others are left out: each function that makes such a value has to prove them."""
 
 
 def counted(definition):
@@ -102,14 +102,18 @@ def two_things(text):
     return {name: of for name, of in meant.items() if len(of) > 1}
 
 
-def aliases(file, definitions):
-    """What the short names of a file stand for, those that its definitions use."""
+def aliases(file, definitions, unclear, owner):
+    """What the short names of a file stand for, those that its definitions use; and of which type constructors are whose names other types have too."""
     used = NO_NAMES.sub("", "\n".join(line for it in definitions for line in it.lines))
     found = []
     for here, (path, there) in imports(file.read_text()).items():
         parts = path.split(".")
         if there is None and re.search(rf"(?<![\w'.-]){re.escape(here)}\.", used):
             found.append(f"{here} = {parts[-2] if parts[-1] == 'TheVariants' else parts[-1]}")
+        elif there in unclear and parts[-1] == "TheVariants" and re.search(rf"(?<![\w'.-]){re.escape(here)}(?![\w'-])", used):
+            found.append(f"{here} = {parts[-2]}.{there}")
+        elif there in unclear and (parts[1], parts[-1], there) in owner and re.search(rf"(?<![\w'.-]){re.escape(here)}(?![\w'-])", used):
+            found.append(f"{here} = {owner[parts[1], parts[-1], there]}.{there}")
         elif there and there != here and re.search(rf"(?<![\w'.-]){re.escape(here)}(?![\w'-])", used):
             found.append(f"{here} = {there}")
     return f" ({', '.join(found)})" if found else ""
@@ -117,15 +121,17 @@ def aliases(file, definitions):
 
 def print_text(text, what):
     """All chapters, each file named where it begins with what its short names stand for; and at the end the constructors that mean two things."""
+    unclear = two_things(text)
+    owner = {(place(it).split("/")[0], it.file.stem, name): it.name for it in text for name in it.constructors}
     print(HEAD.format(what=what))
     for number, (title, keys) in enumerate(in_chapters(text), 1):
         print(f"\n\n==== {number}. {title[0].upper()}{title[1:]}")
         for file, together in itertools.groupby(keys, lambda key: key[0]):
             definitions = [text.definitions[key] for key in together]
-            print(f"\n== {file.relative_to(ROOT)}{aliases(file, definitions)}")
+            print(f"\n== {file.relative_to(ROOT)}{aliases(file, definitions, unclear, owner)}")
             print_file(definitions)
     print("\n\n==== Constructors that stand for two or more things")
-    for name, types in two_things(text).items():
+    for name, types in unclear.items():
         print(f"{name}: {', '.join(types)}")
 
 
@@ -140,6 +146,7 @@ def print_file(definitions):
             law = [f"-- {it.name.split('::')[-1]}"] if it.kind == "promise" and "fn " not in it.lines[0] else []
             print("\n".join([*law, *it.comment, *it.lines]))
         if it.lemma:
-            print(f"-- not entered: true just of equal values, by the lemma {it.lemma[0]} of {it.lemma[1].relative_to(ROOT)}")
+            said = "true just as this lemma says" if it.lemma[2] else f"true just of equal values, by the lemma {it.lemma[0]}"
+            print(f"-- not entered: {said}, of {it.lemma[1].relative_to(ROOT)}")
         if it.law:
-            print(f"-- not entered: {it.law}, which is promised below, says what it joins to")
+            print(f"-- not entered: {it.law}, which is promised below, says of it all that is asked")

@@ -24,9 +24,9 @@ use Rattle.mpx_script.specs.Grammar.{ranks_number, kind_named, started_named, lo
 use Rattle.mpx_script.specs.Fields.{operation_named, predefined_named, type_named, list_named, rank_named, ranks_named, colour_named}
 use Rattle.mpx_script.specs.Syntax.{statements_in}
 use Rattle.mpx_script.specs.Graphs.{edge_named, neighbour_named, is_weighted, entries_in, edges_graph, neighbours_graph}
-use Rattle.mpx_script.specs.Refusals.{is_unknown_line, has_wrong_words, has_bad_number, has_bad_list}
+use Rattle.mpx_script.specs.Refusals.{is_unknown_line, on_form}
 use Rattle.mpx_script.specs.Meanings.{names_rank, statement_in}
-use Rattle.mpx_script.specs.Naming.{has_bad_name, has_unknown_name, has_taken_name}
+use Rattle.mpx_script.specs.Naming.{has_bad_name, on_names}
 use Rattle.mpx_script.specs.ScriptView.{ScriptView}
 use Rattle.mpx_script.specs.Reading.{reading}
 use Rattle.mpx_statement.specs.declared.statement.Posting.{Posting}
@@ -201,7 +201,7 @@ record Examples : Type 0 where
   translated_to_nobody : reading [] (alone (codes "0: translate world a 0")) ≡ refused_at 2 NameUnknown
 
 examples : Examples
-unfolding script alone with_word own_two refused_at sum_of says makes asks barrier_as sum_as of_edges of_neighbours edge neighbour number_of magnitude words counts is_ascii ranks_number kind_named started_named local_named operation_named predefined_named place_named type_named list_named rank_named ranks_named label_of statements_in is_name colour_named edge_named neighbour_named is_weighted entries_in edges_graph neighbours_graph is_unknown_line has_wrong_words has_bad_number has_bad_list has_bad_name has_unknown_name has_taken_name names_rank statement_in reading
+unfolding script alone with_word own_two refused_at sum_of says makes asks barrier_as sum_as of_edges of_neighbours edge neighbour number_of magnitude words counts is_ascii ranks_number kind_named started_named local_named operation_named predefined_named place_named type_named list_named rank_named ranks_named label_of statements_in is_name colour_named edge_named neighbour_named is_weighted entries_in edges_graph neighbours_graph is_unknown_line on_form has_bad_name on_names names_rank statement_in reading
 examples = record {
   three_ranks = refl;
   every_rank = refl;

@@ -23,7 +23,7 @@ use Rattle.mpx_script.specs.Grammar.{ends_with_name}
 use Rattle.mpx_script.specs.Fields.{operation_named, type_named, is_one, list_named, ranks_named, colour_named, is_arrow}
 use Rattle.mpx_script.specs.Graphs.{edges_graph, neighbours_graph}
 use Rattle.mpx_script.specs.Places.{last_word, words_before}
-use Rattle.mpx_script.specs.Refusals.{fails, is_fault, is_unknown_as, has_wrong_words_as, has_bad_number_as, has_bad_list_as}
+use Rattle.mpx_script.specs.Refusals.{fails, is_fault, is_unknown_as, has_wrong_words, has_bad_number, has_bad_list}
 use Rattle.mpx_script.specs.Meanings.{statement_as}
 use Rattle.mpx_script.specs.laws.Parts.{CallSyntax, ask_in, call_in, call_of, communicator_in, graph_in, new_in, has_unknown_word, has_wrong_count, has_wrong_end, has_strange_number, has_strange_list, are_strange, is_number, lacks, parted_statement}
 use Rattle.mpx_script.specs.Reading.{first_holding}
@@ -169,7 +169,7 @@ too_many asked behind other a l = ap (λ (b : Bool). if not b then Some WrongWor
 -- ALL FORMS
 
 pub parted_refusal : (ops : List Operation) (form : Form) (words : List (List ℕ))
-    → of_four (is_unknown_as ops form words) (has_wrong_words_as ops form words) (has_bad_number_as ops form words) (has_bad_list_as ops form words) ≡ form_refusal ops form words
+    → of_four (is_unknown_as ops form words) (has_wrong_words ops form words) (has_bad_number ops form words) (has_bad_list ops form words) ≡ form_refusal ops form words
 unfolding new_in call_in ask_in graph_in
 parted_refusal ops (M.Call (K.Exchange exchange) mode) words = of_fields ops (K.Exchange exchange) mode words
 parted_refusal ops (M.Call (K.Reduction reduction) mode) words = of_fields ops (K.Reduction reduction) mode words

@@ -11,9 +11,9 @@ use Rattle.mpx_script.specs.Words.{words, counts, is_ascii}
 use Rattle.mpx_script.specs.Grammar.{ends_with_name, form_named}
 use Rattle.mpx_script.specs.Syntax.{DirectiveSyntax, directive_in, form_in, label_in, ranks_meant, statements_in}
 use Rattle.mpx_script.specs.laws.Parts.{NewSyntax, CallSyntax, has_unknown_word, has_wrong_count, has_wrong_end, parted_statement}
-use Rattle.mpx_script.specs.Refusals.{is_past, is_unknown_line, has_wrong_words, has_bad_number, has_bad_list}
+use Rattle.mpx_script.specs.Refusals.{is_past, is_unknown_line, on_form, has_wrong_words, has_bad_number, has_bad_list}
 use Rattle.mpx_script.specs.Meanings.{statement_in, statement_as}
-use Rattle.mpx_script.specs.Naming.{BoundNames, has_bad_name, has_unknown_name, has_taken_name, ranks_labelled}
+use Rattle.mpx_script.specs.Naming.{BoundNames, has_bad_name, lacks_name, on_names, ranks_labelled, takes_name}
 use Rattle.mpx_script.specs.Reading.{refusal, first_holding, plain_context, statements_limit}
 use Rattle.mpx_script.specs.Sentences.{IsLineRefusal, form_refusal, statement_refusal, names_refusal, call_refusal, draft_refusal, read_at}
 use Rattle.mpx_script.specs.declared.grammar.Form.{Form}
@@ -27,7 +27,7 @@ use Rattle.mpx_script.proofs.Parting.{parted_refusal, parted_says}
 
 -- a statement that is known is refused as one of its form
 pub refusal_of_form : (ops : List Operation) (p : DirectiveSyntax) (form : Form) → is_none (label_in p) ≡ false → form_in p ≡ Some form → statement_refusal ops p ≡ form_refusal ops form p.behind
-unfolding statement_refusal is_unknown_line has_wrong_words has_bad_number has_bad_list
+unfolding statement_refusal is_unknown_line on_form
 refusal_of_form ops p form label known = rw (label, known) (parted_refusal ops form p.behind)
 
 -- and says what its form does
@@ -71,7 +71,7 @@ refusal_first found other (Fault what) h = rw h refl
 
 -- what the names of a line are refused for
 abbrev line_names_refusal : List Operation → List BoundNames → ℕ → DirectiveSyntax → Option ScriptFault
-line_names_refusal ops bound n p = first_holding ((BadName, has_bad_name ops p) ∷ (NameUnknown, has_unknown_name ops bound n p) ∷ (NameTaken, has_taken_name ops bound n p) ∷ [])
+line_names_refusal ops bound n p = first_holding ((BadName, has_bad_name ops p) ∷ (NameUnknown, on_names lacks_name ops bound n p) ∷ (NameTaken, on_names takes_name ops bound n p) ∷ [])
 
 -- what a further line is asked
 abbrev further_refusal : List Operation → DirectiveSyntax → ℕ → ℕ → List BoundNames → Option ScriptFault
@@ -84,7 +84,7 @@ unfolding statement_refusal
 refusal_of_further ops line n k bound ascii counted =
     let p : DirectiveSyntax = directive_in (words line) in
     rw (ascii, counted) (ap (λ rest. cond (nat_lt statements_limit (k + statements_in n p)) (Some TooLarge) (cond (is_past n (label_in p)) (Some RankOutOfRange) rest))
-    (first_of_both ((UnknownStatement, is_unknown_line ops p) ∷ (WrongWords, has_wrong_words ops p) ∷ (BadNumber, has_bad_number ops p) ∷ (BadList, has_bad_list ops p) ∷ []) ((BadName, has_bad_name ops p) ∷ (NameUnknown, has_unknown_name ops bound n p) ∷ (NameTaken, has_taken_name ops bound n p) ∷ [])))
+    (first_of_both ((UnknownStatement, is_unknown_line ops p) ∷ (WrongWords, on_form (has_wrong_words ops) p) ∷ (BadNumber, on_form (has_bad_number ops) p) ∷ (BadList, on_form (has_bad_list ops) p) ∷ []) ((BadName, has_bad_name ops p) ∷ (NameUnknown, on_names lacks_name ops bound n p) ∷ (NameTaken, on_names takes_name ops bound n p) ∷ [])))
 
 module _ (ops : List Operation) (line : List ℕ) (n k : ℕ) (bound : List BoundNames) (ascii : is_ascii line ≡ true) (counted : counts (words line) ≡ true) where
   pub refusal_of_many : nat_lt statements_limit (k + statements_in n (directive_in (words line))) ≡ true → refusal ops (plain_context line (Some n) k bound) ≡ Some TooLarge
@@ -111,7 +111,7 @@ module _ (ops : List Operation) (line : List ℕ) (n k : ℕ) (bound : List Boun
 
 -- which are asked of its statement at the ranks of the label
 pub names_asked : (ops : List Operation) (p : DirectiveSyntax) (statement : Statement) (n : ℕ) (bound : List BoundNames) (ranks : List ℕ) → statement_in ops p ≡ Some statement → ranks_labelled n (label_in p) ≡ ranks → line_names_refusal ops bound n p ≡ names_refusal bound ranks statement
-unfolding has_bad_name has_unknown_name has_taken_name
+unfolding has_bad_name on_names
 names_asked ops p statement n bound ranks said labelled = rw (said, labelled) refl
 
 has_word : (ops : List Operation) (word : Option (List ℕ)) (words : List (List ℕ)) (statement : Statement) → option_map (λ form. statement_as ops form words) (option_and_then form_named word) ≡ Some statement → is_some word ≡ true

@@ -60,8 +60,6 @@ at_some_rank bound ranks test = list_any (λ rank. test (slice_index_or bound ra
 unfoldable pub has_bad_name : List Operation → DirectiveSyntax → Bool
 has_bad_name ops directive = option_map_or misnames (statement_in ops directive) false
 
-unfoldable pub has_unknown_name : List Operation → List BoundNames → ℕ → DirectiveSyntax → Bool
-has_unknown_name ops bound ranks directive = option_map_or (λ statement. at_some_rank bound (ranks_labelled ranks (label_in directive)) (lacks_name statement)) (statement_in ops directive) false
-
-unfoldable pub has_taken_name : List Operation → List BoundNames → ℕ → DirectiveSyntax → Bool
-has_taken_name ops bound ranks directive = option_map_or (λ statement. at_some_rank bound (ranks_labelled ranks (label_in directive)) (takes_name statement)) (statement_in ops directive) false
+-- by the names that are bound at a rank of the line this test holds of its statement
+unfoldable pub on_names : (Statement → BoundNames → Bool) → List Operation → List BoundNames → ℕ → DirectiveSyntax → Bool
+on_names test ops bound ranks directive = option_map_or (λ statement. at_some_rank bound (ranks_labelled ranks (label_in directive)) (test statement)) (statement_in ops directive) false

@@ -6,9 +6,9 @@ use Rattle.mpx_num.specs.declared.own.Operation.{Operation}
 use Rattle.mpx_script.specs.Words.{words, counts, counting, is_ascii, is_over_limit, script_lines}
 use Rattle.mpx_script.specs.Grammar.{ranks_number}
 use Rattle.mpx_script.specs.Syntax.{DirectiveSyntax, directive_in, label_in, statements_in, opening_ranks}
-use Rattle.mpx_script.specs.Refusals.{is_past, is_unknown_line, has_wrong_words, has_bad_number, has_bad_list}
+use Rattle.mpx_script.specs.Refusals.{is_past, is_unknown_line, on_form, has_wrong_words, has_bad_number, has_bad_list}
 use Rattle.mpx_script.specs.Meanings.{line_gives}
-use Rattle.mpx_script.specs.Naming.{BoundNames, has_bad_name, has_unknown_name, has_taken_name, names_bound}
+use Rattle.mpx_script.specs.Naming.{BoundNames, has_bad_name, lacks_name, names_bound, on_names, takes_name}
 use Rattle.mpx_script.specs.ScriptView.{ScriptView}
 use Rattle.mpx_script.specs.declared.faults.ScriptFault.{ScriptFault}
 use Rattle.mpx_script.specs.declared.faults.ScriptFault.TheVariants.{NotAscii, TooLarge, NoRanksLine, RanksOutOfRange, RankOutOfRange, UnknownStatement, WrongWords, BadNumber, BadList, BadName, NameUnknown, NameTaken}
@@ -49,12 +49,12 @@ reading_refusals ops p =
     ∷ (RanksOutOfRange, on_opening p (λ words. is_none (opening_ranks words)))
     ∷ (RankOutOfRange, on_further p (λ ranks directive. is_past ranks (label_in directive)))
     ∷ (UnknownStatement, on_further p (λ ranks directive. is_unknown_line ops directive))
-    ∷ (WrongWords, on_further p (λ ranks directive. has_wrong_words ops directive))
-    ∷ (BadNumber, on_further p (λ ranks directive. has_bad_number ops directive))
-    ∷ (BadList, on_further p (λ ranks directive. has_bad_list ops directive))
+    ∷ (WrongWords, on_further p (λ ranks directive. on_form (has_wrong_words ops) directive))
+    ∷ (BadNumber, on_further p (λ ranks directive. on_form (has_bad_number ops) directive))
+    ∷ (BadList, on_further p (λ ranks directive. on_form (has_bad_list ops) directive))
     ∷ (BadName, on_further p (λ ranks directive. has_bad_name ops directive))
-    ∷ (NameUnknown, on_further p (has_unknown_name ops p.bound))
-    ∷ (NameTaken, on_further p (has_taken_name ops p.bound))
+    ∷ (NameUnknown, on_further p (on_names lacks_name ops p.bound))
+    ∷ (NameTaken, on_further p (on_names takes_name ops p.bound))
     ∷ []
 
 -- the first of these that holds

@@ -64,21 +64,22 @@ abbrev pub is_unknown_as : List Operation → Form → List (List ℕ) → Bool
 is_unknown_as ops (M.Call kind mode) words = has_fault UnknownStatement (call_words ops kind mode (drop 1 words))
 is_unknown_as ops form words = false
 
-abbrev pub has_wrong_words_as : List Operation → Form → List (List ℕ) → Bool
-has_wrong_words_as ops (M.Call kind mode) words = is_none (slice_get words 0) || has_wrong_call (fields_of kind).items (ends_with_name kind mode) (call_words ops kind mode (drop 1 words))
-has_wrong_words_as ops (M.Wait waited) words = has_wrong_requests waited words
-has_wrong_words_as ops (M.Ask asked) words = not (length words == words_asked asked)
+-- the words behind the statement aren't as many as it asks for, or another word stands for `->`
+abbrev pub has_wrong_words : List Operation → Form → List (List ℕ) → Bool
+has_wrong_words ops (M.Call kind mode) words = is_none (slice_get words 0) || has_wrong_call (fields_of kind).items (ends_with_name kind mode) (call_words ops kind mode (drop 1 words))
+has_wrong_words ops (M.Wait waited) words = has_wrong_requests waited words
+has_wrong_words ops (M.Ask asked) words = not (length words == words_asked asked)
 
 -- a root, a single count, a tag, a colour, a key or an item is none
-abbrev pub has_bad_number_as : List Operation → Form → List (List ℕ) → Bool
-has_bad_number_as ops (M.Call kind mode) words = has_fault BadNumber (call_words ops kind mode (drop 1 words)) || list_any (λ word. is_none (number_of word)) (call_words ops kind mode (drop 1 words)).items
-has_bad_number_as ops form words = false
+abbrev pub has_bad_number : List Operation → Form → List (List ℕ) → Bool
+has_bad_number ops (M.Call kind mode) words = has_fault BadNumber (call_words ops kind mode (drop 1 words)) || list_any (λ word. is_none (number_of word)) (call_words ops kind mode (drop 1 words)).items
+has_bad_number ops form words = false
 
 -- counts, ranks or the words of a graph are none
-abbrev pub has_bad_list_as : List Operation → Form → List (List ℕ) → Bool
-has_bad_list_as ops (M.Call kind mode) words = has_fault BadList (call_words ops kind mode (drop 1 words))
-has_bad_list_as ops (M.Ask A.Translate) words = fails (λ word. is_some (ranks_named word)) (slice_get words 2)
-has_bad_list_as ops form words = false
+abbrev pub has_bad_list : List Operation → Form → List (List ℕ) → Bool
+has_bad_list ops (M.Call kind mode) words = has_fault BadList (call_words ops kind mode (drop 1 words))
+has_bad_list ops (M.Ask A.Translate) words = fails (λ word. is_some (ranks_named word)) (slice_get words 2)
+has_bad_list ops form words = false
 
 -- WHERE A LINE IS REFUSED
 
@@ -86,12 +87,6 @@ has_bad_list_as ops form words = false
 unfoldable pub is_unknown_line : List Operation → DirectiveSyntax → Bool
 is_unknown_line ops directive = is_none (label_in directive) || option_map_or (λ form. is_unknown_as ops form directive.behind) (form_in directive) true
 
--- the words behind the statement aren't as many as it asks for, or another word stands for `->`
-unfoldable pub has_wrong_words : List Operation → DirectiveSyntax → Bool
-has_wrong_words ops directive = option_map_or (λ form. has_wrong_words_as ops form directive.behind) (form_in directive) false
-
-unfoldable pub has_bad_number : List Operation → DirectiveSyntax → Bool
-has_bad_number ops directive = option_map_or (λ form. has_bad_number_as ops form directive.behind) (form_in directive) false
-
-unfoldable pub has_bad_list : List Operation → DirectiveSyntax → Bool
-has_bad_list ops directive = option_map_or (λ form. has_bad_list_as ops form directive.behind) (form_in directive) false
+-- the statement's words are refused by this test, by its form
+unfoldable pub on_form : (Form → List (List ℕ) → Bool) → DirectiveSyntax → Bool
+on_form test directive = option_map_or (λ form. test form directive.behind) (form_in directive) false

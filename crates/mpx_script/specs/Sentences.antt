@@ -10,7 +10,7 @@ use Rattle.mpx_script.specs.Grammar.{ends_with_name}
 use Rattle.mpx_script.specs.Fields.{is_one}
 use Rattle.mpx_script.specs.Syntax.{DirectiveSyntax, directive_in, opening_ranks, statements_in}
 use Rattle.mpx_script.specs.laws.Parts.{NewSyntax, CallSyntax, AskSyntax, ask_in, call_of, communicator_in, new_of, has_unknown_word, has_wrong_count, has_wrong_end, has_wrong_question, has_strange_choice, has_strange_new_number, has_strange_count, has_strange_number, has_strange_list, has_strange_new_list, has_strange_ranks}
-use Rattle.mpx_script.specs.Refusals.{is_unknown_line, has_wrong_words, has_bad_number, has_bad_list, has_wrong_requests}
+use Rattle.mpx_script.specs.Refusals.{is_unknown_line, on_form, has_wrong_words, has_bad_number, has_bad_list, has_wrong_requests}
 use Rattle.mpx_script.specs.Meanings.{names_rank, statement_in}
 use Rattle.mpx_script.specs.Naming.{BoundNames, at_some_rank, lacks_name, misnames, takes_name}
 use Rattle.mpx_script.specs.Reading.{statements_limit, first_holding}
@@ -50,9 +50,9 @@ IsLineRefusal found (Fault what) = found ≡ Some what
 unfoldable pub statement_refusal : List Operation → DirectiveSyntax → Option ScriptFault
 statement_refusal ops directive = first_holding (
     (UnknownStatement, is_unknown_line ops directive)
-    ∷ (WrongWords, has_wrong_words ops directive)
-    ∷ (BadNumber, has_bad_number ops directive)
-    ∷ (BadList, has_bad_list ops directive)
+    ∷ (WrongWords, on_form (has_wrong_words ops) directive)
+    ∷ (BadNumber, on_form (has_bad_number ops) directive)
+    ∷ (BadList, on_form (has_bad_list ops) directive)
     ∷ [])
 
 -- what a statement's names are refused for at these ranks

@@ -13,10 +13,11 @@ ghost use Rattle.mpx_world.specs.Networks.{NetworkGoesOn, IsNetwork, Network, ne
 ghost use Rattle.mpx_world.specs.Enough.{AnswerDoneUpTo, AreDoneUpTo, HasAllOf, StandOn, TellAll, WasNode, sends_and_takes, was_in};
 
 /// How a process comes to have all that another one's board told at a moment after its post, so that the harvests are done: the
-/// clauses `enough` of [`every_world_is_sound`](crate::every_world_is_sound), [`every_history_is_sound`](crate::every_history_is_sound)
-/// and [`networks_are_sound`](crate::networks_are_sound) ask it of each other member. It took the whole board, or all that
-/// `parts` gave, or all that one call of [`Node::deltas`](mpx_node::Node::deltas) gave (`deltas`: that tells every process that
-/// is there all, not only one). In parts it may also be told the board without some posts that it says there that it has.
+/// clauses `enough` of [`every_world_is_sound`](crate::every_world_is_sound),
+/// [`every_history_keeps_its_parts`](crate::every_history_keeps_its_parts) and [`networks_are_sound`](crate::networks_are_sound)
+/// ask it of each other member. It took the whole board, or all that `parts` gave, or all that one call of
+/// [`Node::deltas`](mpx_node::Node::deltas) gave (`deltas`: that tells every process that is there all, not only one). In parts it may
+/// also be told the board without some posts that it says there that it has.
 ///
 /// Of events `sent` has the whole board sent and taken, and of what happens `taken` and `told`. Of nodes of one's own a node of
 /// now is remembered (`now`, `since`), a part that was taken stands on the board and stays there (`learned`, `stays`), and then
