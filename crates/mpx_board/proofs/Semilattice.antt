@@ -24,12 +24,6 @@ max_associates n m o = omega arith
 max_itself : (n : ℕ) → max n n ≡ n
 max_itself n = omega arith
 
-or_commutes : (x y : Bool) → (x || y) ≡ (y || x)
-or_commutes true true = refl
-or_commutes true false = refl
-or_commutes false true = refl
-or_commutes false false = refl
-
 -- COMMUTATIVE
 
 live_commutes : (a b : Context) → join_live a b ≡ join_live b a

@@ -63,13 +63,6 @@ module _ {V : Type 0} (f : Format V) (bytes : List ℕ) where
     pub live_stops : (between : V → V → V → Type 0) (old new : V) → OnErr r (StopsBetween f between bytes old new) → OnErr r (StopsBetween as_live (lift_between between) bytes (live old) (live new))
     live_stops between old new h = if_err r (λ i. record { value = live i.value; rest = i.rest; read = live_read i.value i.rest i.read; left = i.left }) h
 
-  -- what is dead stays dead
-  pub dead_joined : (j : Joining V) (v : LiftView V) (rest : List ℕ) → as_live.read bytes ≡ Ok (v, rest) → JoinsFront as_live (lift_joining j) bytes rest dead dead
-  dead_joined j v rest e = record { value = v; read = e; joined = refl }
-
-  pub dead_stops : (between : V → V → V → Type 0) → StandsInFront as_live bytes → StopsBetween as_live (lift_between between) bytes dead dead
-  dead_stops between s = record { value = s.0.0; rest = s.0.1; read = s.1; left = refl }
-
 -- a byte that tells whether it is dead
 module _ {V : Type 0} (f : Format V) (tag : LiftView V → ℕ) (bytes : List ℕ) where
   abbrev either_form : Format (LiftView V)

@@ -6,12 +6,10 @@ use Rattle.std.specs.Ordering.{nat_cmp}
 use Rattle.std.proofs.lemmas.List.{nil_from_length}
 use Rattle.mpx_name.specs.Order.{name_cmp}
 use Rattle.mpx_board.specs.Parts.{LiftedView, OfNames}
-use Rattle.mpx_format.specs.declared.defects.ReadError.{ReadError}
-use Rattle.mpx_format.specs.declared.defects.ReadError.TheVariants as errors
 use Rattle.mpx_format.specs.declared.versions.Version.{Version}
 use Rattle.mpx_format.specs.Contexts.{parts}
 use Rattle.mpx_format.specs.Fields.{all_acks, name_count}
-use Rattle.mpx_format.specs.Format.{Fails, Format, byte, many_read}
+use Rattle.mpx_format.specs.Format.{Format, byte, many_read}
 use Rattle.mpx_format.proofs.FormatLaws.{ok_is}
 use Rattle.mpx_decode.specs.Raising.{contexts, no_parts}
 
@@ -22,12 +20,7 @@ on_any (Err e) p = p
 -- COUNTS
 
 module _ (count : Format ℕ) (bytes : List ℕ) where
-  -- a count that isn't read isn't 0
-  pub not_read : (e : ReadError) → Fails e (count.read bytes) → e ≢ errors.OutOfMemory → (rest : List ℕ) → count.read bytes ≢ Ok (0, rest)
-  not_read errors.OutOfMemory fails other rest is = other refl
-  not_read (errors.Defect d) fails other rest is = let clash : Err d ≡ Ok (0, rest) = sym fails ∙ is in absurd cc
-
-  -- nor is one above it
+  -- a count above 0 isn't 0
   pub not_none : (n : ℕ) (after : List ℕ) → count.read bytes ≡ Ok (n, after) → 0 < n → (rest : List ℕ) → count.read bytes ≢ Ok (0, rest)
   not_none n after read some rest is =
       let same : n ≡ 0 = ap (λ (x : ℕ × List ℕ). x.0) (ok_is (n, after) (0, rest) (sym read ∙ is)) in

@@ -6,7 +6,7 @@ use Rattle.std.proofs.Math.Nat.{suc-mul}
 use Rattle.std.proofs.lemmas.List.Elements.{All-head, All-tail}
 use Rattle.std.specs.declared.cmp.Ordering.{Ordering}
 use Rattle.std.specs.FinMap.{FinMap, entries}
-use Rattle.mpx_format.specs.Format.{Format, byte, number, both, many_spelled, counted}
+use Rattle.mpx_format.specs.Format.{Format, byte, number, many_spelled, counted}
 use Rattle.mpx_format.specs.Rising.{keyed, entry}
 
 -- no spelling has more than n bytes
@@ -25,9 +25,6 @@ short16 n = omega arith
 
 pub short32 : Short (number w32) 4
 short32 n = omega arith
-
-pub both_short : {A B : Type 0} (f : Format A) (g : A → Format B) (m n : ℕ) → Short f m → ((a : A) → Short (g a) n) → Short (both f g) (m + n)
-both_short f g m n s t x = joined_len (f.spelling x.0) ((g x.0).spelling x.1) m n (s x.0) (t x.0 x.1)
 
 -- so many values, each of which is short
 pub each_len : {V : Type 0} (f : Format V) (n : ℕ) (before vs : List V) → All (λ v. length (f.spelling v) ≤ n) vs → length (many_spelled (λ b. f) before vs) ≤ length vs * n

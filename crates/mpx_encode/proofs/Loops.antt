@@ -54,11 +54,6 @@ module _ {K J V : Type 0} (view : J → V) where
   seen_at (x ∷ es) zero e lt is = λ j. ((is j).0, view (is j).1)
   seen_at (x ∷ es) (suc i) e lt is = seen_at es i e (omega arith) is
 
--- so many elements at once: what is written, and what is left to write
-pub written_block : {X : Type 0} (s : X → List ℕ) (n : ℕ) (rest : List X) (out new whole : List ℕ) → new ≡ out ++ flat_map s (take n rest) → out ++ flat_map s rest ≡ whole → new ++ flat_map s (drop n rest) ≡ whole
-written_block s n rest out new whole e so_far =
-    ap (λ l. l ++ flat_map s (drop n rest)) e ∙ append_assoc out (flat_map s (take n rest)) (flat_map s (drop n rest)) ∙ ap (λ l. out ++ l) (sym (flat_map-append s (take n rest) (drop n rest)) ∙ ap (flat_map s) (take-append-drop n rest)) ∙ so_far
-
 -- one element more is written at its place
 pub placed_more : {X : Type 0} (s : X → List ℕ) (n : ℕ) (xs : List X) (d : X) (dst mid post bs rest : List ℕ) (i : ℕ) → n * i ≤ length dst → i < length xs → length (s (get_or xs i d)) ≡ n → bs ≡ s (get_or xs i d) → mid ≡ bs ++ rest
     → take (n * i) dst ≡ flat_map s (take i xs) → take (n * i + n) (take (n * i) dst ++ (mid ++ post)) ≡ flat_map s (take (i + 1) xs)
