@@ -23,20 +23,20 @@ pub fn says_all(said: &Acks, near: usize, name: &Name, known: &Lifted) -> bool
     match known {
         Lift::Dead => true,
         Lift::Live(entry) => match entry.second.second.entries() {
-            [] => says_dropped(said, near, name, &entry.first, entry.second.second.dropped()),
+            [] => says_dropped(
+                said,
+                near,
+                name,
+                &entry.first,
+                entry.second.second.dropped(),
+            ),
             _ => false,
         },
     }
 }
 
 // Whether these say of each member, where members are known, that so many of its calls are known.
-fn says_dropped(
-    said: &Acks,
-    near: usize,
-    name: &Name,
-    birth: &Flat<Birth>,
-    dropped: u32,
-) -> bool
+fn says_dropped(said: &Acks, near: usize, name: &Name, birth: &Flat<Birth>, dropped: u32) -> bool
     ensures { result ≡ says_dropped (get (view_of_acks said.now) name.now) dropped (told (flat_view (λ v. v) birth.now)) }
 {
     match birth {
@@ -48,13 +48,7 @@ fn says_dropped(
     }
 }
 
-fn says_members(
-    said: &Acks,
-    near: usize,
-    name: &Name,
-    members: &[Proc],
-    dropped: u32,
-) -> bool
+fn says_members(said: &Acks, near: usize, name: &Name, members: &[Proc], dropped: u32) -> bool
     ensures { result ≡ says_members (get (view_of_acks said.now) name.now) dropped members.now }
 {
     match value_near(said, near, name) {
