@@ -2,7 +2,7 @@
 use Rattle.std.proofs.Common.{arith, ◌≡◌, ℕ, ◌≤◌, ◌==◌, max, Bool, true, cond, sym, ap, ◌∙◌, subst}
 use Rattle.std.proofs.lemmas.Bool.Decides.{nat_tests}
 use Rattle.std.specs.FinMap.{get}
-use Rattle.join_core.specs.Cases.{answer, yes, no}
+use Rattle.join_core.specs.laws.Cases.{answer, yes, no}
 use Rattle.mpx_name.specs.Name.{Name}
 use Rattle.mpx_board.specs.Boards.{Look, empty, join, own_acks}
 use Rattle.mpx_board.specs.Contexts.{look_of}

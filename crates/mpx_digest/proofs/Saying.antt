@@ -3,7 +3,7 @@ use Rattle.std.proofs.Common.{arith, ◌≡◌, ℕ, ◌≤◌, ◌<◌, ◌==�
 use Rattle.std.specs.Prelude.{nat_eq, nat_le, nat_lt, option_and_then}
 use Rattle.std.proofs.lemmas.Bool.Decides.{nat_tests}
 use Rattle.std.specs.FinMap.{empty as no_entry, entries, get, get-empty}
-use Rattle.join_core.specs.Cases.{answer, yes, no, first_true, second_true}
+use Rattle.join_core.specs.laws.Cases.{answer, yes, no, first_true, second_true}
 use Rattle.join_nest.specs.Lift.{live, dead}
 use Rattle.mpx_birth.specs.Births.{BirthView}
 use Rattle.mpx_group.specs.Group.{has}

@@ -3,7 +3,7 @@ use Rattle.std.proofs.Common.{◌+◌, not, ap, sym, ◌∙◌, subst}
 use Rattle.mpx_name.specs.Order.{name_cmp}
 use Rattle.mpx_board.specs.Views.{view_of_acks, view_of_lifted, view_of_numbers}
 use Rattle.std.specs.FinMap.{from_sorted}
-use Rattle.join_core.specs.Cases.{first_true}
+use Rattle.join_core.specs.laws.Cases.{first_true}
 use Rattle.mpx_board.specs.Looks.{parts_of}
 use Rattle.mpx_board.specs.Tidy.{are_tidy_acks, are_tidy_entries, is_tidy_lifted}
 use Rattle.mpx_digest.proofs.Steps.{passes_at, KeptSoFar, kept_none, kept_one, kept_whole, kept_rises}
