@@ -1,6 +1,9 @@
-use Rattle.std.proofs.Common.{ap}
+use Rattle.std.proofs.Common.{◌≡◌, ℕ, List, OnOk, ap, subst, sym}
+use Rattle.mpx_board.specs.Parts.{PartsView}
 use Rattle.mpx_format.specs.declared.versions.Version.TheVariants.{Two}
-use Rattle.mpx_format.specs.Decoding.{decoded}
+use Rattle.mpx_format.specs.Decoding.{IsSpelled, decoded, shown}
+use Rattle.mpx_node.specs.Nodes.{learn}
+use Rattle.mpx_node.specs.Shown.{node_of}
 use Rattle.mpx_sim.specs.Frames.{parts_in}
 use Rattle.mpx_sim.specs.Running.{ProcessView}
 use Rattle.mpx_sim.specs.Shown.{process_of}
@@ -8,9 +11,11 @@ use Rattle.mpx_sim.proofs.Tried.{on_each_ok}
 use Rattle.mpx_sim.proofs.process.Process.receive.Goals as goal
 
 pub take_rope-requires : goal.take_rope-requires
-take_rope-requires c = record { spelled = (parts_in (decoded c.args.frame.now.bytes), (Two, c.args.frame.now.spelled)) }
+take_rope-requires c =
+    record { spelled = subst (λ (b : List ℕ). (parts : PartsView) × IsSpelled b parts) (sym c.lent.ensures) (parts_in (decoded c.args.frame.now.bytes), (Two, c.args.frame.now.spelled)) }
 
 pub returns : goal.returns
 returns c =
     let old = process_of c.args.self.now in
-    on_each_ok c.take_rope.result (λ took. ap (λ n. let v : ProcessView = record { rank = old.rank; node = n } in v) took) c.take_rope.ensures.ok
+    let taken = subst (λ (b : List ℕ). OnOk c.take_rope.result (node_of c.take_rope.new.self.host ≡ learn (shown (decoded b)) old.node)) c.lent.ensures c.take_rope.ensures.ok in
+    on_each_ok c.take_rope.result (λ took. ap (λ n. let v : ProcessView = record { rank = old.rank; node = n } in v) took) taken
