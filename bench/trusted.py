@@ -38,8 +38,8 @@ HEADLINE = ["joining_boards_is_a_semilattice", "every_history_is_sound", "comple
             "what_may_be_opened_and_dropped.gathers", "what_may_be_opened_and_dropped.prunes"]
 # What the laws of the headline have to do with functions: a world's run is such a history, and boards are joined as the laws say.
 ITS_CODE = ["World::run.happenings", "Board::joined", "boards_are_joined_by_their_facts.shown"]
-# There is an evaluation, and just one.
-EVALUATION = ["every_script_has_an_evaluation", "evaluations_are_one"]
+# There is an evaluation, and just one. Its posts fit their communicators.
+EVALUATION = ["every_script_has_an_evaluation", "evaluations_are_one", "checked_posts_fit"]
 PROMISES = {
     "the headline": HEADLINE,
     "the headline, with its code": [*HEADLINE, *ITS_CODE],

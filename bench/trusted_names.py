@@ -19,7 +19,7 @@ LIFTED = re.compile(r"^[\w'-]+ a b = (?P<lift>[\w'-]+) (?P<test>[\w'-]+) a b$")
 LIBRARYS = {"nat_eq"}
 # A definition that isn't entered where this law is asked for too, since the law says all of it that the clauses need.
 BY_LAW = {"parts_joining": "boards_are_joined_by_their_facts.shown", "gathers_on": "what_may_be_opened_and_dropped.gathers",
-          "pruned_on": "what_may_be_opened_and_dropped.prunes"}
+          "pruned_on": "what_may_be_opened_and_dropped.prunes", "fits_there": "checked_posts_fit"}
 # What stands before the name on a definition's first line.
 BEFORE = re.compile(r"^\s*(?:(?:abbrev|unfoldable|pattern|pub|data|record) +)*")
 

@@ -5,6 +5,7 @@ pub mod Ways
 pub mod Ahead
 pub mod Ends
 mod Spaced
+pub mod Checked
 pub mod Passing
 pub mod Tells
 pub mod Going

@@ -3,7 +3,7 @@
 //! Each rank is an automaton over the outcomes that it asks for (`specs/Ranks.antt`), and the evaluation is where any moves
 //! of all ranks end (`specs/Evaluation.antt`). Its laws are [`every_script_has_an_evaluation`], [`evaluations_are_one`],
 //! [`whatever_is_reached_is_a_beginning`], [`ranks_carry_out_their_statements`] and [`lines_tell_the_values_of_all_posts`],
-//! and of one rank alone (`specs/Going.antt`) [`a_rank_goes_its_own_way`].
+//! and of one rank alone (`specs/Going.antt`) [`a_rank_goes_its_own_way`]. Its posts fit: [`checked_posts_fit`].
 //! [`line`], [`refused_line`], [`idle_line`] and [`neighbours_line`] write a line of a transcript
 //! (`specs/Transcripts.antt`), and so do [`neighbours_answer`], [`comparison_answer`] and [`translation_answer`] for
 //! a question about what a word is [`Found`] to stand for. A [`Report`] has all lines, and an [`Origin`] tells which statement a
@@ -14,6 +14,7 @@
 mod asking;
 mod bindings;
 mod evaluation;
+mod fitting;
 mod origin;
 mod own_way;
 mod report;
@@ -25,6 +26,7 @@ pub use bindings::bind;
 pub use evaluation::{
     evaluations_are_one, every_script_has_an_evaluation, whatever_is_reached_is_a_beginning,
 };
+pub use fitting::checked_posts_fit;
 pub use origin::Origin;
 pub use own_way::a_rank_goes_its_own_way;
 pub use report::Report;
