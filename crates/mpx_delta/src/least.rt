@@ -1,7 +1,6 @@
 //! What all processes say that they have.
 ghost use Rattle.std.specs.Prelude.{◌≡◌, ◌<◌, ◌≤◌, ℕ, IfOk, IsTrue, min};
 ghost use Rattle.std.specs.FinMap.{get};
-ghost use Rattle.std.specs.Option.{option_copied, option_map};
 ghost use Rattle.mpx_name.specs.Name.{Name as NameView};
 ghost use Rattle.mpx_board.specs.Looks.{look};
 ghost use Rattle.mpx_board.specs.Tidy.{are_tidy_numbers};

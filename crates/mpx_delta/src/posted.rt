@@ -3,7 +3,7 @@ ghost use Rattle.std.specs.Prelude.{◌≡◌, ◌-◌, ◌<◌, ◌≤◌, IfOk
 ghost use Rattle.std.specs.Option.{option_copied, option_map};
 ghost use Rattle.mpx_board.specs.Looks.{look, parts_of};
 ghost use Rattle.mpx_board.specs.Views.{view_of_acks, view_of_all_acks, view_of_lifted, view_of_numbers};
-ghost use Rattle.mpx_digest.specs.Digest.{number_at, numbers_acked};
+ghost use Rattle.mpx_digest.specs.Digest.{numbers_acked};
 ghost use Rattle.mpx_delta.specs.Digests.{common_on, without};
 ghost use Rattle.mpx_delta.specs.Posted.{above, least_above, least_posted, lesser, said_on};
 
