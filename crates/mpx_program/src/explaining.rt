@@ -3,7 +3,7 @@ ghost use Rattle.std.specs.Prelude.{◌≡◌, [], false};
 
 use join_core::OutOfMemory;
 use mpx_eval::{certain_refusals, examine};
-use mpx_explain::{explain_calls, explain_refusals, explain_results};
+use mpx_explain::{explain_calls, explain_refusals, explain_results, explain_unheard};
 use mpx_num::Ops;
 use mpx_run::Command;
 use mpx_script::{ReadScriptError, Script, read_script};
@@ -47,11 +47,18 @@ fn push_calls(
 ) -> Result<(), OutOfMemory> {
     if command == Command::Check {
         let found = certain_refusals(alloc, script, ops)?;
-        return explain_calls(alloc, text, script, &found, false, told);
+        return explain_calls(alloc, text, script, &found, told);
     }
     let found = examine(alloc, script, ops)?;
     push_waiting(alloc, text, script, found.waiting.as_slice(), told)?;
-    explain_calls(alloc, text, script, &found.complaints, false, told)?;
-    explain_calls(alloc, text, script, &found.unheard, true, told)?;
+    explain_calls(alloc, text, script, &found.complaints, told)?;
+    explain_unheard(
+        alloc,
+        text,
+        script,
+        &found.unheard,
+        found.waiting.as_slice(),
+        told,
+    )?;
     explain_results(alloc, text, script, &found, told)
 }
