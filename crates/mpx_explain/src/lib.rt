@@ -12,6 +12,7 @@ mod blame;
 mod calls;
 mod counts_given;
 mod detail;
+mod ends;
 mod faults;
 mod forms;
 mod given;
@@ -22,8 +23,10 @@ mod naming;
 mod numbering;
 mod past;
 mod size;
+mod walk;
 
 pub use blame::{Blamed, word_to_blame};
 pub use calls::{explain_calls, explain_unheard};
+pub use ends::{RunEnd, explain_served, run_end};
 pub use lines::explain_refusals;
 pub use past::explain_results;
