@@ -2,7 +2,7 @@
 
 use crate::numbering::marked;
 use crate::walk::{Awaited, Walk};
-use join_core::OutOfMemory;
+use join_core::{Exact, OutOfMemory};
 use mpx_eval::{Complaint, MissingCall, MissingMember, WaitingRank};
 use mpx_group::Proc;
 use mpx_node::Node;
