@@ -20,11 +20,14 @@ use std::alloc::Global;
 use std::sync::Wait;
 use std::thread::Threads;
 
-/// The text of a run or an evaluation, and how it ended.
+/// What a job comes to with a script.
 #[derive(Drop)]
-pub(crate) struct Printed {
-    pub(crate) text: String,
-    pub(crate) end: End,
+pub struct Printed {
+    /// What is to be written.
+    pub text: String,
+    pub end: End,
+    /// The lines of each rank, of which the text is made; none of a script that is read alone. No clause says it.
+    pub transcripts: Vec<Vec<String>>,
 }
 
 /// The lines of all ranks of a simulated run, each as `RANK: LINE`, rank by rank, and who waits, and why.
@@ -120,7 +123,11 @@ fn print_report(
 {
     let text = text_of(alloc, &report, ranks)?;
     let end = end_of(report.waiting, cause);
-    Ok(Printed { text, end })
+    Ok(Printed {
+        text,
+        end,
+        transcripts: report.transcripts,
+    })
 }
 
 // The lines of all ranks.

@@ -62,7 +62,7 @@ fn bare_program<'a>(alloc: Global) -> Result<Command<'a>, AllocError>
 {
     Command::new(alloc, "gossipmpi")
         .about("Run, evaluate or check a text script of MPI collectives for up to 64 ranks")
-        .version("0.1.0")
+        .version("0.2.0")
         .subcommand_required(true)
         .arg_required_else_help(true)
         .bin_name("gossipmpi")
