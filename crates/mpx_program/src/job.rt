@@ -176,12 +176,12 @@ fn answer<W: Write, E: Write>(
 {
     match printed {
         Ok(printed) => {
+            let more = explained(alloc, call, prepared, Some(&printed));
             let answer = write_printed(printed.text.as_bytes(), printed.end, out);
-            let more = explained(alloc, call, prepared, printed.transcripts.as_slice());
             exit_of(&answer, prepared.complains, call.flags.explain, &more, err)
         }
         Err(error) => {
-            let more = explained(alloc, call, prepared, &[]);
+            let more = explained(alloc, call, prepared, None);
             exit_of(&Err(error), prepared.complains, call.flags.explain, &more, err)
         }
     }

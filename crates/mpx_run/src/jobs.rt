@@ -6,7 +6,7 @@ ghost use Rattle.mpx_run.specs.Texts.{ComesTo, IsEndedFor, IsRefusedFor, is_in_t
 
 use crate::check::check_text;
 use crate::end::End;
-use crate::report::{Printed, print, print_evaluation, print_threads};
+use crate::report::{Held, Printed, print, print_evaluation, print_threads};
 use crate::texts::RunError;
 use mpx_num::{Listing, Ops};
 use mpx_script::Script;
@@ -57,6 +57,7 @@ pub fn print_job<T: Threads + Sync>(
             text: check_text(alloc, script)?,
             end: End::Finished,
             transcripts: Vec::new(alloc),
+            held: Held::Nothing,
         }),
     }
 }

@@ -10,7 +10,9 @@ use crate::end::{Cause, End};
 use crate::follows::Follows;
 use join_core::OutOfMemory;
 use mpx_eval::eval;
+use mpx_bus::Port;
 use mpx_meaning::Report;
+use mpx_node::Node;
 use mpx_num::{Listing, Ops, push_number};
 use mpx_script::Script;
 use mpx_sim::{Observer, run_sim_observed};
@@ -28,6 +30,32 @@ pub struct Printed {
     pub end: End,
     /// The lines of each rank, of which the text is made; none of a script that is read alone. No clause says it.
     pub transcripts: Vec<Vec<String>>,
+    /// What each process holds at the end of a run, first the ranks, then the relays; nothing of another job. No clause says it.
+    pub held: Held,
+}
+
+/// What processes hold at the end of a run.
+#[derive(Drop)]
+pub enum Held {
+    Nothing,
+    /// The nodes of a simulated run.
+    InNodes(Vec<Node>),
+    /// The ports of a run in threads.
+    InPorts(Vec<Port>),
+}
+
+impl Held {
+    /// The node of a process, by its number.
+    pub fn node(&self, process: usize) -> Option<&Node> {
+        match self {
+            Held::Nothing => None,
+            Held::InNodes(nodes) => nodes.get(process),
+            Held::InPorts(ports) => match ports.get(process) {
+                Some(port) => Some(port.node()),
+                None => None,
+            },
+        }
+    }
 }
 
 /// The lines of all ranks of a simulated run, each as `RANK: LINE`, rank by rank, and who waits, and why.
@@ -45,7 +73,8 @@ pub(crate) fn print<T: Threads + Sync>(
 {
     let run = run_sim_observed(rt, alloc, script, options, observer, ops)?;
     let cause = cause_of(run.turns, options);
-    print_report(alloc, run.report, script.ranks(), cause)
+    let held = Held::InNodes(run.nodes);
+    print_report(alloc, run.report, script.ranks(), cause, held)
 }
 
 // Why ranks wait where so many turns of a simulated run were made.
@@ -80,7 +109,8 @@ pub(crate) fn print_threads<T: Threads + Wait + Sync, G: Gate + Sync>(
     let follows = Follows { observer, looks };
     let run = run_threads(rt, alloc, script, options, gate, follows, ops)?;
     let cause = cause_in_threads(run.rests);
-    match print_report(alloc, run.report, script.ranks(), cause) {
+    let held = Held::InPorts(run.ports);
+    match print_report(alloc, run.report, script.ranks(), cause, held) {
         Ok(printed) => Ok(printed),
         Err(_) => Err(ThreadsError::OutOfMemory),
     }
@@ -106,7 +136,8 @@ pub(crate) fn print_evaluation(
     ensures { IfOk result (λ printed. IsEvaluatedText (⟦<Ops as Listing>⟧.operations ops.now) script.now printed.end (string_bytes printed.text)) }
 {
     let report = eval(alloc, script, ops)?;
-    print_report(alloc, report, script.ranks(), Cause::InEveryRun)
+    let (cause, held) = (Cause::InEveryRun, Held::Nothing);
+    print_report(alloc, report, script.ranks(), cause, held)
 }
 
 // The lines of all ranks, and who waits for this cause.
@@ -115,6 +146,7 @@ fn print_report(
     report: Report,
     ranks: u8,
     cause: Cause,
+    held: Held,
 ) -> Result<Printed, OutOfMemory>
     requires { ranks ≤ length (transcripts_of report) }
     ensures text { IfOk result (λ printed. string_bytes printed.text ≡ text_upto (lines_at (transcripts_of report)) ranks) }
@@ -127,6 +159,7 @@ fn print_report(
         text,
         end,
         transcripts: report.transcripts,
+        held,
     })
 }
 
