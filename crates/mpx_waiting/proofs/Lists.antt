@@ -5,7 +5,7 @@ use Rattle.std.proofs.lemmas.List.{length-map}
 use Rattle.mpx_statement.specs.declared.statement.Statement.{Statement}
 use Rattle.mpx_eval.specs.declared.who_waits.WaitingRank.{WaitingRank}
 use Rattle.mpx_eval.specs.Found.{missing_view, waiting_view}
-use Rattle.mpx_waiting.specs.ToldLines.{calls_in, rank_text, ranks_text}
+use Rattle.mpx_waiting.specs.ToldLines.{rank_text, ranks_text}
 
 pub flat_more : {A B : Type 0} (f : B → List ℕ) (view : A → B) (xs : List A) (i : ℕ) (d : A) → i < length xs → flat_map f (map view (drop i xs)) ≡ f (view (get_or xs i d)) ++ flat_map f (map view (drop (i + 1) xs))
 flat_more f view xs i d l =
@@ -22,13 +22,3 @@ ranks_more text statements places most found i w l =
     ap (λ ys. ranks_text text statements places most (map waiting_view ys)) (drop-cons found i w l)
     ∙ ap (λ n. rank_text text statements places most (waiting_view x) ++ ranks_text text statements places (most - n) (map waiting_view (drop (suc i) found))) (length-map x.calls.items missing_view)
     ∙ ap (λ n. rank_text text statements places most (waiting_view x) ++ ranks_text text statements places (most - length x.calls.items) (map waiting_view (drop n found))) k
-
--- and so with their calls
-pub calls_more : (found : List WaitingRank) (i : ℕ) (w : WaitingRank) → i < length found
-    → calls_in (map waiting_view (drop i found)) ≡ length (get_or found i w).calls.items + calls_in (map waiting_view (drop (i + 1) found))
-calls_more found i w l =
-    let k : suc i ≡ i + 1 = omega arith in
-    let x = get_or found i w in
-    ap (λ ys. calls_in (map waiting_view ys)) (drop-cons found i w l)
-    ∙ ap (λ n. n + calls_in (map waiting_view (drop (suc i) found))) (length-map x.calls.items missing_view)
-    ∙ ap (λ n. length x.calls.items + calls_in (map waiting_view (drop n found))) k
