@@ -158,7 +158,12 @@ fn misfit_place(words: &[&str]) -> Option<usize> {
 }
 
 // Words that stand for parts of a form which others can't be taken for.
-const STAND_INS: [(&str, &str); 4] = [("C", "world"), ("ROOT", "0"), ("OP", "sum"), ("TYPE", "i32")];
+const STAND_INS: [(&str, &str); 4] = [
+    ("C", "world"),
+    ("ROOT", "0"),
+    ("OP", "sum"),
+    ("TYPE", "i32"),
+];
 
 /// Which part of its statement's form a line lacks, and the place of the word in whose front it belongs: one word more there leaves
 /// nothing to refuse, but for names that a line alone can't tell of.

@@ -78,11 +78,7 @@ fn form_in(words: &[&str]) -> Option<Form> {
 }
 
 // How a line differs from its statement's form, behind that.
-fn by_form(
-    alloc: Global,
-    words: &[&str],
-    misfit: Misfit,
-) -> Result<Option<String>, OutOfMemory> {
+fn by_form(alloc: Global, words: &[&str], misfit: Misfit) -> Result<Option<String>, OutOfMemory> {
     let (Some(form), Some(statement)) = (form_in(words), words.get(1)) else {
         return Ok(None);
     };

@@ -97,11 +97,7 @@ fn of_statement(
 
 // The refusals that a call tells more of, each by what it gives. (Names that are compared one by one: a match over so many texts is dear to
 // prove.)
-fn of_draft(
-    alloc: Global,
-    at: &Place<'_>,
-    draft: &Draft,
-) -> Result<Option<String>, OutOfMemory> {
+fn of_draft(alloc: Global, at: &Place<'_>, draft: &Draft) -> Result<Option<String>, OutOfMemory> {
     if at.is("refused RootOutOfRange") {
         return root(alloc, at, draft);
     }

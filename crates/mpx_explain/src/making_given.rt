@@ -13,9 +13,7 @@ const MOST: i128 = 2_147_483_647;
 pub(crate) fn bad_split(alloc: Global, draft: &Draft) -> Result<Option<String>, OutOfMemory> {
     if let Some(colour) = draft.colour {
         if colour < 0 || colour > MOST {
-            return Ok(Some(format!(in alloc;
-                "COLOUR is {colour}, colours go from 0 to {MOST}"
-            )?));
+            return Ok(Some(format!(in alloc; "COLOUR is {colour}, colours go from 0 to {MOST}")?));
         }
     }
     let key = draft.key;
@@ -74,11 +72,7 @@ pub(crate) fn strange_rank(
 }
 
 // Of ranks of which one is none of the communicator, though none is plainly so, the greatest isn't.
-fn greatest(
-    alloc: Global,
-    at: &Place<'_>,
-    ranks: &[i128],
-) -> Result<Option<String>, OutOfMemory> {
+fn greatest(alloc: Global, at: &Place<'_>, ranks: &[i128]) -> Result<Option<String>, OutOfMemory> {
     match ranks.iter().max() {
         Some(rank) => stray(alloc, at, "RANKS", *rank),
         None => Ok(None),

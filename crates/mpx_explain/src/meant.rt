@@ -117,7 +117,16 @@ const TYPES: [(&str, &str); 27] = [
 ];
 
 // How types with a point begin.
-const FLOATING: [&str; 8] = ["f1", "f3", "f6", "float", "double", "long_double", "real", "complex"];
+const FLOATING: [&str; 8] = [
+    "f1",
+    "f3",
+    "f6",
+    "float",
+    "double",
+    "long_double",
+    "real",
+    "complex",
+];
 
 //// What a word was meant to be, perhaps, as a question or a sentence: the words that it is in small letters and without MPI's prefixes,
 /// or from which one letter more, less or other, or two letters in another order, tell it apart; or that scripts have no such word. A

@@ -150,7 +150,13 @@ fn push_waits(
     told: &mut Vec<u8>,
 ) -> Result<(), OutOfMemory> {
     let text = prepared.text.as_slice();
-    push_waiting(alloc, text, &prepared.script, found.waiting.as_slice(), told)
+    push_waiting(
+        alloc,
+        text,
+        &prepared.script,
+        found.waiting.as_slice(),
+        told,
+    )
 }
 
 // Which calls are refused or are faults there, and which results are past their types.

@@ -144,8 +144,7 @@ fn do_call_in_threads<T: Threads + Wait + Sync, R: Read, W: Write, E: Write>(
     match prepared(alloc, call, reader, ops) {
         Ok(prepared) => {
             let (job, script) = (&call.job, &prepared.script);
-            let printed =
-                print_job_in_threads(rt, alloc, job, script, observer, &OpenGate, ops);
+            let printed = print_job_in_threads(rt, alloc, job, script, observer, &OpenGate, ops);
             answer(alloc, call, &prepared, printed, out, err, ops)
         }
         Err(failed) => exit_of(
@@ -182,7 +181,13 @@ fn answer<W: Write, E: Write>(
         }
         Err(error) => {
             let more = explained(alloc, call, prepared, None);
-            exit_of(&Err(error), prepared.complains, call.flags.explain, &more, err)
+            exit_of(
+                &Err(error),
+                prepared.complains,
+                call.flags.explain,
+                &more,
+                err,
+            )
         }
     }
 }

@@ -9,8 +9,8 @@ ghost use Rattle.mpx_run.specs.Reports.{EndsSo, IsBy, IsEvaluatedText, lines_at}
 use crate::end::{Cause, End};
 use crate::follows::Follows;
 use join_core::OutOfMemory;
-use mpx_eval::eval;
 use mpx_bus::Port;
+use mpx_eval::eval;
 use mpx_meaning::Report;
 use mpx_node::Node;
 use mpx_num::{Listing, Ops, push_number};

@@ -70,7 +70,7 @@ pub fn strange_option(alloc: Global, words: &[String]) -> Result<Option<String>,
 
 // The text, where there is one.
 fn said_of(alloc: Global, said: Option<&str>) -> Result<Option<String>, AllocError>
-    ensures { IfOk result (λ text. option_map string_bytes text ≡ option_map (λ s. s.now) said) }
+    ensures { IfOk result (λ text. option_map string_bytes text ≡ option_copied said.entry) }
 {
     match said {
         Some(said) => Ok(Some(String::from_str(alloc, said)?)),
@@ -98,9 +98,7 @@ fn begins_below_zero(words: &[String]) -> bool
 {
     match words {
         [] => false,
-        [word, ..] => {
-            !is_plain(word.as_bytes()) && parse_number(word.as_bytes()).is_some()
-        }
+        [word, ..] => { !is_plain(word.as_bytes()) && parse_number(word.as_bytes()).is_some() }
     }
 }
 

@@ -1,4 +1,4 @@
-use Rattle.std.proofs.Common.{◌≡◌, ◌+◌, ◌*◌, ◌^◌, ◌≤◌, ◌×◌, drop, map}
+use Rattle.std.proofs.Common.{◌≡◌, ◌+◌, ◌*◌, ◌^◌, ◌≤◌, drop, map}
 use Rattle.mpx_eval.specs.Found.{waiting_view}
 use Rattle.mpx_waiting.specs.ToldLines.{calls_in}
 use Rattle.mpx_waiting.proofs.told.calls_in.Given as goal
