@@ -464,11 +464,32 @@ def line(x):
 
 
 def evaluate(todo):
-    """Each context is its name, a tuple of steps, its members' processes and its topology or None."""
+    """What all ranks print, and who waits."""
+    end = End(todo)
+    text = "".join("%d: %s\n" % (p, l) for p in range(len(todo)) for l in end.out[p])
+    return text, end.waiting
+
+
+class End:
+    """Where an evaluation ends, or one in which each rank stops behind so many lines: the lines of each rank with the statements of their
+    calls, its posts, the call that it waits for and its open requests. Each context is its name, a tuple of steps, its members' processes
+    and its topology or None."""
+
+    def __init__(self, todo, most=None):
+        self.most = most or [None] * len(todo)
+        evaluate_to(self, todo)
+
+
+def evaluate_to(end, todo):
     n = len(todo)
     out, posts = [[] for _ in range(n)], {}  # posts of a context and a process, in order
     bound = [{"world": ((), list(range(n)), None)} for _ in range(n)]
     place, waits, requests = [0] * n, [None] * n, [{} for _ in range(n)]
+    calls = [[] for _ in range(n)]  # of each line the place of its call's statement
+
+    def is_full(p):
+        """Whether the rank is to print nothing more."""
+        return len(out[p]) == end.most[p]
 
     def is_closed(p, name):
         """Whether the rank has posted a free there, whatever became of that call."""
@@ -522,7 +543,7 @@ def evaluate(todo):
         if why:
             return why
         mine = posts.setdefault((name, p), [])
-        made = (name, members, graph, len(mine), call["target"])
+        made = (name, members, graph, len(mine), call["target"], place[p])
         if call["request"]:
             requests[p][call["request"]] = made
         else:
@@ -532,13 +553,13 @@ def evaluate(todo):
 
     def row_of(made):
         """The posts of all members to a call, or None where one is missing."""
-        name, members, graph, k, target = made
+        name, members, graph, k, target, statement = made
         lists = [posts.get((name, q), []) for q in members]
         return None if any(len(calls) <= k for calls in lists) else [calls[k] for calls in lists]
 
     def told(p, made):
         """The line of a call whose row is whole; a new communicator is bound."""
-        name, members, graph, k, target = made
+        name, members, graph, k, target, statement = made
         row, me = row_of(made), members.index(p)
         wrong = fault(row, graph)
         if wrong:
@@ -550,19 +571,21 @@ def evaluate(todo):
 
     def hear(p):
         """Whether the row that the rank waits for is whole."""
-        if row_of(waits[p]) is None:
+        if row_of(waits[p]) is None or is_full(p):
             return False
         out[p].append(told(p, waits[p]))
+        calls[p].append(waits[p][5])
         waits[p] = None
         return True
 
     def wait(p, words):
         """Whether the rows of all open requests among these are whole, whose lines are printed then."""
-        if any(word in requests[p] and row_of(requests[p][word]) is None for word in words):
+        if is_full(p) or any(word in requests[p] and row_of(requests[p][word]) is None for word in words):
             return False
         for word in words:
             made = requests[p].pop(word, None)
             out[p].append(told(p, made) if made else "idle")
+            calls[p].append(made[5] if made else place[p])
         return True
 
     moved = True
@@ -577,12 +600,14 @@ def evaluate(todo):
                     moved = True
             elif place[p] < len(todo[p]):
                 why = post(p, todo[p][place[p]])
-                place[p] += 1
-                moved = True
                 if why:
                     out[p].append("refused " + why)
-    text = "".join("%d: %s\n" % (p, l) for p in range(n) for l in out[p])
-    return text, [p for p in range(n) if waits[p] or place[p] < len(todo[p])]
+                calls[p] += [place[p]] * (len(out[p]) - len(calls[p]))
+                place[p] += 1
+                moved = True
+    end.out, end.calls, end.posts, end.place, end.waits, end.requests = out, calls, posts, place, waits, requests
+    end.row_of, end.is_closed = row_of, is_closed
+    end.waiting = [p for p in range(n) if waits[p] or place[p] < len(todo[p])]
 
 
 def random_call(rng, members, graph, wild):

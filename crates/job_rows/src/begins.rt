@@ -1,7 +1,7 @@
 //! Whether what a run prints begins the script's evaluation, however early it ends; and the status of a call alone.
 use crate::lines::{ended, word_at, words_of};
-use mpx_num::Ops;
-use mpx_program::run_job;
+use crate::program::exited;
+use crate::terminals::Shown;
 use std::alloc::Global;
 use std::io::{self, Write};
 use std::sync::Wait;
@@ -14,11 +14,10 @@ pub fn begins<T: Threads + Wait + Sync>(
     alloc: Global,
     line: &[u8],
     script: &[u8],
-    ops: &Ops,
 ) -> io::Result<Vec<u8>> {
     let mut text = Vec::new(alloc);
     let mut whole = Vec::new(alloc);
-    let made = made_both(rt, alloc, line, script, &mut text, &mut whole, ops);
+    let made = made_both(rt, alloc, line, script, &mut text, &mut whole);
     let is_begun = begin(&text, &whole);
     drop(whole);
     let told = match made {
@@ -46,10 +45,9 @@ fn made_both<T: Threads + Wait + Sync>(
     script: &[u8],
     text: &mut Vec<u8>,
     whole: &mut Vec<u8>,
-    ops: &Ops,
 ) -> io::Result<()> {
-    made(rt, alloc, line, 2, script, text, ops)?;
-    made(rt, alloc, b"eval", 0, script, whole, ops)?;
+    made(rt, alloc, line, 2, script, text)?;
+    made(rt, alloc, b"eval", 0, script, whole)?;
     Ok(())
 }
 
@@ -61,15 +59,19 @@ fn made<T: Threads + Wait + Sync>(
     from: usize,
     script: &[u8],
     text: &mut Vec<u8>,
-    ops: &Ops,
 ) -> io::Result<u8> {
     let words = words_of(alloc, line, from)?;
     let mut said = Vec::new(alloc);
+    let mut seen = Vec::new(alloc);
     let mut reader = script;
-    let exit = run_job(rt, alloc, &words, &mut reader, text, &mut said, ops);
+    let shown = Shown {
+        text: &mut seen,
+        is_terminal: false,
+    };
+    let status = exited(rt, alloc, words, &mut reader, text, &mut said, shown);
+    drop(seen);
     drop(said);
-    drop(words);
-    Ok(exit.status)
+    Ok(status)
 }
 
 /// `status WORDS`: the status alone, where what is printed beside it hangs on which thread comes first.
@@ -78,10 +80,9 @@ pub fn status<T: Threads + Wait + Sync>(
     alloc: Global,
     line: &[u8],
     script: &[u8],
-    ops: &Ops,
 ) -> io::Result<Vec<u8>> {
     let mut text = Vec::new(alloc);
-    let made = made(rt, alloc, line, 2, script, &mut text, ops);
+    let made = made(rt, alloc, line, 2, script, &mut text);
     text.clear();
     let told = match made {
         Ok(status) => writeln!(text, "= {status}"),

@@ -3,13 +3,12 @@ use crate::begins::{begins, status};
 use crate::dead::dead;
 use crate::gated_runs::{both_asked, counted, strange_job, told_meanwhile};
 use crate::lines::{ended, joined, many_words, number_of, word_at, words_of};
+use crate::program::{exited, refused};
 use crate::statements::{Asked, told_of};
 use crate::streams::{Failing, Holding, Limited};
-use crate::terminals::{Leaping, Shown};
+use crate::terminals::Shown;
 use mpx_num::Ops;
-use mpx_program::{refuse, run_job_observed};
 use mpx_script::ReadScriptError;
-use mpx_shell::Seen;
 use mpx_words::not_text;
 use std::alloc::Global;
 use std::io::{self, Read, Write};
@@ -42,15 +41,15 @@ pub fn told<T: Threads + Wait + Sync>(
     } else if word == b"meanwhile".as_slice() {
         told_meanwhile(rt, alloc, script, ops)
     } else if word == b"begins".as_slice() {
-        begins(rt, alloc, line, script, ops)
+        begins(rt, alloc, line, script)
     } else if word == b"dead".as_slice() {
         dead(rt, alloc, line, script, ops)
     } else if word == b"no-text".as_slice() {
-        no_text(alloc)
+        no_text(rt, alloc)
     } else if word == b"memory".as_slice() {
         Ok(format!(in alloc; "{}\n= 0\n", ReadScriptError::OutOfMemory)?.into_bytes())
     } else {
-        streamed(rt, alloc, word, line, script, ops)
+        streamed(rt, alloc, word, line, script)
     }
 }
 
@@ -62,34 +61,26 @@ fn streamed<T: Threads + Wait + Sync>(
     word: &[u8],
     line: &[u8],
     script: &[u8],
-    ops: &Ops,
 ) -> io::Result<Vec<u8>> {
     let first = number_of(word_at(line, 2));
     if word == b"reader".as_slice() {
-        from_failing(rt, alloc, line, script, first, ops)
+        from_failing(rt, alloc, line, script, first)
     } else if word == b"endless".as_slice() {
-        from_endless(rt, alloc, line, ops)
+        from_endless(rt, alloc, line)
     } else if word == b"writer".as_slice() {
-        into_limited(rt, alloc, line, script, first, ops)
+        into_limited(rt, alloc, line, script, first)
     } else if word == b"holding".as_slice() {
-        into_holding(rt, alloc, line, script, first == 1, ops)
+        into_holding(rt, alloc, line, script, first == 1)
     } else if word == b"length".as_slice() {
-        length(rt, alloc, line, script, ops)
+        length(rt, alloc, line, script)
     } else if word == b"status".as_slice() {
-        status(rt, alloc, line, script, ops)
+        status(rt, alloc, line, script)
     } else if word == b"terminal".as_slice() {
-        called(rt, alloc, words_of(alloc, line, 2)?, script, true, ops)
+        called(rt, alloc, words_of(alloc, line, 2)?, script, true)
     } else if word == b"many".as_slice() {
-        called(
-            rt,
-            alloc,
-            many_words(alloc, line, first)?,
-            script,
-            false,
-            ops,
-        )
+        called(rt, alloc, many_words(alloc, line, first)?, script, false)
     } else {
-        called(rt, alloc, words_of(alloc, line, 1)?, script, false, ops)
+        called(rt, alloc, words_of(alloc, line, 1)?, script, false)
     }
 }
 
@@ -100,12 +91,10 @@ fn called<T: Threads + Wait + Sync>(
     words: Vec<String>,
     script: &[u8],
     is_terminal: bool,
-    ops: &Ops,
 ) -> io::Result<Vec<u8>> {
     let mut out = Vec::new(alloc);
     let mut reader = script;
-    let said = shown_on(rt, alloc, &words, &mut reader, &mut out, is_terminal, ops);
-    drop(words);
+    let said = shown_on(rt, alloc, words, &mut reader, &mut out, is_terminal);
     joined(Ok(out), said)
 }
 
@@ -117,36 +106,29 @@ fn said_by<T: Threads + Wait + Sync, R: Read, W: Write>(
     from: usize,
     reader: &mut R,
     out: &mut W,
-    ops: &Ops,
 ) -> io::Result<Vec<u8>> {
-    let words = words_of(alloc, line, from)?;
-    let said = shown_on(rt, alloc, &words, reader, out, false, ops);
-    drop(words);
-    said
+    shown_on(rt, alloc, words_of(alloc, line, from)?, reader, out, false)
 }
 
 // The same, where the run is shown on what is a terminal or isn't: what it was shown comes first, and then what the standard error is told.
 fn shown_on<T: Threads + Wait + Sync, R: Read, W: Write>(
     rt: &T,
     alloc: Global,
-    words: &[String],
+    words: Vec<String>,
     reader: &mut R,
     out: &mut W,
     is_terminal: bool,
-    ops: &Ops,
 ) -> io::Result<Vec<u8>> {
+    let mut text = Vec::new(alloc);
+    let mut said = Vec::new(alloc);
     let shown = Shown {
-        text: Vec::new(alloc),
+        text: &mut text,
         is_terminal,
     };
-    let mut said = Vec::new(alloc);
-    let clock = Leaping::new();
-    let mut seen = Seen::of(words, alloc, &clock, shown);
-    let exit = run_job_observed(rt, alloc, words, reader, out, &mut said, &mut seen, ops);
-    let mut shown = seen.into_writer().text;
-    let pushed = push_said(&mut shown, &said, exit.status);
+    let status = exited(rt, alloc, words, reader, out, &mut said, shown);
+    let pushed = push_said(&mut text, &said, status);
     drop(said);
-    ended(shown, pushed)
+    ended(text, pushed)
 }
 
 // What was said, and the status.
@@ -162,11 +144,10 @@ fn from_failing<T: Threads + Wait + Sync>(
     line: &[u8],
     bytes: &[u8],
     calls: usize,
-    ops: &Ops,
 ) -> io::Result<Vec<u8>> {
     let mut reader = Failing { bytes, calls };
     let mut out = Vec::new(alloc);
-    let said = said_by(rt, alloc, line, 3, &mut reader, &mut out, ops);
+    let said = said_by(rt, alloc, line, 3, &mut reader, &mut out);
     let left = writeln!(out, "{} bytes left", reader.bytes.len());
     joined(ended(out, left), said)
 }
@@ -176,11 +157,10 @@ fn from_endless<T: Threads + Wait + Sync>(
     rt: &T,
     alloc: Global,
     line: &[u8],
-    ops: &Ops,
 ) -> io::Result<Vec<u8>> {
     let mut reader = io::repeat(b'#');
     let mut out = Vec::new(alloc);
-    let said = said_by(rt, alloc, line, 2, &mut reader, &mut out, ops);
+    let said = said_by(rt, alloc, line, 2, &mut reader, &mut out);
     joined(Ok(out), said)
 }
 
@@ -191,7 +171,6 @@ fn into_limited<T: Threads + Wait + Sync>(
     line: &[u8],
     script: &[u8],
     room: usize,
-    ops: &Ops,
 ) -> io::Result<Vec<u8>> {
     let mut writer = Limited {
         held: Vec::new(alloc),
@@ -199,7 +178,7 @@ fn into_limited<T: Threads + Wait + Sync>(
         room,
     };
     let mut reader = script;
-    let said = said_by(rt, alloc, line, 4, &mut reader, &mut writer, ops);
+    let said = said_by(rt, alloc, line, 4, &mut reader, &mut writer);
     joined(Ok(writer.held), said)
 }
 
@@ -210,7 +189,6 @@ fn into_holding<T: Threads + Wait + Sync>(
     line: &[u8],
     script: &[u8],
     fails: bool,
-    ops: &Ops,
 ) -> io::Result<Vec<u8>> {
     let mut writer = Holding {
         held: Vec::new(alloc),
@@ -218,7 +196,7 @@ fn into_holding<T: Threads + Wait + Sync>(
         fails,
     };
     let mut reader = script;
-    let said = said_by(rt, alloc, line, 3, &mut reader, &mut writer, ops);
+    let said = said_by(rt, alloc, line, 3, &mut reader, &mut writer);
     joined(Ok(writer.into_text()), said)
 }
 
@@ -228,11 +206,10 @@ fn length<T: Threads + Wait + Sync>(
     alloc: Global,
     line: &[u8],
     script: &[u8],
-    ops: &Ops,
 ) -> io::Result<Vec<u8>> {
     let mut out = Vec::new(alloc);
     let mut reader = script;
-    let said = said_by(rt, alloc, line, 2, &mut reader, &mut out, ops);
+    let said = said_by(rt, alloc, line, 2, &mut reader, &mut out);
     let bytes = out.len();
     out.clear();
     let told = writeln!(out, "{bytes} bytes");
@@ -240,9 +217,15 @@ fn length<T: Threads + Wait + Sync>(
 }
 
 // `no-text`: what is said where a word of the call isn't UTF-8.
-fn no_text(alloc: Global) -> io::Result<Vec<u8>> {
+fn no_text<T: Threads + Wait + Sync>(rt: &T, alloc: Global) -> io::Result<Vec<u8>> {
+    let mut text = Vec::new(alloc);
     let mut said = Vec::new(alloc);
-    let exit = refuse(&not_text(alloc), &mut said);
-    let told = writeln!(said, "= {}", exit.status);
-    ended(said, told)
+    let shown = Shown {
+        text: &mut text,
+        is_terminal: false,
+    };
+    let status = refused(rt, alloc, not_text(alloc), &mut said, shown);
+    let pushed = push_said(&mut text, &said, status);
+    drop(said);
+    ended(text, pushed)
 }

@@ -56,8 +56,10 @@ fn with_answer(mut text: Vec<u8>, answer: Result<End, RunError>) -> io::Result<V
 }
 
 fn push_answer(text: &mut Vec<u8>, answer: &Result<End, RunError>) -> io::Result<()> {
-    write_message(answer, text)?;
-    writeln!(text, "= {}", status_of(answer, false))
+    match write_message(answer, text) {
+        Ok(()) => writeln!(text, "= {}", status_of(answer, false)),
+        Err(_) => Err(io::Error::from(io::ErrorKind::WriteZero)),
+    }
 }
 
 /// `both`: a run in threads in which ranks 0 and 1 are held until both have asked for their first frame.
@@ -123,11 +125,13 @@ pub fn told_meanwhile<T: Threads + Wait + Sync>(
 ) -> io::Result<Vec<u8>> {
     let clock = Leaping::new();
     let gate = UntilTold::new();
-    let mut begun = AllBegun::new(alloc, &clock, &gate);
+    let mut shown = Vec::new(alloc);
+    let mut begun = AllBegun::new(alloc, &clock, &gate, &mut shown);
     let mut out = Vec::new(alloc);
     let answer = in_threads(rt, alloc, script, 0, &mut out, &mut begun, &gate, ops);
+    drop(begun);
     joined(
-        joined(Ok(out), Ok(begun.into_text())),
+        joined(Ok(out), Ok(shown)),
         with_answer(Vec::new(alloc), answer),
     )
 }

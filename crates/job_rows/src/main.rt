@@ -14,6 +14,7 @@ mod gated_runs;
 mod gates;
 mod lines;
 mod more_runs;
+mod program;
 mod statements;
 mod streams;
 mod terminals;

@@ -1,4 +1,5 @@
 //! Which word of a refused line is to blame, found by trials of the line with other words. Nothing is claimed of it.
+use crate::forms::{Misfit, form_of, misfit_of};
 use join_core::OutOfMemory;
 use mpx_num::Ops;
 use mpx_script::{ReadScriptError, ScriptError, ScriptFault, read_script};
@@ -18,6 +19,8 @@ enum Change {
     Cut(usize),
     /// Another word at this place.
     One(usize, &'static str),
+    /// One more word, before that at this place.
+    More(usize, &'static str),
     /// A number at this place and in each one behind it, but for operations and types.
     Numbers(usize),
     /// A number at this place and in each one behind it up to an arrow, but for operations and types.
@@ -30,6 +33,13 @@ const MOST_WORDS: usize = 64;
 // Behind a text of more bytes than these no word is tried that has to be bound there, since each trial reads that text.
 const MOST_BEFORE: usize = 65_536;
 
+/// A line of a script, by its words, and the text before it.
+#[derive(Drop)]
+pub(crate) struct Line<'t> {
+    pub(crate) before: &'t str,
+    pub(crate) words: Vec<&'t str>,
+}
+
 /// The word that is to blame for a script's refusal, where it can be told: in a line of at most 64 words.
 pub fn word_to_blame(
     alloc: Global,
@@ -37,10 +47,40 @@ pub fn word_to_blame(
     refusal: ScriptError,
     ops: &Ops,
 ) -> Result<Option<Blamed>, OutOfMemory> {
+    let Some(line) = line_in(alloc, text, refusal.line)? else {
+        return Ok(None);
+    };
+    match place_of(alloc, &line, refusal.what, ops)? {
+        Some(place) => blamed_at(alloc, &line, place),
+        None => Ok(None),
+    }
+}
+
+/// The word at this place of a line, from 0 on.
+pub(crate) fn blamed_at(
+    alloc: Global,
+    line: &Line<'_>,
+    place: usize,
+) -> Result<Option<Blamed>, OutOfMemory> {
+    match line.words.get(place) {
+        Some(word) => Ok(Some(Blamed {
+            place: place.saturating_add(1),
+            word: String::from_str(alloc, word)?,
+        })),
+        None => Ok(None),
+    }
+}
+
+/// The line with this number, from 1 on, where it is text of at most 64 words.
+pub(crate) fn line_in(
+    alloc: Global,
+    text: &[u8],
+    number: u32,
+) -> Result<Option<Line<'_>>, OutOfMemory> {
     let Ok(text) = str::from_utf8(text) else {
         return Ok(None);
     };
-    let (before, line) = line_of(text, refusal.line);
+    let (before, line) = line_of(text, number);
     let mut words = Vec::new(alloc);
     for word in line.split_whitespace() {
         if words.len() == MOST_WORDS {
@@ -48,16 +88,7 @@ pub fn word_to_blame(
         }
         words.push(word)?;
     }
-    let Some(place) = place_of(alloc, before, &words, refusal.what, ops)? else {
-        return Ok(None);
-    };
-    match words.get(place) {
-        Some(word) => Ok(Some(Blamed {
-            place: place.saturating_add(1),
-            word: String::from_str(alloc, word)?,
-        })),
-        None => Ok(None),
-    }
+    Ok(Some(Line { before, words }))
 }
 
 // The line with this number, from 1 on, and the text before it.
@@ -78,26 +109,117 @@ fn line_of(text: &str, number: u32) -> (&str, &str) {
     (text.get(..before).unwrap_or(""), line)
 }
 
-// The place of the word that is to blame, from 0 on.
-fn place_of(
+/// The place of the word that is to blame, from 0 on.
+pub(crate) fn place_of(
     alloc: Global,
-    before: &str,
+    line: &Line<'_>,
+    what: ScriptFault,
+    ops: &Ops,
+) -> Result<Option<usize>, OutOfMemory> {
+    let words = line.words.as_slice();
+    match what {
+        ScriptFault::NotAscii | ScriptFault::TooLarge | ScriptFault::NoRanksLine => Ok(None),
+        ScriptFault::RanksOutOfRange => Ok(Some(1)),
+        ScriptFault::RankOutOfRange => Ok(Some(0)),
+        ScriptFault::WrongWords => Ok(misfit_place(words)),
+        ScriptFault::NameUnknown if line.before.len() > MOST_BEFORE => Ok(None),
+        ScriptFault::NameUnknown => unbound(alloc, line.before, words, ops),
+        ScriptFault::NameTaken => Ok(words.len().checked_sub(1)),
+        ScriptFault::UnknownStatement
+        | ScriptFault::BadNumber
+        | ScriptFault::BadList
+        | ScriptFault::BadName => match missing_part(alloc, words, ops)? {
+            Some((_, place)) => Ok(Some(place)),
+            None => wrong_word(alloc, words, what, ops),
+        },
+    }
+}
+
+// The place of a word of the wrong sort.
+fn wrong_word(
+    alloc: Global,
     words: &[&str],
     what: ScriptFault,
     ops: &Ops,
 ) -> Result<Option<usize>, OutOfMemory> {
     match what {
-        ScriptFault::NotAscii | ScriptFault::TooLarge | ScriptFault::NoRanksLine => Ok(None),
-        ScriptFault::RanksOutOfRange => Ok(Some(1)),
-        ScriptFault::RankOutOfRange => Ok(Some(0)),
         ScriptFault::UnknownStatement => unknown(alloc, words, ops),
-        ScriptFault::WrongWords => surplus(alloc, words, ops),
         ScriptFault::BadNumber => strange_number(alloc, words, ops),
         ScriptFault::BadList => strange(alloc, words, "-", ops),
-        ScriptFault::BadName => strange(alloc, words, "world", ops),
-        ScriptFault::NameUnknown if before.len() > MOST_BEFORE => Ok(None),
-        ScriptFault::NameUnknown => unbound(alloc, before, words, ops),
-        ScriptFault::NameTaken => Ok(words.len().checked_sub(1)),
+        _ => strange(alloc, words, "world", ops),
+    }
+}
+
+// The place at which a line differs from its statement's form.
+fn misfit_place(words: &[&str]) -> Option<usize> {
+    match misfit_of(form_of(words.get(1)?)?, words)? {
+        Misfit::Missing(_, place) | Misfit::Surplus(place) | Misfit::Joined(place) => Some(place),
+    }
+}
+
+// Words that stand for parts of a form which others can't be taken for.
+const STAND_INS: [(&str, &str); 4] = [
+    ("C", "world"),
+    ("ROOT", "0"),
+    ("OP", "sum"),
+    ("TYPE", "i32"),
+];
+
+/// Which part of its statement's form a line lacks, and the place of the word in whose front it belongs: one word more there leaves
+/// nothing to refuse, but for names that a line alone can't tell of.
+pub(crate) fn missing_part(
+    alloc: Global,
+    words: &[&str],
+    ops: &Ops,
+) -> Result<Option<(&'static str, usize)>, OutOfMemory> {
+    let Some(form) = words.get(1).and_then(|word| form_of(word)) else {
+        return Ok(None);
+    };
+    let mut place = 2usize;
+    for part in form.parts.split_whitespace() {
+        if lacks(alloc, words, part, place, ops)? {
+            return Ok(Some((part, place)));
+        }
+        place = place.saturating_add(1);
+    }
+    Ok(None)
+}
+
+// Whether a line lacks this part of its form before the word at this place.
+fn lacks(
+    alloc: Global,
+    words: &[&str],
+    part: &str,
+    place: usize,
+    ops: &Ops,
+) -> Result<bool, OutOfMemory> {
+    let Some(word) = words.get(place) else {
+        return Ok(false);
+    };
+    let Some(other) = stand_in(part) else {
+        return Ok(false);
+    };
+    if *word == other {
+        return Ok(false);
+    }
+    let told = fault_of(alloc, RANKS, words, Change::More(place, other), ops)?;
+    Ok(is_of_names(told))
+}
+
+fn stand_in(part: &str) -> Option<&'static str> {
+    for (name, word) in STAND_INS {
+        if name == part {
+            return Some(word);
+        }
+    }
+    None
+}
+
+// Whether a line is refused for nothing but names that a line alone can't tell of.
+fn is_of_names(told: Option<ScriptFault>) -> bool {
+    match told {
+        None | Some(ScriptFault::NameUnknown) | Some(ScriptFault::NameTaken) => true,
+        Some(_) => false,
     }
 }
 
@@ -125,17 +247,6 @@ fn unknown(alloc: Global, words: &[&str], ops: &Ops) -> Result<Option<usize>, Ou
     Ok(None)
 }
 
-// The first word behind those that a statement has, or one where an arrow belongs.
-fn surplus(alloc: Global, words: &[&str], ops: &Ops) -> Result<Option<usize>, OutOfMemory> {
-    for place in 3..words.len() {
-        let told = fault_of(alloc, RANKS, words, Change::Cut(place), ops)?;
-        if told != Some(ScriptFault::WrongWords) {
-            return Ok(Some(place));
-        }
-    }
-    strange(alloc, words, "->", ops)
-}
-
 // The first word that is no number, though one stands there: the last one such that with numbers there and behind it none is to blame.
 fn strange_number(alloc: Global, words: &[&str], ops: &Ops) -> Result<Option<usize>, OutOfMemory> {
     let mut found = None;
@@ -161,11 +272,9 @@ fn strange(
     ops: &Ops,
 ) -> Result<Option<usize>, OutOfMemory> {
     for place in 2..words.len() {
-        match fault_of(alloc, RANKS, words, Change::One(place, other), ops)? {
-            None | Some(ScriptFault::NameUnknown) | Some(ScriptFault::NameTaken) => {
-                return Ok(Some(place));
-            }
-            Some(_) => {}
+        let told = fault_of(alloc, RANKS, words, Change::One(place, other), ops)?;
+        if is_of_names(told) {
+            return Ok(Some(place));
         }
     }
     Ok(None)
@@ -233,6 +342,12 @@ fn tried(
     let mut is_behind_arrow = false;
     for (place, word) in words.iter().enumerate() {
         is_behind_arrow |= *word == "->";
+        if let Change::More(at, other) = change {
+            if place == at {
+                text.push_str(other)?;
+                text.push_str(" ")?;
+            }
+        }
         let word = match change {
             Change::Cut(count) if place >= count => "",
             Change::One(at, other) if place == at => other,

@@ -3,21 +3,45 @@
 use crate::faults::minority;
 use crate::given::given;
 use join_core::OutOfMemory;
-use mpx_eval::Complaint;
-use mpx_script::{Script, statement_lines};
+use mpx_eval::{Complaint, WaitingRank};
+use mpx_script::{Script, Statement, statement_lines};
 use std::alloc::Global;
 
 // More calls than these are not told.
 const MOST_CALLS: usize = 100;
 
 /// Adds a line for each of these calls, at most a hundred: `rank R, line L: TEXT`, and behind it what its statement gives, or who gives
-/// something else at a fault, where that can be told; `unheard` where the text stands in no transcript, as nobody has waited for it.
+/// something else at a fault, where that can be told.
 pub fn explain_calls(
     alloc: Global,
     text: &[u8],
     script: &Script,
     calls: &[Complaint],
-    unheard: bool,
+    told: &mut Vec<u8>,
+) -> Result<(), OutOfMemory> {
+    push_calls(alloc, text, script, calls, None, told)
+}
+
+/// The same of faults that stand in no transcript, as the requests of their calls are open where these ranks wait: behind each stands that
+/// its rank has not waited for it, or at which line it does, and for others.
+pub fn explain_unheard(
+    alloc: Global,
+    text: &[u8],
+    script: &Script,
+    calls: &[Complaint],
+    waiting: &[WaitingRank],
+    told: &mut Vec<u8>,
+) -> Result<(), OutOfMemory> {
+    push_calls(alloc, text, script, calls, Some(waiting), told)
+}
+
+// Adds the lines of these calls, be it that no transcript tells them where these ranks wait.
+fn push_calls(
+    alloc: Global,
+    text: &[u8],
+    script: &Script,
+    calls: &[Complaint],
+    waiting: Option<&[WaitingRank]>,
     told: &mut Vec<u8>,
 ) -> Result<(), OutOfMemory> {
     let mut rank = 0u8;
@@ -28,7 +52,11 @@ pub fn explain_calls(
             numbers = statement_lines(alloc, text, rank)?;
         }
         let line = numbers.get(call.statement).copied().unwrap_or(0);
-        push_call(alloc, script, line, call, calls, unheard, told)?;
+        push_call(alloc, script, line, call, calls, told)?;
+        if let Some(waiting) = waiting {
+            push_unheard(alloc, script, numbers.as_slice(), call, waiting, told)?;
+        }
+        told.push(b'\n')?;
     }
     if calls.len() > MOST_CALLS {
         let more = calls.len().saturating_sub(MOST_CALLS);
@@ -38,14 +66,13 @@ pub fn explain_calls(
     Ok(())
 }
 
-// Adds the line of a call that stands at a line.
+// Adds a call that stands at a line, up to the line's end.
 fn push_call(
     alloc: Global,
     script: &Script,
     line: u32,
     call: &Complaint,
     calls: &[Complaint],
-    unheard: bool,
     told: &mut Vec<u8>,
 ) -> Result<(), OutOfMemory> {
     let rank = call.rank;
@@ -56,11 +83,39 @@ fn push_call(
         told.extend_from_slice(b": ")?;
         told.extend_from_slice(more.as_bytes())?;
     }
-    if unheard {
-        told.extend_from_slice(b" (nobody waited for it)")?;
-    }
-    told.extend_from_slice(b"\n")?;
     Ok(())
+}
+
+// Adds that the rank of a call whose fault no line tells has not waited for it, or at which line it does.
+fn push_unheard(
+    alloc: Global,
+    script: &Script,
+    numbers: &[u32],
+    call: &Complaint,
+    waiting: &[WaitingRank],
+    told: &mut Vec<u8>,
+) -> Result<(), OutOfMemory> {
+    let rank = call.rank;
+    let text = match waits_at(script, call, waiting) {
+        Some(place) => {
+            let line = numbers.get(place).copied().unwrap_or(0);
+            format!(in alloc; " (line {line} waits for it, and for others)")?
+        }
+        None => format!(in alloc; " (rank {rank} has not waited for it)")?,
+    };
+    told.extend_from_slice(text.as_bytes())?;
+    Ok(())
+}
+
+// The place of the wait at which the call's rank is, where it is one for the call too.
+fn waits_at(script: &Script, call: &Complaint, waiting: &[WaitingRank]) -> Option<usize> {
+    let place = waiting.iter().find(|one| one.rank == call.rank)?.statement;
+    let statements = script.statements(call.rank);
+    let request = statements.get(call.statement)?.request()?;
+    match statements.get(place)? {
+        Statement::Wait(words) if words.as_slice().contains(request) => Some(place),
+        _ => None,
+    }
 }
 
 fn more_of(

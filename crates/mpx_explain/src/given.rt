@@ -1,11 +1,36 @@
 //! What a refused statement gives, in words.
 
+use crate::counts_given::{counts, too_many};
+use crate::making_given::{bad_edge, bad_group, bad_split, bad_tag, strange_rank, too_many_edges};
+use crate::naming::{operation_word, type_word};
+use crate::size::{counted, world_ranks};
 use join_core::OutOfMemory;
 use mpx_kind::{Call, Exchange, Neighbourhood, Reduction};
 use mpx_num::is_in_range;
 use mpx_post::Draft;
-use mpx_script::{Posting, Script, Statement};
+use mpx_script::{Posting, Question, Script, Statement};
 use std::alloc::Global;
+
+/// Which rank's statement was refused, on which communicator by its word, and as what.
+#[derive(Clone, Copy, Drop)]
+pub(crate) struct Place<'s> {
+    /// How many ranks there are.
+    pub(crate) ranks: u8,
+    pub(crate) rank: u8,
+    pub(crate) on: &'s [u8],
+    pub(crate) refusal: &'s [u8],
+}
+
+impl Place<'_> {
+    /// Whether the communicator is `world`, of which the ranks are known.
+    pub(crate) fn is_world(&self) -> bool {
+        self.on == b"world".as_slice()
+    }
+
+    fn is(&self, name: &str) -> bool {
+        self.refusal == name.as_bytes()
+    }
+}
 
 /// What a refused call gives, and what was expected, as far as its statement tells it: none where it doesn't.
 pub(crate) fn given(
@@ -15,57 +40,104 @@ pub(crate) fn given(
     statement: &Statement,
     refusal: &[u8],
 ) -> Result<Option<String>, OutOfMemory> {
-    match statement {
-        Statement::Post(Posting::Call { on, draft }) => {
-            of_draft(alloc, script, rank, on.as_bytes(), draft, refusal)
-        }
-        Statement::Post(Posting::Start { on, draft, .. }) => {
-            of_draft(alloc, script, rank, on.as_bytes(), draft, refusal)
-        }
-        Statement::Post(Posting::New { on, draft, .. }) => {
-            of_draft(alloc, script, rank, on.as_bytes(), draft, refusal)
-        }
-        Statement::Post(Posting::CreateGroup { .. }) => Ok(None),
-        Statement::Wait(_) => Ok(None),
-        Statement::Ask(_) => Ok(None),
+    let Some(on) = communicator_of(statement) else {
+        return Ok(None);
+    };
+    let at = Place {
+        ranks: script.ranks(),
+        rank,
+        on,
+        refusal,
+    };
+    match by_name(alloc, &at)? {
+        Some(told) => Ok(Some(told)),
+        None => of_statement(alloc, &at, statement),
     }
 }
 
-// The refusals that a statement tells more of, each by what it gives. (Names that are compared one by one: a match over so many texts is dear to
-// prove.)
-fn of_draft(
+// The word of the one communicator of a statement, or the first of a translation.
+fn communicator_of(statement: &Statement) -> Option<&[u8]> {
+    match statement {
+        Statement::Post(posting) => Some(posting.on().as_bytes()),
+        Statement::Ask(Question::Neighbours { on, .. }) => Some(on.as_bytes()),
+        Statement::Ask(Question::Translate { from, .. }) => Some(from.as_bytes()),
+        Statement::Ask(Question::Compare { .. }) => None,
+        Statement::Wait(_) => None,
+    }
+}
+
+fn of_statement(
     alloc: Global,
-    script: &Script,
-    rank: u8,
-    on: &[u8],
-    draft: &Draft,
-    refusal: &[u8],
+    at: &Place<'_>,
+    statement: &Statement,
 ) -> Result<Option<String>, OutOfMemory> {
-    if is(refusal, "refused RootOutOfRange") {
-        return root(alloc, script, on, draft);
+    match statement {
+        Statement::Post(Posting::Call { draft, .. }) => of_draft(alloc, at, draft),
+        Statement::Post(Posting::Start { draft, .. }) => of_draft(alloc, at, draft),
+        Statement::Post(Posting::New { draft, .. }) => of_new(alloc, at, draft),
+        Statement::Post(Posting::CreateGroup { tag, ranks, .. }) => {
+            if at.is("refused BadTag") {
+                return bad_tag(alloc, *tag);
+            }
+            if at.is("refused BadGroup") {
+                return bad_group(alloc, at, ranks.as_slice(), true);
+            }
+            Ok(None)
+        }
+        Statement::Ask(Question::Translate { ranks, .. }) => {
+            if at.is("refused RankOutOfRange") {
+                return strange_rank(alloc, at, ranks.as_slice());
+            }
+            Ok(None)
+        }
+        Statement::Ask(_) => Ok(None),
+        Statement::Wait(_) => Ok(None),
     }
-    if is(refusal, "refused ItemsLength") {
-        return items(alloc, rank, on, draft);
+}
+
+// The refusals that a call tells more of, each by what it gives. (Names that are compared one by one: a match over so many texts is dear to
+// prove.)
+fn of_draft(alloc: Global, at: &Place<'_>, draft: &Draft) -> Result<Option<String>, OutOfMemory> {
+    if at.is("refused RootOutOfRange") {
+        return root(alloc, at, draft);
     }
-    if is(refusal, "refused ItemOutOfRange") {
+    if at.is("refused OpNotForType") {
+        return operation(alloc, draft);
+    }
+    if at.is("refused ItemsLength") {
+        return items(alloc, at, draft);
+    }
+    if at.is("refused ItemOutOfRange") {
         return number(alloc, draft);
     }
-    if is(refusal, "refused CountsLength") {
-        return counts(alloc, script, on, draft);
+    if at.is("refused CountsLength") {
+        return counts(alloc, at, draft);
     }
-    if is(refusal, "refused TooManyItems") {
+    if at.is("refused TooManyItems") {
         return too_many(alloc, draft);
     }
-    by_name(alloc, refusal)
+    Ok(None)
 }
 
-fn is(refusal: &[u8], name: &str) -> bool {
-    refusal == name.as_bytes()
+// Those of a call that makes a communicator.
+fn of_new(alloc: Global, at: &Place<'_>, draft: &Draft) -> Result<Option<String>, OutOfMemory> {
+    if at.is("refused BadTag") {
+        return bad_split(alloc, draft);
+    }
+    if at.is("refused BadGroup") {
+        return bad_group(alloc, at, draft.group.as_slice(), false);
+    }
+    if at.is("refused BadEdge") {
+        return bad_edge(alloc, at, draft);
+    }
+    if at.is("refused TooManyEdges") {
+        return too_many_edges(alloc, draft);
+    }
+    Ok(None)
 }
 
 // Refusals whose name alone tells what is wrong, and what that is.
 const MEANINGS: [(&str, &str); 4] = [
-    ("refused OpNotForType", "the operation isn't for this type"),
     (
         "refused NoTopology",
         "the communicator has no topology: dist_graph and dist_graph_adjacent make one",
@@ -75,72 +147,63 @@ const MEANINGS: [(&str, &str); 4] = [
         "refused NotMember",
         "the communicator is null here: its call was refused or a fault, or left this rank out",
     ),
+    (
+        "refused DepthUsedUp",
+        "the communicator would be more than eight steps from world",
+    ),
 ];
 
 // What is wrong, where the refusal's name alone tells it.
-fn by_name(alloc: Global, refusal: &[u8]) -> Result<Option<String>, OutOfMemory> {
+fn by_name(alloc: Global, at: &Place<'_>) -> Result<Option<String>, OutOfMemory> {
     for (name, meaning) in MEANINGS {
-        if is(refusal, name) {
+        if at.is(name) {
             return Ok(Some(String::from_str(alloc, meaning)?));
         }
     }
     Ok(None)
 }
 
-fn too_many(alloc: Global, draft: &Draft) -> Result<Option<String>, OutOfMemory> {
-    let given = draft.items.as_slice().len();
-    Ok(Some(format!(in alloc;
-        "gave {given} numbers; at most 4096 items are taken, and counts from 0 to 4096"
-    )?))
+fn root(alloc: Global, at: &Place<'_>, draft: &Draft) -> Result<Option<String>, OutOfMemory> {
+    let root = draft.root;
+    if at.is_world() {
+        let ranks = world_ranks(alloc, at.ranks)?;
+        return Ok(Some(format!(in alloc; "root is {root}, {ranks}")?));
+    }
+    Ok(Some(format!(in alloc; "root is {root}, no rank of the communicator")?))
 }
 
-fn root(
-    alloc: Global,
-    script: &Script,
-    on: &[u8],
-    draft: &Draft,
-) -> Result<Option<String>, OutOfMemory> {
-    let root = draft.root;
-    if on == b"world".as_slice() {
-        let last = script.ranks().saturating_sub(1);
-        return Ok(Some(format!(in alloc; "root is {root}, world has ranks 0 to {last}")?));
-    }
-    Ok(Some(format!(in alloc; "root is {root}")?))
+fn operation(alloc: Global, draft: &Draft) -> Result<Option<String>, OutOfMemory> {
+    let (operation, ty) = (operation_word(draft.op), type_word(draft.ty));
+    Ok(Some(format!(in alloc; "{operation} isn't for {ty}")?))
 }
 
 // How many items are given, and how many are expected, where that is known.
-fn items(alloc: Global, rank: u8, on: &[u8], draft: &Draft) -> Result<Option<String>, OutOfMemory> {
+fn items(alloc: Global, at: &Place<'_>, draft: &Draft) -> Result<Option<String>, OutOfMemory> {
     let numbers = draft.items.as_slice().len();
     if draft.ty.item_len() == 2 && numbers % 2 == 1 {
-        let noun = if numbers == 1 { "number" } else { "numbers" };
-        return Ok(Some(format!(in alloc; "gave {numbers} {noun}, and two make an item")?));
+        let given = counted(alloc, numbers, "number")?;
+        return Ok(Some(format!(in alloc; "gave {given}, and two make an item")?));
     }
-    let given = numbers / draft.ty.item_len().max(1);
-    let noun = if given == 1 { "item" } else { "items" };
-    match expected(alloc, rank, on, draft)? {
-        Some(more) => Ok(Some(format!(in alloc; "gave {given} {noun}, {more}")?)),
-        None => Ok(Some(format!(in alloc; "gave {given} {noun}")?)),
+    let given = counted(alloc, numbers / draft.ty.item_len().max(1), "item")?;
+    match expected(alloc, at, draft)? {
+        Some(more) => Ok(Some(format!(in alloc; "gave {given}, {more}")?)),
+        None => Ok(Some(format!(in alloc; "gave {given}")?)),
     }
 }
 
 // How many items the call takes of this rank, by its counts.
-fn expected(
-    alloc: Global,
-    rank: u8,
-    on: &[u8],
-    draft: &Draft,
-) -> Result<Option<String>, OutOfMemory> {
+fn expected(alloc: Global, at: &Place<'_>, draft: &Draft) -> Result<Option<String>, OutOfMemory> {
     let sent = draft.scounts.as_slice();
     let received = draft.rcounts.as_slice();
     match draft.call {
         Call::Exchange(Exchange::Bcast, _) => {
-            of_root(alloc, rank, on, draft, count(alloc, "COUNT is", received)?)
+            of_root(alloc, at, draft, count(alloc, "COUNT is", received)?)
         }
         Call::Exchange(Exchange::Scatter, _) => {
             let each = count(alloc, "COUNT for each rank is", received)?;
-            of_root(alloc, rank, on, draft, each)
+            of_root(alloc, at, draft, each)
         }
-        Call::Exchange(Exchange::Scatterv, _) => of_root(alloc, rank, on, draft, sum(alloc, sent)?),
+        Call::Exchange(Exchange::Scatterv, _) => of_root(alloc, at, draft, sum(alloc, sent)?),
         Call::Exchange(Exchange::Alltoall, _) => count(alloc, "COUNT for each rank is", received),
         Call::Exchange(Exchange::Alltoallv, _) => sum(alloc, sent),
         Call::Reduction(Reduction::ReduceScatterBlock, _) => {
@@ -158,15 +221,14 @@ fn expected(
 // What is expected of the root alone: on `world` it is known who that is.
 fn of_root(
     alloc: Global,
-    rank: u8,
-    on: &[u8],
+    at: &Place<'_>,
     draft: &Draft,
     more: Option<String>,
 ) -> Result<Option<String>, OutOfMemory> {
-    if on != b"world".as_slice() {
+    if !at.is_world() {
         return Ok(None);
     }
-    if draft.root == i128::from(rank) {
+    if draft.root == i128::from(at.rank) {
         return Ok(more);
     }
     Ok(Some(String::from_str(alloc, "the root alone gives any")?))
@@ -191,35 +253,11 @@ fn sum(alloc: Global, counts: &[i128]) -> Result<Option<String>, OutOfMemory> {
 
 // The first number that is outside its type.
 fn number(alloc: Global, draft: &Draft) -> Result<Option<String>, OutOfMemory> {
+    let ty = type_word(draft.ty);
     for number in draft.items.as_slice() {
         if !is_in_range(draft.ty, *number) {
-            return Ok(Some(format!(in alloc; "{number} is outside the type")?));
+            return Ok(Some(format!(in alloc; "{number} is outside {ty}")?));
         }
     }
     Ok(None)
-}
-
-// How many counts are given, and how many ranks there are, one for each of which is wanted on `world`.
-fn counts(
-    alloc: Global,
-    script: &Script,
-    on: &[u8],
-    draft: &Draft,
-) -> Result<Option<String>, OutOfMemory> {
-    let sent = draft.scounts.as_slice().len();
-    let received = draft.rcounts.as_slice().len();
-    let mut text = if sent == 0 {
-        format!(in alloc; "gave {received} RCOUNTS")?
-    } else if received == 0 {
-        format!(in alloc; "gave {sent} SCOUNTS")?
-    } else {
-        format!(in alloc; "gave {sent} SCOUNTS and {received} RCOUNTS")?
-    };
-    let is_of_neighbours = matches!(draft.call, Call::Neighbourhood(..));
-    if on == b"world".as_slice() && !is_of_neighbours {
-        let ranks = script.ranks();
-        let more = format!(in alloc; ", world has {ranks} ranks")?;
-        text.push_str(more.as_str())?;
-    }
-    Ok(Some(text))
 }

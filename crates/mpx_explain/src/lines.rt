@@ -1,7 +1,7 @@
 //! The refused lines of a script.
 
 use crate::blame::{Blamed, word_to_blame};
-use crate::meant::meant;
+use crate::detail::{detail_of, is_shown};
 use join_core::OutOfMemory;
 use mpx_num::Ops;
 use mpx_script::{ReadScriptError, ScriptError, ScriptFault, read_script};
@@ -9,9 +9,6 @@ use std::alloc::Global;
 
 // More refused lines than these are not looked for.
 const MOST_LINES: usize = 10;
-
-// A word of more bytes than these is not shown.
-const MOST_LETTERS: usize = 64;
 
 // What a line that was left out was to bind: its label, and the word behind its arrow.
 #[derive(Drop)]
@@ -21,9 +18,10 @@ struct Unbound {
     name: Vec<u8>,
 }
 
-/// Adds a line for each refused line of a script, at most ten: its refusal, and the word that is to blame with the one that was
-/// meant, where these can be told. Each but the first is found by leaving out those before it, and isn't told where these would bind its name for
-/// all its ranks. The first, which the program tells anyway, is left out where no word that can be shown is to blame.
+/// Tells each refused line of a script, at most ten: a line with its refusal, and one behind it, two blanks to the right, with the word
+/// that is missing, one too many or wrong, and what was meant, where these can be told. The first refusal, which the program tells anyway,
+/// isn't told again. Each but the first is found by leaving out those before it, and isn't told where these would bind its name for all its
+/// ranks.
 pub fn explain_refusals(
     alloc: Global,
     text: &[u8],
@@ -33,24 +31,56 @@ pub fn explain_refusals(
     let mut rest = copied(alloc, text)?;
     let mut unbound = Vec::new(alloc);
     for nth in 0..MOST_LINES {
-        let Some(refusal) = refusal_of(alloc, &rest, ops)? else {
-            return Ok(());
-        };
-        if nth > 0 && ends_all(refusal.what) {
-            return Ok(());
+        match explain_refusal(alloc, &rest, nth, &mut unbound, ops, told) {
+            Ok(Some(behind)) => rest = behind,
+            Ok(None) => {
+                drop(unbound);
+                return Ok(());
+            }
+            Err(e) => {
+                drop(unbound);
+                return Err(e);
+            }
         }
-        let blamed = where_shown(word_to_blame(alloc, &rest, refusal, ops)?);
-        let is_told = nth == 0 && blamed.is_none();
-        if !is_told && !follows(alloc, &rest, refusal, blamed.as_ref(), &unbound, ops)? {
-            push_refused(alloc, refusal, blamed.as_ref(), told)?;
-        }
-        if ends_all(refusal.what) {
-            return Ok(());
-        }
-        push_unbound(alloc, &rest, refusal.line, &mut unbound, ops)?;
-        rest = with_line(alloc, &rest, refusal.line, b"")?;
     }
-    if refusal_of(alloc, &rest, ops)?.is_some() {
+    drop(unbound);
+    push_whether_more(alloc, &rest, ops, told)
+}
+
+// Tells a script's refusal, of which so many were left out before. It gives the text without the refused line; none where nothing more is
+// to be said.
+fn explain_refusal(
+    alloc: Global,
+    text: &[u8],
+    nth: usize,
+    unbound: &mut Vec<Unbound>,
+    ops: &Ops,
+    told: &mut Vec<u8>,
+) -> Result<Option<Vec<u8>>, OutOfMemory> {
+    let Some(refusal) = refusal_of(alloc, text, ops)? else {
+        return Ok(None);
+    };
+    if nth > 0 && ends_all(refusal.what) {
+        return Ok(None);
+    }
+    if !follows(alloc, text, refusal, unbound.as_slice(), ops)? {
+        push_refused(alloc, text, refusal, nth > 0, ops, told)?;
+    }
+    if ends_all(refusal.what) {
+        return Ok(None);
+    }
+    push_unbound(alloc, text, refusal.line, unbound, ops)?;
+    Ok(Some(with_line(alloc, text, refusal.line, b"")?))
+}
+
+// Adds that there is more, where the text is refused once more.
+fn push_whether_more(
+    alloc: Global,
+    text: &[u8],
+    ops: &Ops,
+    told: &mut Vec<u8>,
+) -> Result<(), OutOfMemory> {
+    if refusal_of(alloc, text, ops)?.is_some() {
         told.extend_from_slice(b"further lines aren't looked at\n")?;
     }
     Ok(())
@@ -73,32 +103,20 @@ fn ends_all(what: ScriptFault) -> bool {
     )
 }
 
-// The word, where it can be shown: one of few letters that are seen.
-fn where_shown(blamed: Option<Blamed>) -> Option<Blamed> {
-    let blamed = blamed?;
-    let word = blamed.word.as_bytes();
-    if word.len() > MOST_LETTERS || word.iter().any(|byte| *byte < 33 || *byte > 126) {
-        return None;
-    }
-    Some(blamed)
-}
-
 // Whether a line is refused only because lines that were left out would bind its name: with others that bind it for the same ranks, to a
 // communicator or to a request, it isn't.
 fn follows(
     alloc: Global,
     text: &[u8],
     refusal: ScriptError,
-    blamed: Option<&Blamed>,
     unbound: &[Unbound],
     ops: &Ops,
 ) -> Result<bool, OutOfMemory> {
-    let Some(blamed) = blamed else {
+    if refusal.what != ScriptFault::NameUnknown || unbound.is_empty() {
         return Ok(false);
-    };
-    let name = blamed.word.as_bytes();
-    let would_bind = unbound.iter().any(|one| one.name.as_slice() == name);
-    if refusal.what != ScriptFault::NameUnknown || !would_bind {
+    }
+    let blamed = word_to_blame(alloc, text, refusal, ops)?;
+    if !would_bind(unbound, blamed.as_ref()) {
         return Ok(false);
     }
     let bound = with_bound(alloc, text, unbound, TO_COMMUNICATORS)?;
@@ -107,6 +125,15 @@ fn follows(
     }
     let bound = with_bound(alloc, text, unbound, TO_REQUESTS)?;
     is_known(alloc, &bound, refusal.line, ops)
+}
+
+// Whether one of these would bind the word, which can be shown.
+fn would_bind(unbound: &[Unbound], blamed: Option<&Blamed>) -> bool {
+    let Some(blamed) = blamed else {
+        return false;
+    };
+    let name = blamed.word.as_bytes();
+    is_shown(name) && unbound.iter().any(|one| one.name.as_slice() == name)
 }
 
 // Statements that bind a name.
@@ -146,40 +173,22 @@ fn is_known(alloc: Global, text: &[u8], line: u32, ops: &Ops) -> Result<bool, Ou
     }
 }
 
-// Adds the line of a refused line.
+// Adds the line of a refused line, where it isn't told already, and what is told of it beside.
 fn push_refused(
     alloc: Global,
+    text: &[u8],
     refusal: ScriptError,
-    blamed: Option<&Blamed>,
+    with_refusal: bool,
+    ops: &Ops,
     told: &mut Vec<u8>,
 ) -> Result<(), OutOfMemory> {
-    let text = format!(in alloc; "{refusal}")?;
-    told.extend_from_slice(text.as_bytes())?;
-    if let Some(blamed) = blamed {
-        push_word(alloc, refusal.what, blamed, told)?;
+    if with_refusal {
+        let line = format!(in alloc; "{refusal}\n")?;
+        told.extend_from_slice(line.as_bytes())?;
     }
-    told.extend_from_slice(b"\n")?;
-    Ok(())
-}
-
-// Adds the word that is to blame, and the one that was meant, perhaps.
-fn push_word(
-    alloc: Global,
-    what: ScriptFault,
-    blamed: &Blamed,
-    told: &mut Vec<u8>,
-) -> Result<(), OutOfMemory> {
-    let word = blamed.word.as_str();
-    told.extend_from_slice(b": ")?;
-    told.extend_from_slice(word.as_bytes())?;
-    if what != ScriptFault::UnknownStatement {
-        return Ok(());
-    }
-    // (a line's second word is its statement)
-    if let Some(known) = meant(alloc, word, blamed.place == 2)? {
-        told.extend_from_slice(b"; ")?;
-        told.extend_from_slice(known.as_bytes())?;
-        told.extend_from_slice(b"?")?;
+    if let Some(detail) = detail_of(alloc, text, refusal, ops)? {
+        let line = format!(in alloc; "  {detail}\n")?;
+        told.extend_from_slice(line.as_bytes())?;
     }
     Ok(())
 }

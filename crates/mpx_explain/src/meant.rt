@@ -1,4 +1,4 @@
-//! The word of scripts that another one was meant to be, perhaps.
+//! The words of scripts that another one was meant to be, perhaps.
 
 use join_core::OutOfMemory;
 use std::alloc::Global;
@@ -44,14 +44,39 @@ const STATEMENTS: [&str; 13] = [
     "free",
 ];
 
-// MPI's names of calls that scripts call otherwise, without its prefixes and in small letters.
-const CALLS: [(&str, &str); 6] = [
+// MPI's names of calls that scripts call otherwise, without its prefixes and in small letters, and words of others.
+const CALLS: [(&str, &str); 7] = [
     ("dist_graph_create", "dist_graph"),
     ("dist_graph_create_adjacent", "dist_graph_adjacent"),
     ("dist_graph_neighbors", "sources"),
     ("group_translate_ranks", "translate"),
     ("alltoallw", "alltoallv"),
     ("neighbor_alltoallw", "neighbor_alltoallv"),
+    ("broadcast", "bcast"),
+];
+
+// Calls that scripts don't have, and why.
+const POINT_TO_POINT: &str = "scripts have no calls from point to point";
+
+const BY_TIME: &str = "scripts have no calls whose answers depend on time";
+
+const OTHERS: [(&str, &str); 16] = [
+    ("send", POINT_TO_POINT),
+    ("bsend", POINT_TO_POINT),
+    ("ssend", POINT_TO_POINT),
+    ("rsend", POINT_TO_POINT),
+    ("isend", POINT_TO_POINT),
+    ("recv", POINT_TO_POINT),
+    ("irecv", POINT_TO_POINT),
+    ("sendrecv", POINT_TO_POINT),
+    ("probe", POINT_TO_POINT),
+    ("iprobe", BY_TIME),
+    ("test", BY_TIME),
+    ("testall", BY_TIME),
+    ("testany", BY_TIME),
+    ("testsome", BY_TIME),
+    ("waitany", BY_TIME),
+    ("waitsome", BY_TIME),
 ];
 
 // Operations and types.
@@ -61,13 +86,26 @@ const VALUES: [&str; 21] = [
 ];
 
 // The types of programs, and those of scripts.
-const TYPES: [(&str, &str); 14] = [
+const TYPES: [(&str, &str); 27] = [
     ("int", "i32"),
+    ("signed", "i32"),
     ("long", "i64"),
+    ("long_long", "i64"),
+    ("long_long_int", "i64"),
     ("short", "i16"),
     ("unsigned", "u32"),
+    ("unsigned_char", "u8"),
+    ("unsigned_short", "u16"),
+    ("unsigned_long", "u64"),
+    ("unsigned_long_long", "u64"),
     ("byte", "u8"),
+    ("bool", "u8"),
+    ("c_bool", "u8"),
     ("char", "i8"),
+    ("signed_char", "i8"),
+    ("size", "u64"),
+    ("usize", "u64"),
+    ("isize", "i64"),
     ("int8", "i8"),
     ("int16", "i16"),
     ("int32", "i32"),
@@ -78,9 +116,21 @@ const TYPES: [(&str, &str); 14] = [
     ("uint64", "u64"),
 ];
 
-/// The word that this one was meant to be, perhaps: the same one in small letters and without MPI's prefixes, or one from which one
-/// letter more, less or other, or two letters in another order, tell it apart. A statement was meant by a word where one stands, and else
-/// an operation or a type.
+// How types with a point begin.
+const FLOATING: [&str; 8] = [
+    "f1",
+    "f3",
+    "f6",
+    "float",
+    "double",
+    "long_double",
+    "real",
+    "complex",
+];
+
+//// What a word was meant to be, perhaps, as a question or a sentence: the words that it is in small letters and without MPI's prefixes,
+/// or from which one letter more, less or other, or two letters in another order, tell it apart; or that scripts have no such word. A
+/// statement was meant by a word where one stands, and else an operation or a type.
 pub(crate) fn meant(
     alloc: Global,
     word: &str,
@@ -88,76 +138,104 @@ pub(crate) fn meant(
 ) -> Result<Option<String>, OutOfMemory> {
     let small = in_small_letters(alloc, word)?;
     let bare = without_prefix(small.as_str());
-    if is_statement && is_nonblocking(bare) {
-        return where_other(alloc, word, bare);
+    let mut told = String::new(alloc);
+    match lacking(bare, is_statement) {
+        Some(why) => told.push_str(why)?,
+        None => push_known(word, bare, is_statement, &mut told)?,
     }
-    let known = if is_statement {
-        statement_near(bare)
-    } else {
-        value_near(bare)
-    };
-    if let Some(known) = known {
-        return where_other(alloc, word, known);
-    }
-    match nonblocking_near(is_statement, bare) {
-        Some(known) => {
-            let found = format!(in alloc; "i{known}")?;
-            where_other(alloc, word, found.as_str())
-        }
-        None => Ok(None),
-    }
-}
-
-// The statement that a word without prefixes is, or is near.
-fn statement_near(word: &str) -> Option<&'static str> {
-    another(&CALLS, word)
-        .or(among(&BOTH, word))
-        .or(among(&STATEMENTS, word))
-}
-
-// The operation or type that a word without prefixes is, or is near.
-fn value_near(word: &str) -> Option<&'static str> {
-    if is_floating(word) {
-        return None;
-    }
-    let bare = word.strip_suffix("_t").unwrap_or(word);
-    another(&TYPES, bare).or(among(&VALUES, word))
-}
-
-// Whether a statement is the nonblocking form of a call.
-fn is_nonblocking(word: &str) -> bool {
-    match word.strip_prefix("i") {
-        Some(call) => BOTH.contains(&call),
-        None => false,
-    }
-}
-
-// The call whose nonblocking form a statement is near.
-fn nonblocking_near(is_statement: bool, word: &str) -> Option<&'static str> {
-    if !is_statement {
-        return None;
-    }
-    let call = word.strip_prefix("i")?;
-    match another(&CALLS, call) {
-        Some(known) if BOTH.contains(&known) => Some(known),
-        _ => among(&BOTH, call),
-    }
-}
-
-// The known word, where it isn't the word itself.
-fn where_other(alloc: Global, word: &str, known: &str) -> Result<Option<String>, OutOfMemory> {
-    if word == known {
+    if told.is_empty() {
         return Ok(None);
     }
-    Ok(Some(String::from_str(alloc, known)?))
+    Ok(Some(told))
 }
 
-// Whether the word is a floating type, of which scripts have none.
-fn is_floating(word: &str) -> bool {
-    word.starts_with("f1")
-        || word.starts_with("f3")
-        || word.starts_with("f6")
-        || word.starts_with("float")
+// Why scripts have nothing that a word without prefixes could be.
+fn lacking(bare: &str, is_statement: bool) -> Option<&'static str> {
+    if is_statement {
+        return another(&OTHERS, bare);
+    }
+    if FLOATING.iter().any(|start| bare.starts_with(*start)) {
+        return Some("scripts have whole numbers alone");
+    }
+    None
+}
+
+// Adds the known words that a word without prefixes is, or is near, as a question, unless they are the word itself.
+fn push_known(
+    word: &str,
+    bare: &str,
+    is_statement: bool,
+    told: &mut String,
+) -> Result<(), OutOfMemory> {
+    if is_statement {
+        push_statements(bare, told)?;
+    } else {
+        push_values(bare, told)?;
+    }
+    if told.as_str() == word {
+        told.clear();
+    }
+    if !told.is_empty() {
+        told.push_str("?")?;
+    }
+    Ok(())
+}
+
+// Adds the statements that a word is, or is near.
+fn push_statements(bare: &str, told: &mut String) -> Result<(), OutOfMemory> {
+    let blocking = bare.strip_prefix("i").unwrap_or("");
+    if BOTH.contains(&bare) || STATEMENTS.contains(&bare) || BOTH.contains(&blocking) {
+        return push_word("", bare, told);
+    }
+    if let Some(known) = another(&CALLS, bare) {
+        return push_word("", known, told);
+    }
+    if let Some(known) = another(&CALLS, blocking).filter(|known| BOTH.contains(known)) {
+        return push_word("i", known, told);
+    }
+    push_near("", &BOTH, bare, told)?;
+    push_near("", &STATEMENTS, bare, told)?;
+    push_near("i", &BOTH, blocking, told)?;
+    if is_near(bare.as_bytes(), b"broadcast") {
+        return push_word("", "bcast", told);
+    }
+    Ok(())
+}
+
+// Adds the operations and types that a word is, or is near.
+fn push_values(bare: &str, told: &mut String) -> Result<(), OutOfMemory> {
+    if VALUES.contains(&bare) {
+        return push_word("", bare, told);
+    }
+    if let Some(known) = another(&TYPES, bare.strip_suffix("_t").unwrap_or(bare)) {
+        return push_word("", known, told);
+    }
+    push_near("", &VALUES, bare, told)
+}
+
+// Adds those of these words that a word is near, with this prefix.
+fn push_near(
+    prefix: &str,
+    words: &[&'static str],
+    bare: &str,
+    told: &mut String,
+) -> Result<(), OutOfMemory> {
+    for known in words {
+        if is_near(bare.as_bytes(), known.as_bytes()) {
+            push_word(prefix, known, told)?;
+        }
+    }
+    Ok(())
+}
+
+// Adds a word with this prefix, behind others.
+fn push_word(prefix: &str, word: &str, told: &mut String) -> Result<(), OutOfMemory> {
+    if !told.is_empty() {
+        told.push_str(" or ")?;
+    }
+    told.push_str(prefix)?;
+    told.push_str(word)?;
+    Ok(())
 }
 
 fn in_small_letters(alloc: Global, word: &str) -> Result<String, OutOfMemory> {
@@ -181,20 +259,6 @@ fn another(pairs: &[(&str, &'static str)], word: &str) -> Option<&'static str> {
         }
     }
     None
-}
-
-// The word itself, where it is among these, else one that is near.
-fn among(words: &[&'static str], word: &str) -> Option<&'static str> {
-    let mut found = None;
-    for known in words {
-        if *known == word {
-            return Some(known);
-        }
-        if found.is_none() && is_near(word.as_bytes(), known.as_bytes()) {
-            found = Some(*known);
-        }
-    }
-    found
 }
 
 // Whether one letter more, less or other tells the words apart, or two letters beside each other in another order.

@@ -1,17 +1,23 @@
 -- What a call does with the text that a reader gives.
-use Rattle.std.proofs.Common.{◌≡◌, ℕ, Bool, false, List, Option, Some, None, Result, Ok, Err, refl, subst}
+use Rattle.std.proofs.Common.{◌≡◌, ℕ, Bool, false, List, Option, Some, None, Result, Ok, Err, refl, subst, sym}
+use Rattle.std.specs.Prelude.{◌≢◌}
 use Rattle.std.specs.Io.KnownBytes.{Keeps}
 use Rattle.mpx_num.specs.declared.own.Operation.{Operation}
 use Rattle.mpx_threads.specs.Gates.{nowhere}
-use Rattle.mpx_run.specs.Texts.{Prints, TakesInput}
+use Rattle.mpx_statement.specs.declared.job.Job.{Job}
+use Rattle.mpx_script.specs.Reading.{reading}
+use Rattle.mpx_script.specs.ScriptView.{ScriptView}
+use Rattle.mpx_run.specs.Texts.{ComesTo, IsRefusedFor, IsWritten, Prints, PrintsUngated, RunsUngated, TakesInput, TakesPart, told}
+use Rattle.mpx_run.specs.declared.streams.ReadFault.{ReadFault}
+use Rattle.mpx_run.specs.declared.streams.ReadFault.TheVariants as F
 use Rattle.mpx_run.specs.declared.end.End.{End}
 use Rattle.mpx_run.specs.declared.texts.RunError.{RunError}
-use Rattle.mpx_run.specs.declared.texts.RunError.TheVariants.{Memory}
+use Rattle.mpx_run.specs.declared.texts.RunError.TheVariants.{GateGaveUp}
 use Rattle.mpx_run.specs.Founded.{IsFounded}
 use Rattle.mpx_run.specs.Reports.{IsPrinted}
 use Rattle.mpx_run.proofs.Less.{runs_printed}
-use Rattle.mpx_run.proofs.Pieces.{prints_ungated, runs_ungated}
-use Rattle.mpx_program.specs.Jobs.{AnswersText, DoesJobWith, Exits, StrictBy, StrictOn}
+use Rattle.mpx_run.proofs.Pieces.{gated_prints, prints_ungated, refused_prints, runs_ungated, written_prints}
+use Rattle.mpx_program.specs.Jobs.{AnswersText, DoesJobWith, Exits, FailsBefore, StrictBy, StrictOn}
 use Rattle.mpx_program.specs.Strict.{IsStrict}
 use Rattle.mpx_words.specs.declared.invocation.Invocation.{Invocation}
 
@@ -19,18 +25,52 @@ kept : (o : Option (List ℕ)) → Keeps o o
 kept None = tt
 kept (Some xs) = refl
 
--- without memory nothing is done
-pub starved : (ops : List Operation) (call : Invocation) (text : List ℕ) (old : Option (List ℕ)) (more : List ℕ) (code : ℕ) (Says : List ℕ → Type 0) → Exits (Err Memory) false call.flags.explain more code Says
-    → AnswersText IsFounded ops call text old old code Says
-starved ops call text old more code Says exits = record {
-  answer = Err Memory;
-  prints = kept old;
-  ungated = λ e. cc e;
+-- a reader that fails gives no script
+pub fails_unread : (ops : List Operation) (job : Job) (there left : Option (List ℕ)) (fault : ReadFault) (why : RunError) → TakesPart there left → why ≡ told fault → FailsBefore ops job there left why
+fails_unread ops job there left F.OutOfMemory why part is old = subst (λ e. RunsUngated IsFounded ops job there left old old (Err e)) (sym is) (part, kept old)
+fails_unread ops job there left F.Reader why part is old = subst (λ e. RunsUngated IsFounded ops job there left old old (Err e)) (sym is) (part, kept old)
+
+-- and so does a text that gives none
+pub fails_text : (ops : List Operation) (job : Job) (there left : Option (List ℕ)) (text now : List ℕ) (why : RunError) → TakesInput there left text → now ≡ text → ((old : Option (List ℕ)) → PrintsUngated IsFounded ops job now old old (Err why)) → FailsBefore ops job there left why
+fails_text ops job there left text now why taken same fails old = runs_ungated IsFounded ops job there left old old text (Err why) taken (subst (λ xs. PrintsUngated IsFounded ops job xs old old (Err why)) same (fails old))
+
+-- then nothing is done
+pub does_nothing : (ops : List Operation) (call : Invocation) (there left old : Option (List ℕ)) (why : RunError) (more : List ℕ) (code : ℕ) (Says : List ℕ → Type 0) → FailsBefore ops call.job there left why → Exits (Err why) false call.flags.explain more code Says → DoesJobWith IsFounded ops call there left old old code Says
+does_nothing ops call there left old why more code Says fails exits = record {
+  answer = Err why;
+  runs = fails old;
   complains = false;
   strict = tt;
   more = more;
   exits = exits;
 }
+
+-- what is answered is what is written of a script
+module _ (ops : List Operation) (call : Invocation) (text : List ℕ) (script : ScriptView) (complains : Bool) (read : reading ops text ≡ Ok script) (strict : IsStrict ops call text complains) (old new : Option (List ℕ)) (more : List ℕ) (code : ℕ) (Says : List ℕ → Type 0) where
+  strict_on : (answer : Result End RunError) → StrictOn ops call text answer complains
+  strict_on (Ok end) = strict
+  strict_on (Err error) = tt
+
+  is_ungated : (answer : Result End RunError) → PrintsUngated IsFounded ops call.job text old new answer → answer ≢ Err GateGaveUp
+  is_ungated (Ok end) p = λ e. cc e
+  is_ungated (Err error) p = λ e. subst (λ a. PrintsUngated IsFounded ops call.job text old new a) e p
+
+  answers : (answer : Result End RunError) → PrintsUngated IsFounded ops call.job text old new answer → Exits answer complains call.flags.explain more code Says → AnswersText IsFounded ops call text old new code Says
+  answers answer prints exits = record {
+    answer = answer;
+    prints = gated_prints IsFounded ops nowhere call.job text old new answer prints;
+    ungated = is_ungated answer prints;
+    complains = complains;
+    strict = strict_on answer;
+    more = more;
+    exits = exits;
+  }
+
+  pub answers_written : (out : List ℕ) (end : End) (answer : Result End RunError) → ComesTo IsFounded ops call.job.command call.job.options script end out → IsWritten old new out end answer → Exits answer complains call.flags.explain more code Says → AnswersText IsFounded ops call text old new code Says
+  answers_written out end answer comes written = answers answer (written_prints IsFounded ops call.job text script old new out end answer read comes written)
+
+  pub answers_refused : (why : RunError) → new ≡ old → IsRefusedFor call.job script why → Exits (Err why) complains call.flags.explain more code Says → AnswersText IsFounded ops call text old new code Says
+  answers_refused why same refused = answers (Err why) (subst (λ n. PrintsUngated IsFounded ops call.job text old n (Err why)) (sym same) (refused_prints IsFounded ops call.job text script old why read refused))
 
 -- what is done with a text is done with what the reader gives
 pub does_text : (ops : List Operation) (call : Invocation) (there left old new : Option (List ℕ)) (text now : List ℕ) (code : ℕ) (Says : List ℕ → Type 0) → TakesInput there left text → now ≡ text → AnswersText IsFounded ops call now old new code Says

@@ -1,13 +1,19 @@
 -- What a call of the program does.
-use Rattle.std.specs.Prelude.{◌≡◌, ◌≢◌, ◌⊎◌, ℕ, Bool, List, ◌++◌, [], ◌∷◌, Option, Some, None, Result, Ok, Err, codes}
+use Rattle.std.specs.Prelude.{◌≡◌, ◌≢◌, ◌⊎◌, ℕ, Bool, false, take, List, ◌++◌, [], ◌∷◌, Option, Some, None, Result, Ok, Err, codes}
+use Rattle.std.specs.Io.KnownBytes.{Appends}
 use Rattle.clap.specs.Faults.{fault_of}
 use Rattle.clap.specs.Kinds.{IsAmong, or_else}
 use Rattle.clap.specs.declared.error.kind.ErrorKind.{ErrorKind}
 use Rattle.clap.specs.declared.error.kind.ErrorKind.TheVariants as kind
 use Rattle.mpx_num.specs.declared.own.Operation.{Operation}
 use Rattle.mpx_threads.specs.Gates.{nowhere}
-use Rattle.mpx_run.specs.Texts.{OfRuns, Prints, RunsUngated, TakesInput}
+use Rattle.mpx_statement.specs.declared.job.Job.{Job}
+use Rattle.mpx_script.specs.Reading.{reading}
+use Rattle.mpx_script.specs.ScriptView.{ScriptView}
+use Rattle.mpx_run.specs.Founded.{IsFounded}
+use Rattle.mpx_run.specs.Texts.{OfRuns, Prints, RunsUngated, TakesInput, is_in_threads}
 use Rattle.mpx_run.specs.declared.end.End.{End}
+use Rattle.mpx_run.specs.declared.streams.WriteFault.{WriteFault}
 use Rattle.mpx_run.specs.declared.texts.RunError.{RunError}
 use Rattle.mpx_run.specs.declared.texts.RunError.TheVariants.{GateGaveUp}
 use Rattle.mpx_program.specs.Status.{advice, explanation, message, refusal_status, status}
@@ -15,6 +21,11 @@ use Rattle.mpx_program.specs.Strict.{IsStrict}
 use Rattle.mpx_words.specs.Usage.{usage}
 use Rattle.mpx_words.specs.Words.{invocation_in}
 use Rattle.mpx_words.specs.declared.invocation.Invocation.{Invocation}
+
+-- what is said is out; where the writer fails, a beginning of it
+abbrev pub Tells : (old new : Option (List ℕ)) (told : Result (Unit {0}) WriteFault) (said : List ℕ) → Type 0
+Tells old new (Ok done) said = Appends old new said
+Tells old new (Err fault) said = (n : ℕ) × Appends old new (take n said)
 
 -- a job with this answer, whose script has calls to complain of or not, gives the status and what is said
 pub record Exits (answer : Result End RunError) (complains explains : Bool) (more : List ℕ) (code : ℕ) (Says : List ℕ → Type 0) : Type 0 where
@@ -40,6 +51,16 @@ pub record AnswersText (Is : OfRuns) (ops : List Operation) (call : Invocation) 
 abbrev pub StrictBy : List Operation → Invocation → (there left : Option (List ℕ)) → Result End RunError → (complains : Bool) → Type 0
 StrictBy ops call there left (Ok end) complains = (text : List ℕ) × TakesInput there left text × IsStrict ops call text complains
 StrictBy ops call there left (Err error) complains = Unit {0}
+
+-- a reader gives a text that is read as this script, and whether it has calls to complain of is as `--strict` asks
+pub record IsPrepared (ops : List Operation) (call : Invocation) (there left : Option (List ℕ)) (text : List ℕ) (script : ScriptView) (complains : Bool) : Type 0 where
+  pub input : TakesInput there left text
+  pub read : reading ops text ≡ Ok script
+  pub strict : IsStrict ops call text complains
+
+-- a job has no script for this reason, and nothing is written
+abbrev pub FailsBefore : (ops : List Operation) (job : Job) (there left : Option (List ℕ)) (why : RunError) → Type 0
+FailsBefore ops job there left why = (old : Option (List ℕ)) → RunsUngated IsFounded ops job there left old old (Err why)
 
 -- a call's job is done with a script by the job's own operations, no gate ends it, and its answer gives the status and what is said. What is asked for
 -- beside the job changes nothing of what is printed: by `--strict` the status is 6 where it is 0 or 3 else and the script has calls to complain of, and the
@@ -75,3 +96,11 @@ pub record DoesWords (Is : OfRuns) (ops : List Operation) (words : List (List �
 -- the words ask for a job, or are refused
 abbrev pub DoesJob : (Is : OfRuns) (ops : List Operation) (words : List (List ℕ)) (there left old new : Option (List ℕ)) (code : ℕ) (Says : List ℕ → Type 0) → Type 0
 DoesJob Is ops words there left old new code Says = DoesWords Is ops words there left old new code Says ⊎ RefusesWords words there left old new code Says
+
+-- whether the words ask for a run in threads, the only call that may wait
+abbrev pub is_for_threads : Option Invocation → Bool
+is_for_threads (Some call) = is_in_threads call.job
+is_for_threads None = false
+
+abbrev pub ask_for_threads : List (List ℕ) → Bool
+ask_for_threads words = is_for_threads (invocation_in words)

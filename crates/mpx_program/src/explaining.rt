@@ -1,57 +1,174 @@
 //! What `--explain` tells beside why a run ended.
 ghost use Rattle.std.specs.Prelude.{◌≡◌, [], false};
 
+use crate::found::Found;
+use crate::prepared::Prepared;
 use join_core::OutOfMemory;
-use mpx_eval::{certain_refusals, examine};
-use mpx_explain::{explain_calls, explain_refusals, explain_results};
+use mpx_eval::Findings;
+use mpx_explain::{
+    explain_calls, explain_refusals, explain_results, explain_served, explain_unheard, run_end,
+};
 use mpx_num::Ops;
-use mpx_run::Command;
-use mpx_script::{ReadScriptError, Script, read_script};
+use mpx_run::{Cause, End, Printed};
 use mpx_waiting::push_waiting;
 use mpx_words::Invocation;
 use std::alloc::Global;
 
-/// Further lines, where `--explain` is asked for: of a refused script its refused lines, else for whose posts ranks wait, calls that are
-/// refused or are faults, and results that are past their types. Where memory is wanting, fewer lines.
-pub(crate) fn explained(alloc: Global, call: &Invocation, text: &[u8], ops: &Ops) -> Vec<u8>
+/// Further lines, where `--explain` is asked for and the job came to an end: for whose posts ranks wait, calls that are refused or are faults,
+/// and results that are past their types. Where a run ended early, these lines are of the evaluation and stand behind a heading that says so;
+/// before it stands where ranks wait in this run, and whose posts they lack. Where memory is wanting, fewer lines.
+pub(crate) fn explained(
+    alloc: Global,
+    call: &Invocation,
+    prepared: &Prepared,
+    printed: Option<&Printed>,
+) -> Vec<u8>
     ensures { call.now.flags.explain ≡ false → result.items ≡ [] }
 {
     let mut told = Vec::new(alloc);
     if call.flags.explain {
-        let _ = push_explained(alloc, call.job.command, text, ops, &mut told);
+        if let Some(printed) = printed {
+            let _ = push_found(alloc, prepared, printed, &mut told);
+        }
     }
     told
 }
 
-fn push_explained(
+/// The same of a script that is refused: its refused lines.
+pub(crate) fn explained_refusals(
     alloc: Global,
-    command: Command,
+    call: &Invocation,
     text: &[u8],
     ops: &Ops,
+) -> Vec<u8>
+    ensures { call.now.flags.explain ≡ false → result.items ≡ [] }
+{
+    let mut told = Vec::new(alloc);
+    if call.flags.explain {
+        let _ = explain_refusals(alloc, text, ops, &mut told);
+    }
+    told
+}
+
+fn push_found(
+    alloc: Global,
+    prepared: &Prepared,
+    printed: &Printed,
     told: &mut Vec<u8>,
 ) -> Result<(), OutOfMemory> {
-    match read_script(alloc, text, ops) {
-        Ok(script) => push_calls(alloc, command, text, &script, ops, told),
-        Err(ReadScriptError::Refused(_)) => explain_refusals(alloc, text, ops, told),
-        Err(ReadScriptError::OutOfMemory) => Err(OutOfMemory),
+    let (text, script) = (prepared.text.as_slice(), &prepared.script);
+    match &prepared.found {
+        Found::Nothing => Ok(()),
+        Found::Certain(found) => explain_calls(alloc, text, script, found, told),
+        Found::InEvaluation(found) => match &printed.end {
+            End::Waiting(ranks, Cause::TurnsUsedUp(_) | Cause::AllLost | Cause::Unknown) => {
+                push_early(alloc, prepared, printed, ranks, found, told)
+            }
+            End::Waiting(_, Cause::InEveryRun) => push_evaluation(alloc, prepared, found, told),
+            End::Finished => push_evaluation(alloc, prepared, found, told),
+        },
     }
 }
 
-fn push_calls(
+// The lines of a run that ended early, and behind a heading those of the evaluation. Where ranks wait in the evaluation isn't told twice.
+fn push_early(
     alloc: Global,
-    command: Command,
-    text: &[u8],
-    script: &Script,
-    ops: &Ops,
+    prepared: &Prepared,
+    printed: &Printed,
+    ranks: &[u8],
+    found: &Findings,
     told: &mut Vec<u8>,
 ) -> Result<(), OutOfMemory> {
-    if command == Command::Check {
-        let found = certain_refusals(alloc, script, ops)?;
-        return explain_calls(alloc, text, script, &found, false, told);
+    let mut here = Vec::new(alloc);
+    push_run_end(alloc, prepared, printed, ranks, found, &mut here)?;
+    told.extend_from_slice(&here)?;
+    let mut there = Vec::new(alloc);
+    push_waits(alloc, prepared, found, &mut there)?;
+    let mut calls = Vec::new(alloc);
+    push_calls(alloc, prepared, found, &mut calls)?;
+    push_behind(here.as_slice(), there.as_slice(), calls.as_slice(), told)
+}
+
+// Adds what is of the evaluation, of whose waits the text is there, and here that of the run's.
+fn push_behind(
+    here: &[u8],
+    there: &[u8],
+    calls: &[u8],
+    told: &mut Vec<u8>,
+) -> Result<(), OutOfMemory> {
+    if !there.is_empty() && here == there {
+        told.extend_from_slice(b"in the evaluation these ranks wait there too\n")?;
+    } else if !there.is_empty() {
+        told.extend_from_slice(b"in the evaluation ranks wait here:\n")?;
+        told.extend_from_slice(there)?;
     }
-    let found = examine(alloc, script, ops)?;
-    push_waiting(alloc, text, script, found.waiting.as_slice(), told)?;
-    explain_calls(alloc, text, script, &found.complaints, false, told)?;
-    explain_calls(alloc, text, script, &found.unheard, true, told)?;
-    explain_results(alloc, text, script, &found, told)
+    if !calls.is_empty() {
+        told.extend_from_slice(b"in the evaluation:\n")?;
+        told.extend_from_slice(calls)?;
+    }
+    Ok(())
+}
+
+// Where these ranks wait in a run.
+fn push_run_end(
+    alloc: Global,
+    prepared: &Prepared,
+    printed: &Printed,
+    ranks: &[u8],
+    found: &Findings,
+    told: &mut Vec<u8>,
+) -> Result<(), OutOfMemory> {
+    let (text, script) = (prepared.text.as_slice(), &prepared.script);
+    let mut nodes = Vec::new(alloc);
+    for rank in 0..script.ranks() {
+        if let Some(node) = printed.held.node(usize::from(rank)) {
+            nodes.push(node)?;
+        }
+    }
+    let lines = printed.transcripts.as_slice();
+    let end = run_end(alloc, script, &found.complaints, ranks, lines, &nodes)?;
+    push_waiting(alloc, text, script, end.waiting.as_slice(), told)?;
+    explain_served(alloc, text, end.served.as_slice(), told)
+}
+
+// What is found in the evaluation.
+fn push_evaluation(
+    alloc: Global,
+    prepared: &Prepared,
+    found: &Findings,
+    told: &mut Vec<u8>,
+) -> Result<(), OutOfMemory> {
+    push_waits(alloc, prepared, found, told)?;
+    push_calls(alloc, prepared, found, told)
+}
+
+// Who waits in the evaluation.
+fn push_waits(
+    alloc: Global,
+    prepared: &Prepared,
+    found: &Findings,
+    told: &mut Vec<u8>,
+) -> Result<(), OutOfMemory> {
+    let text = prepared.text.as_slice();
+    push_waiting(
+        alloc,
+        text,
+        &prepared.script,
+        found.waiting.as_slice(),
+        told,
+    )
+}
+
+// Which calls are refused or are faults there, and which results are past their types.
+fn push_calls(
+    alloc: Global,
+    prepared: &Prepared,
+    found: &Findings,
+    told: &mut Vec<u8>,
+) -> Result<(), OutOfMemory> {
+    let (text, script) = (prepared.text.as_slice(), &prepared.script);
+    let waiting = found.waiting.as_slice();
+    explain_calls(alloc, text, script, &found.complaints, told)?;
+    explain_unheard(alloc, text, script, &found.unheard, waiting, told)?;
+    explain_results(alloc, text, script, found, told)
 }

@@ -1,19 +1,23 @@
 //! What the program does with the words of a call, over any streams.
-ghost use Rattle.std.specs.Prelude.{OnOk, map, string_bytes};
-ghost use Rattle.std.specs.Io.KnownBytes.{Appends};
+ghost use Rattle.std.specs.Prelude.{◌≡◌, IfErr, IfOk, Ok, false, map, string_bytes, true};
 ghost use Rattle.clap.specs.Words.{kind_of};
+ghost use Rattle.mpx_script.specs.Reading.{reading};
 ghost use Rattle.mpx_run.specs.Founded.{IsFounded};
 ghost use Rattle.mpx_run.specs.Reports.{IsPrinted};
-ghost use Rattle.mpx_program.specs.Jobs.{AnswersText, DoesJob, DoesJobWith, Exits, IsRefused};
+ghost use Rattle.mpx_run.specs.Texts.{ComesTo, IsRefusedFor, is_in_threads};
+ghost use Rattle.mpx_program.specs.Jobs.{AnswersText, DoesJob, DoesJobWith, Exits, IsRefused, Tells, ask_for_threads};
+ghost use Rattle.mpx_program.specs.Strict.{IsStrict};
 
 use crate::explaining::explained;
+use crate::prepared::{Prepared, prepared};
 use crate::status::{refusal_status, status_of, write_refusal, write_said};
-use crate::strict::complains;
 use mpx_num::{Listing, Ops};
-use mpx_run::{End, Observer, OpenGate, RunError, Unobserved, read_bytes, run_bytes_observed};
-use mpx_words::{Invocation, call_of};
+use mpx_run::{
+    End, Observer, OpenGate, Printed, RunError, WriteFault, is_in_threads, print_job,
+    print_job_in_threads, write_printed,
+};
+use mpx_words::{Invocation, call_of, invocation_in};
 use std::alloc::Global;
-use std::io;
 use std::io::{Read, Write};
 use std::sync::Wait;
 use std::thread::Threads;
@@ -22,35 +26,28 @@ use std::thread::Threads;
 #[derive(Drop)]
 pub struct Exit {
     pub status: u8,
-    /// Whether the message is out on the standard error.
-    pub told: io::Result<()>,
+    /// Whether the message is out on the standard error; where that failed, a beginning of it is.
+    pub told: Result<(), WriteFault>,
 }
 
-/// Does the job that the words ask for: reads the script from `reader`, writes what it comes to to `out`, and tells `err`
-/// what is to be said. Where the words ask for none, `err` is told why, and nothing is read or written besides.
-///
-/// Who asks what is printed, and with which status, reads `prints` alone. On which nodes or ports a run stands, and how many turns were
-/// made by the seed and the loss, says `founded`.
-pub fn run_job<T: Threads + Wait + Sync, R: Read, W: Write, E: Write>(
-    rt: &T,
-    alloc: Global,
-    words: &[String],
-    reader: &mut R,
-    out: &mut W,
-    err: &mut E,
-    ops: &Ops,
-) -> Exit
-    ensures prints { DoesJob IsPrinted (⟦<Ops as Listing>⟧.operations ops.now) (map string_bytes words.now) (R.remaining reader.old) (R.remaining reader.new) (W.contents out.old) (W.contents out.new)
-        result.status (λ said. OnOk result.told (Appends (E.contents err.old) (E.contents err.new) said)) }
-    ensures founded { DoesJob IsFounded (⟦<Ops as Listing>⟧.operations ops.now) (map string_bytes words.now) (R.remaining reader.old) (R.remaining reader.new) (W.contents out.old) (W.contents out.new)
-        result.status (λ said. OnOk result.told (Appends (E.contents err.old) (E.contents err.new) said)) }
+/// Whether the words ask for a run in threads. Every other call waits for nobody: who has such words calls [`run_job_in_threads`], and with
+/// all others [`run_job`].
+pub fn ask_for_threads(words: &[String]) -> bool
+    ensures { result ≡ ask_for_threads (map string_bytes words.now) }
 {
-    run_job_observed(rt, alloc, words, reader, out, err, &mut Unobserved, ops)
+    match invocation_in(words) {
+        Some(call) => is_in_threads(&call.job),
+        None => false,
+    }
 }
 
-/// Does the job that the words ask for, as [`run_job`] does; where they ask for a run, `observer` looks on. It is the caller who
-/// shows a run as it goes, where the words ask for that.
-pub fn run_job_observed<T: Threads + Wait + Sync, R: Read, W: Write, E: Write>(
+/// Does the job that the words ask for: reads the script from `reader`, once, writes what it comes to to `out`, and tells `err`
+/// what is to be said. Where the words ask for none, `err` is told why, and nothing is read or written besides. Where they ask for a run,
+/// `observer` looks on: it is the caller who shows a run as it goes. It waits for nobody, so it is proved to return.
+///
+/// Who asks what is printed, and with which status, reads `prints` alone. On which nodes a run stands, and how many turns were
+/// made by the seed and the loss, says `founded`.
+pub fn run_job<T: Threads + Sync, R: Read, W: Write, E: Write>(
     rt: &T,
     alloc: Global,
     words: &[String],
@@ -60,10 +57,9 @@ pub fn run_job_observed<T: Threads + Wait + Sync, R: Read, W: Write, E: Write>(
     observer: &mut dyn Observer,
     ops: &Ops,
 ) -> Exit
-    ensures prints { DoesJob IsPrinted (⟦<Ops as Listing>⟧.operations ops.now) (map string_bytes words.now) (R.remaining reader.old) (R.remaining reader.new) (W.contents out.old) (W.contents out.new)
-        result.status (λ said. OnOk result.told (Appends (E.contents err.old) (E.contents err.new) said)) }
-    ensures founded { DoesJob IsFounded (⟦<Ops as Listing>⟧.operations ops.now) (map string_bytes words.now) (R.remaining reader.old) (R.remaining reader.new) (W.contents out.old) (W.contents out.new)
-        result.status (λ said. OnOk result.told (Appends (E.contents err.old) (E.contents err.new) said)) }
+    requires alone { ask_for_threads (map string_bytes words.now) ≡ false }
+    ensures prints { DoesJob IsPrinted (⟦<Ops as Listing>⟧.operations ops.now) (map string_bytes words.now) (R.remaining reader.old) (R.remaining reader.new) (W.contents out.old) (W.contents out.new) result.status (Tells (E.contents err.old) (E.contents err.new) result.told) }
+    ensures founded { DoesJob IsFounded (⟦<Ops as Listing>⟧.operations ops.now) (map string_bytes words.now) (R.remaining reader.old) (R.remaining reader.new) (W.contents out.old) (W.contents out.new) result.status (Tells (E.contents err.old) (E.contents err.new) result.told) }
 {
     match call_of(alloc, words) {
         Ok(call) => do_call(rt, alloc, &call, reader, out, err, observer, ops),
@@ -71,9 +67,30 @@ pub fn run_job_observed<T: Threads + Wait + Sync, R: Read, W: Write, E: Write>(
     }
 }
 
+/// The same of words that ask for a run in threads, which may wait for them. On which ports it stands says `founded`.
+pub fn run_job_in_threads<T: Threads + Wait + Sync, R: Read, W: Write, E: Write>(
+    rt: &T,
+    alloc: Global,
+    words: &[String],
+    reader: &mut R,
+    out: &mut W,
+    err: &mut E,
+    observer: &mut dyn Observer,
+    ops: &Ops,
+) -> Exit
+    requires threads { ask_for_threads (map string_bytes words.now) ≡ true }
+    ensures prints { DoesJob IsPrinted (⟦<Ops as Listing>⟧.operations ops.now) (map string_bytes words.now) (R.remaining reader.old) (R.remaining reader.new) (W.contents out.old) (W.contents out.new) result.status (Tells (E.contents err.old) (E.contents err.new) result.told) }
+    ensures founded { DoesJob IsFounded (⟦<Ops as Listing>⟧.operations ops.now) (map string_bytes words.now) (R.remaining reader.old) (R.remaining reader.new) (W.contents out.old) (W.contents out.new) result.status (Tells (E.contents err.old) (E.contents err.new) result.told) }
+{
+    match call_of(alloc, words) {
+        Ok(call) => do_call_in_threads(rt, alloc, &call, reader, out, err, observer, ops),
+        Err(refusal) => refuse(&refusal, err),
+    }
+}
+
 /// Tells why the words ask for no job.
 pub fn refuse<E: Write>(refusal: &clap::Error, err: &mut E) -> Exit
-    ensures { IsRefused (kind_of refusal.now) result.status (λ said. OnOk result.told (Appends (E.contents err.old) (E.contents err.new) said)) }
+    ensures { IsRefused (kind_of refusal.now) result.status (Tells (E.contents err.old) (E.contents err.new) result.told) }
 {
     Exit {
         status: refusal_status(refusal),
@@ -82,7 +99,7 @@ pub fn refuse<E: Write>(refusal: &clap::Error, err: &mut E) -> Exit
 }
 
 // Does what a call asks for.
-fn do_call<T: Threads + Wait + Sync, R: Read, W: Write, E: Write>(
+fn do_call<T: Threads + Sync, R: Read, W: Write, E: Write>(
     rt: &T,
     alloc: Global,
     call: &Invocation,
@@ -92,41 +109,87 @@ fn do_call<T: Threads + Wait + Sync, R: Read, W: Write, E: Write>(
     observer: &mut dyn Observer,
     ops: &Ops,
 ) -> Exit
-    ensures { DoesJobWith IsFounded (⟦<Ops as Listing>⟧.operations ops.now) call.now (R.remaining reader.old) (R.remaining reader.new) (W.contents out.old) (W.contents out.new)
-        result.status (λ said. OnOk result.told (Appends (E.contents err.old) (E.contents err.new) said)) }
+    requires alone { is_in_threads call.now.job ≡ false }
+    ensures { DoesJobWith IsFounded (⟦<Ops as Listing>⟧.operations ops.now) call.now (R.remaining reader.old) (R.remaining reader.new) (W.contents out.old) (W.contents out.new) result.status (Tells (E.contents err.old) (E.contents err.new) result.told) }
 {
-    match read_bytes(alloc, reader) {
-        Ok(text) => do_text(rt, alloc, call, &text, out, err, observer, ops),
-        Err(fault) => exit_of(
-            &Err(RunError::from(fault)),
+    match prepared(alloc, call, reader, ops) {
+        Ok(prepared) => {
+            let printed = print_job(rt, alloc, &call.job, &prepared.script, observer, ops);
+            answer(alloc, call, &prepared, printed, out, err, ops)
+        }
+        Err(failed) => exit_of(
+            &Err(failed.error),
             false,
             call.flags.explain,
-            &[],
+            &failed.more,
             err,
         ),
     }
 }
 
-// Does what a call asks for with the script that the bytes are.
-fn do_text<T: Threads + Wait + Sync, W: Write, E: Write>(
+// The same of a run in threads.
+fn do_call_in_threads<T: Threads + Wait + Sync, R: Read, W: Write, E: Write>(
     rt: &T,
     alloc: Global,
     call: &Invocation,
-    text: &[u8],
+    reader: &mut R,
     out: &mut W,
     err: &mut E,
     observer: &mut dyn Observer,
     ops: &Ops,
 ) -> Exit
-    ensures { AnswersText IsFounded (⟦<Ops as Listing>⟧.operations ops.now) call.now text.now (W.contents out.old) (W.contents out.new)
-        result.status (λ said. OnOk result.told (Appends (E.contents err.old) (E.contents err.new) said)) }
+    requires threads { is_in_threads call.now.job ≡ true }
+    ensures { DoesJobWith IsFounded (⟦<Ops as Listing>⟧.operations ops.now) call.now (R.remaining reader.old) (R.remaining reader.new) (W.contents out.old) (W.contents out.new) result.status (Tells (E.contents err.old) (E.contents err.new) result.told) }
 {
-    let Ok(complains) = complains(alloc, call, text, ops) else {
-        return exit_of(&Err(RunError::Memory), false, call.flags.explain, &[], err);
-    };
-    let answer = run_bytes_observed(rt, alloc, &call.job, text, out, observer, &OpenGate, ops);
-    let more = explained(alloc, call, text, ops);
-    exit_of(&answer, complains, call.flags.explain, &more, err)
+    match prepared(alloc, call, reader, ops) {
+        Ok(prepared) => {
+            let (job, script) = (&call.job, &prepared.script);
+            let printed = print_job_in_threads(rt, alloc, job, script, observer, &OpenGate, ops);
+            answer(alloc, call, &prepared, printed, out, err, ops)
+        }
+        Err(failed) => exit_of(
+            &Err(failed.error),
+            false,
+            call.flags.explain,
+            &failed.more,
+            err,
+        ),
+    }
+}
+
+// Writes what a job came to with a script, and tells what is to be said.
+fn answer<W: Write, E: Write>(
+    alloc: Global,
+    call: &Invocation,
+    prepared: &Prepared,
+    printed: Result<Printed, RunError>,
+    out: &mut W,
+    err: &mut E,
+    ops: &Ops,
+) -> Exit
+    requires read { reading (⟦<Ops as Listing>⟧.operations ops.now) prepared.now.text.items ≡ Ok prepared.now.script }
+    requires strict { IsStrict (⟦<Ops as Listing>⟧.operations ops.now) call.now prepared.now.text.items prepared.now.complains }
+    requires comes { IfOk printed (λ p. ComesTo IsFounded (⟦<Ops as Listing>⟧.operations ops.now) call.now.job.command call.now.job.options prepared.now.script p.end (string_bytes p.text)) }
+    requires refused { IfErr printed (λ e. IsRefusedFor call.now.job prepared.now.script e) }
+    ensures { AnswersText IsFounded (⟦<Ops as Listing>⟧.operations ops.now) call.now prepared.now.text.items (W.contents out.old) (W.contents out.new) result.status (Tells (E.contents err.old) (E.contents err.new) result.told) }
+{
+    match printed {
+        Ok(printed) => {
+            let more = explained(alloc, call, prepared, Some(&printed));
+            let answer = write_printed(printed.text.as_bytes(), printed.end, out);
+            exit_of(&answer, prepared.complains, call.flags.explain, &more, err)
+        }
+        Err(error) => {
+            let more = explained(alloc, call, prepared, None);
+            exit_of(
+                &Err(error),
+                prepared.complains,
+                call.flags.explain,
+                &more,
+                err,
+            )
+        }
+    }
 }
 
 // The exit of a job with this answer.
@@ -137,7 +200,7 @@ fn exit_of<E: Write>(
     more: &[u8],
     err: &mut E,
 ) -> Exit
-    ensures { Exits answer.now complains explains more.now result.status (λ said. OnOk result.told (Appends (E.contents err.old) (E.contents err.new) said)) }
+    ensures { Exits answer.now complains explains more.now result.status (Tells (E.contents err.old) (E.contents err.new) result.told) }
 {
     Exit {
         status: status_of(answer, complains),

@@ -1,15 +1,17 @@
 //! What a call of the program does, over any streams: the job that its words ask for, the message for the standard error, and
 //! the exit status.
 //!
-//! In the order of reading: [`run_job`], which answers an [`Exit`], and [`refuse`] for words that give no job; [`status_of`] and
-//! [`write_message`] are their parts. `--strict` is decided in `strict.rt`, and what `--explain` tells in `explaining.rt`.
+//! In the order of reading: [`run_job`], which answers an [`Exit`], for words that [`ask_for_threads`] [`run_job_in_threads`], the only one that may
+//! wait, and [`refuse`] for words that give no job; [`status_of`] and [`write_message`] are their parts. A script is read in `prepared.rt`, once;
+//! `--strict` is decided in `found.rt`, and what `--explain` tells stands in `explaining.rt`.
 #![tactic(auto)]
 
 mod explaining;
+mod found;
 mod job;
+mod prepared;
 mod status;
-mod strict;
 
-pub use job::{Exit, refuse, run_job, run_job_observed};
+pub use job::{Exit, ask_for_threads, refuse, run_job, run_job_in_threads};
 pub use mpx_run::{Observer, Progress};
 pub use status::{status_of, write_message};

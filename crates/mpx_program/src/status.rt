@@ -1,11 +1,13 @@
 //! What the program says on the standard error, and its exit status.
-ghost use Rattle.std.specs.Prelude.{◌≡◌, ◌++◌, OnOk, codes, false};
+ghost use Rattle.std.specs.Prelude.{◌≡◌, ◌++◌, [], OnOk, codes, false};
 ghost use Rattle.std.specs.Io.KnownBytes.{Appends};
 ghost use Rattle.clap.specs.Words.{kind_of};
+ghost use Rattle.mpx_program.specs.Jobs.{Tells};
 ghost use Rattle.mpx_program.specs.Status.{advice, cause_text, explanation, message, refusal_status, status, waiting_text, why};
 
+use arrayvec::ArrayVec;
 use clap::error::ErrorKind;
-use mpx_run::{Cause, End, RunError};
+use mpx_run::{Cause, End, RunError, WriteFault, write_bytes};
 use std::io;
 use std::io::Write;
 
@@ -35,9 +37,53 @@ pub fn refusal_status(refusal: &clap::Error) -> u8
     }
 }
 
-/// Writes what the standard error is told of a job: nothing where it is finished. After an error of the writer a
-/// part of it may be out.
-pub fn write_message<W: Write>(answer: &Result<End, RunError>, writer: &mut W) -> io::Result<()>
+/// Room for what is said before what is explained: 64 ranks that wait take 200 bytes of it.
+type Line = ArrayVec<u8, 512>;
+
+/// Writes what the standard error is told of a job: nothing where it is finished. Where the writer fails a beginning of it is out.
+pub fn write_message<W: Write>(
+    answer: &Result<End, RunError>,
+    writer: &mut W,
+) -> Result<(), WriteFault>
+    ensures { Tells (W.contents writer.old) (W.contents writer.new) result (message answer.now) }
+{
+    let mut line = Line::new();
+    match push_message(answer, &mut line) {
+        Ok(()) => write_bytes(writer, line.as_slice()),
+        Err(_) => Err(WriteFault),
+    }
+}
+
+/// Writes the message of a job, and that its script has calls to complain of; where more is asked for, why it ended, and more. Where the
+/// writer fails a beginning of that is out.
+pub(crate) fn write_said<W: Write>(
+    answer: &Result<End, RunError>,
+    complains: bool,
+    explains: bool,
+    more: &[u8],
+    writer: &mut W,
+) -> Result<(), WriteFault>
+    ensures { Tells (W.contents writer.old) (W.contents writer.new) result (message answer.now ++ advice complains explains answer.now ++ explanation explains answer.now more.now) }
+{
+    let mut line = Line::new();
+    match push_said(answer, complains, explains, &mut line) {
+        Ok(()) => write_both(writer, line.as_slice(), if explains { more } else { &[] }),
+        Err(_) => Err(WriteFault),
+    }
+}
+
+// Writes both, one behind the other.
+fn write_both<W: Write>(writer: &mut W, first: &[u8], second: &[u8]) -> Result<(), WriteFault>
+    ensures { Tells (W.contents writer.old) (W.contents writer.new) result (first.now ++ second.now) }
+{
+    match write_bytes(writer, first) {
+        Ok(()) => write_bytes(writer, second),
+        Err(WriteFault) => Err(WriteFault),
+    }
+}
+
+// Writes the message of a job.
+fn push_message<W: Write>(answer: &Result<End, RunError>, writer: &mut W) -> io::Result<()>
     ensures { OnOk result (Appends (W.contents writer.old) (W.contents writer.new) (message answer.now)) }
 {
     match answer {
@@ -47,22 +93,20 @@ pub fn write_message<W: Write>(answer: &Result<End, RunError>, writer: &mut W) -
     }
 }
 
-/// Writes the message of a job, and that its script has calls to complain of; where more is asked for, why it ended, and more.
-pub(crate) fn write_said<W: Write>(
+// Writes all that is said but what is explained.
+fn push_said<W: Write>(
     answer: &Result<End, RunError>,
     complains: bool,
     explains: bool,
-    more: &[u8],
     writer: &mut W,
 ) -> io::Result<()>
-    ensures { OnOk result (Appends (W.contents writer.old) (W.contents writer.new) (message answer.now ++ advice complains explains answer.now ++ explanation explains answer.now more.now)) }
+    ensures { OnOk result (Appends (W.contents writer.old) (W.contents writer.new) (message answer.now ++ advice complains explains answer.now ++ explanation explains answer.now [])) }
 {
-    write_message(answer, writer)?;
+    push_message(answer, writer)?;
     if !explains {
         return write_advice(answer, complains, writer);
     }
-    write_why(answer, writer)?;
-    writer.write_all(more)
+    write_why(answer, writer)
 }
 
 // Writes how to hear of the calls to complain of, where there are some and the job has come to an end.
@@ -116,12 +160,14 @@ fn write_waiting<W: Write>(ranks: &[u8], writer: &mut W) -> io::Result<()>
 }
 
 /// Writes clap's text of a refusal, or `out of memory`. No clause says what clap's text is.
-pub fn write_refusal<W: Write>(refusal: &clap::Error, writer: &mut W) -> io::Result<()>
-    ensures { kind_of refusal.now ≡ ErrorKind.OutOfMemory
-        → OnOk result (Appends (W.contents writer.old) (W.contents writer.new) (codes "out of memory\n")) }
+pub fn write_refusal<W: Write>(refusal: &clap::Error, writer: &mut W) -> Result<(), WriteFault>
+    ensures { kind_of refusal.now ≡ ErrorKind.OutOfMemory → Tells (W.contents writer.old) (W.contents writer.new) result (codes "out of memory\n") }
 {
     match refusal.kind() {
-        ErrorKind::OutOfMemory => writer.write_all(b"out of memory\n"),
-        _ => write!(writer, "{refusal}"),
+        ErrorKind::OutOfMemory => write_bytes(writer, b"out of memory\n"),
+        _ => match write!(writer, "{refusal}") {
+            Ok(()) => Ok(()),
+            Err(_) => Err(WriteFault),
+        },
     }
 }

@@ -8,9 +8,12 @@ use Rattle.std.proofs.Math.Seq.{take-add, take-append_seam}
 use Rattle.mpx_num.specs.declared.own.Operation.{Operation}
 use Rattle.mpx_run.specs.declared.end.End.{End}
 use Rattle.mpx_statement.specs.declared.job.Job.{Job}
+use Rattle.mpx_script.specs.Reading.{reading}
+use Rattle.mpx_script.specs.ScriptView.{ScriptView}
 use Rattle.mpx_script.specs.Words.{bytes_limit}
+use Rattle.mpx_threads.specs.Gates.{nowhere}
 use Rattle.mpx_threads.specs.declared.gate.BusStep.{BusStep}
-use Rattle.mpx_run.specs.Texts.{OfRuns, Prints, PrintsUngated, Runs, RunsUngated, TakesInput, TakesPart}
+use Rattle.mpx_run.specs.Texts.{ComesTo, IsEndedFor, IsRefusedFor, IsWritten, OfRuns, Prints, PrintsUngated, Runs, RunsUngated, TakesInput, TakesPart}
 use Rattle.mpx_run.specs.declared.texts.RunError.{RunError}
 use Rattle.mpx_run.specs.declared.texts.RunError.TheVariants as E
 
@@ -155,3 +158,57 @@ prints_ungated Is ops gives_up job text old new (Err E.Memory) other p = p
 prints_ungated Is ops gives_up job text old new (Err E.Read) other p = p
 prints_ungated Is ops gives_up job text old new (Err E.Write) other p = p
 prints_ungated Is ops gives_up job text old new (Err E.GateGaveUp) other p = absurd (other refl)
+
+-- ANSWERS
+
+kept : (o : Option (List ℕ)) → Keeps o o
+kept None = tt
+kept (Some xs) = refl
+
+-- a job that comes to nothing with a script writes nothing
+pub refused_prints : (Is : OfRuns) (ops : List Operation) (job : Job) (text : List ℕ) (script : ScriptView) (old : Option (List ℕ)) (why : RunError) → reading ops text ≡ Ok script → IsRefusedFor job script why → PrintsUngated Is ops job text old old (Err why)
+refused_prints Is ops job text script old (E.Script refusal) read r = absurd r
+refused_prints Is ops job text script old E.TooManyProcesses read r = ((script, read, r.0, r.1), kept old)
+refused_prints Is ops job text script old E.Memory read r = kept old
+refused_prints Is ops job text script old E.Read read r = absurd r
+refused_prints Is ops job text script old E.Write read r = absurd r
+refused_prints Is ops job text script old E.GateGaveUp read r = absurd r
+
+-- the same where a gate may end it
+pub ended_prints : (Is : OfRuns) (ops : List Operation) (gives_up : ℕ → BusStep → ℕ → Type 0) (job : Job) (text : List ℕ) (script : ScriptView) (old : Option (List ℕ)) (why : RunError) → reading ops text ≡ Ok script → IsEndedFor gives_up job script why → Prints Is ops gives_up job text old old (Err why)
+ended_prints Is ops gives_up job text script old (E.Script refusal) read r = absurd r
+ended_prints Is ops gives_up job text script old E.TooManyProcesses read r = ((script, read, r.0, r.1), kept old)
+ended_prints Is ops gives_up job text script old E.Memory read r = kept old
+ended_prints Is ops gives_up job text script old E.Read read r = absurd r
+ended_prints Is ops gives_up job text script old E.Write read r = absurd r
+ended_prints Is ops gives_up job text script old E.GateGaveUp read r = (record { script = script; read = read; gated = r.0; at = r.1 }, kept old)
+
+-- where the gate gives up nowhere the job is refused as every job is
+pub ended_nowhere : (job : Job) (script : ScriptView) (why : RunError) → IsEndedFor nowhere job script why → IsRefusedFor job script why
+ended_nowhere job script (E.Script refusal) r = r
+ended_nowhere job script E.TooManyProcesses r = r
+ended_nowhere job script E.Memory r = r
+ended_nowhere job script E.Read r = r
+ended_nowhere job script E.Write r = r
+ended_nowhere job script E.GateGaveUp r = absurd r.1.1.1.1.1.1
+
+-- what a job comes to is written
+pub written_prints : (Is : OfRuns) (ops : List Operation) (job : Job) (text : List ℕ) (script : ScriptView) (old new : Option (List ℕ)) (out : List ℕ) (end : End) (answer : Result End RunError) → reading ops text ≡ Ok script → ComesTo Is ops job.command job.options script end out
+    → IsWritten old new out end answer → PrintsUngated Is ops job text old new answer
+written_prints Is ops job text script old new out end (Ok told) read comes w = (out, record { script = script; read = read; comes = subst (λ e. ComesTo Is ops job.command job.options script e out) (sym w.0) comes }, w.1)
+written_prints Is ops job text script old new out end (Err (E.Script refusal)) read comes w = absurd w
+written_prints Is ops job text script old new out end (Err E.TooManyProcesses) read comes w = absurd w
+written_prints Is ops job text script old new out end (Err E.Memory) read comes w = absurd w
+written_prints Is ops job text script old new out end (Err E.Read) read comes w = absurd w
+written_prints Is ops job text script old new out end (Err E.Write) read comes w = (end, out, w.0, record { script = script; read = read; comes = comes }, w.1)
+written_prints Is ops job text script old new out end (Err E.GateGaveUp) read comes w = absurd w
+
+-- what no gate ends a gate doesn't end
+pub gated_prints : (Is : OfRuns) (ops : List Operation) (gives_up : ℕ → BusStep → ℕ → Type 0) (job : Job) (text : List ℕ) (old new : Option (List ℕ)) (answer : Result End RunError) → PrintsUngated Is ops job text old new answer → Prints Is ops gives_up job text old new answer
+gated_prints Is ops gives_up job text old new (Ok end) p = p
+gated_prints Is ops gives_up job text old new (Err (E.Script refusal)) p = p
+gated_prints Is ops gives_up job text old new (Err E.TooManyProcesses) p = p
+gated_prints Is ops gives_up job text old new (Err E.Memory) p = p
+gated_prints Is ops gives_up job text old new (Err E.Read) p = p
+gated_prints Is ops gives_up job text old new (Err E.Write) p = p
+gated_prints Is ops gives_up job text old new (Err E.GateGaveUp) p = absurd p

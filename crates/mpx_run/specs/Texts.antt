@@ -1,5 +1,5 @@
 -- What a job reads and writes.
-use Rattle.std.specs.Prelude.{◌≡◌, true, ◌<◌, ◌≤◌, ℕ, zero, suc, pos, ◌+◌, List, [], ◌++◌, length, slice_index_or, codes, take, Option, Result, Ok, Err, IfSome}
+use Rattle.std.specs.Prelude.{◌≡◌, Bool, true, false, ◌<◌, ◌≤◌, ℕ, zero, suc, pos, ◌+◌, List, [], ◌++◌, length, slice_index_or, codes, take, Option, Result, Ok, Err, IfSome}
 use Rattle.std.specs.Io.KnownBytes.{Appends, Consumes, Keeps}
 use Rattle.mpx_num.specs.declared.own.Operation.{Operation}
 use Rattle.mpx_num.specs.Text.{number_text}
@@ -70,6 +70,28 @@ ComesTo Is ops Run options script end out = (script.ranks + options.relays ≤ 6
 ComesTo Is ops Eval options script end out = IsEvaluatedText ops script end out
 ComesTo Is ops Check options script end out = (end ≡ Finished) × (out ≡ check_text script)
 
+-- a command is one to run, in threads
+abbrev pub is_run_in_threads : Command → (threads : Bool) → Bool
+is_run_in_threads Run threads = threads
+is_run_in_threads Eval threads = false
+is_run_in_threads Check threads = false
+
+-- whether the job is a run in threads, the only one that may wait
+abbrev pub is_in_threads : Job → Bool
+is_in_threads job = is_run_in_threads job.command job.options.threads
+
+-- a job with a script is refused for this: it is to be run and has too many processes, or memory is wanting
+abbrev pub IsRefusedFor : Job → ScriptView → RunError → Type 0
+IsRefusedFor job script E.TooManyProcesses = (job.command ≡ Run) × (64 < script.ranks + job.options.relays)
+IsRefusedFor job script E.Memory = Unit {0}
+IsRefusedFor job script other = ⊥
+
+-- a text is out, and the answer is the end; where writing fails, a beginning of it is out
+abbrev pub IsWritten : (old new : Option (List ℕ)) (out : List ℕ) (end : End) → Result End RunError → Type 0
+IsWritten old new out end (Ok told) = (told ≡ end) × Appends old new out
+IsWritten old new out end (Err E.Write) = (count : ℕ) × Appends old new (take count out)
+IsWritten old new out end (Err other) = ⊥
+
 -- a text is read as a script, with which the job comes to that end and text
 pub record DoneTo (Is : OfRuns) (ops : List Operation) (job : Job) (text : List ℕ) (end : End) (out : List ℕ) : Type 0 where
   pub script : ScriptView
@@ -105,6 +127,11 @@ IsGated job = (job.command ≡ Run) × (job.options.threads ≡ true)
 -- the job runs the script in threads, and the gate gives up at a step of one of its processes
 abbrev pub IsEndedByGate : (gives_up : ℕ → BusStep → ℕ → Type 0) (job : Job) → ScriptView → Type 0
 IsEndedByGate gives_up job script = IsGated job × GivesUpAmong gives_up (script.ranks + job.options.relays) job.options.turns
+
+-- the same of an answer: it is refused as every job is, or the gate gives up there
+abbrev pub IsEndedFor : (gives_up : ℕ → BusStep → ℕ → Type 0) → Job → ScriptView → RunError → Type 0
+IsEndedFor gives_up job script E.GateGaveUp = IsEndedByGate gives_up job script
+IsEndedFor gives_up job script other = IsRefusedFor job script other
 
 -- a text is read as a script that is run in threads, and the gate gives up at a step of one of its processes
 pub record IsGivenUp (ops : List Operation) (gives_up : ℕ → BusStep → ℕ → Type 0) (job : Job) (text : List ℕ) : Type 0 where

@@ -9,8 +9,10 @@ ghost use Rattle.mpx_run.specs.Reports.{EndsSo, IsBy, IsEvaluatedText, lines_at}
 use crate::end::{Cause, End};
 use crate::follows::Follows;
 use join_core::OutOfMemory;
+use mpx_bus::Port;
 use mpx_eval::eval;
 use mpx_meaning::Report;
+use mpx_node::Node;
 use mpx_num::{Listing, Ops, push_number};
 use mpx_script::Script;
 use mpx_sim::{Observer, run_sim_observed};
@@ -20,11 +22,40 @@ use std::alloc::Global;
 use std::sync::Wait;
 use std::thread::Threads;
 
-/// The text of a run or an evaluation, and how it ended.
+/// What a job comes to with a script.
 #[derive(Drop)]
-pub(crate) struct Printed {
-    pub(crate) text: String,
-    pub(crate) end: End,
+pub struct Printed {
+    /// What is to be written.
+    pub text: String,
+    pub end: End,
+    /// The lines of each rank, of which the text is made; none of a script that is read alone. No clause says it.
+    pub transcripts: Vec<Vec<String>>,
+    /// What each process holds at the end of a run, first the ranks, then the relays; nothing of another job. No clause says it.
+    pub held: Held,
+}
+
+/// What processes hold at the end of a run.
+#[derive(Drop)]
+pub enum Held {
+    Nothing,
+    /// The nodes of a simulated run.
+    InNodes(Vec<Node>),
+    /// The ports of a run in threads.
+    InPorts(Vec<Port>),
+}
+
+impl Held {
+    /// The node of a process, by its number.
+    pub fn node(&self, process: usize) -> Option<&Node> {
+        match self {
+            Held::Nothing => None,
+            Held::InNodes(nodes) => nodes.get(process),
+            Held::InPorts(ports) => match ports.get(process) {
+                Some(port) => Some(port.node()),
+                None => None,
+            },
+        }
+    }
 }
 
 /// The lines of all ranks of a simulated run, each as `RANK: LINE`, rank by rank, and who waits, and why.
@@ -42,7 +73,8 @@ pub(crate) fn print<T: Threads + Sync>(
 {
     let run = run_sim_observed(rt, alloc, script, options, observer, ops)?;
     let cause = cause_of(run.turns, options);
-    print_report(alloc, run.report, script.ranks(), cause)
+    let held = Held::InNodes(run.nodes);
+    print_report(alloc, run.report, script.ranks(), cause, held)
 }
 
 // Why ranks wait where so many turns of a simulated run were made.
@@ -77,7 +109,8 @@ pub(crate) fn print_threads<T: Threads + Wait + Sync, G: Gate + Sync>(
     let follows = Follows { observer, looks };
     let run = run_threads(rt, alloc, script, options, gate, follows, ops)?;
     let cause = cause_in_threads(run.rests);
-    match print_report(alloc, run.report, script.ranks(), cause) {
+    let held = Held::InPorts(run.ports);
+    match print_report(alloc, run.report, script.ranks(), cause, held) {
         Ok(printed) => Ok(printed),
         Err(_) => Err(ThreadsError::OutOfMemory),
     }
@@ -103,7 +136,8 @@ pub(crate) fn print_evaluation(
     ensures { IfOk result (λ printed. IsEvaluatedText (⟦<Ops as Listing>⟧.operations ops.now) script.now printed.end (string_bytes printed.text)) }
 {
     let report = eval(alloc, script, ops)?;
-    print_report(alloc, report, script.ranks(), Cause::InEveryRun)
+    let (cause, held) = (Cause::InEveryRun, Held::Nothing);
+    print_report(alloc, report, script.ranks(), cause, held)
 }
 
 // The lines of all ranks, and who waits for this cause.
@@ -112,6 +146,7 @@ fn print_report(
     report: Report,
     ranks: u8,
     cause: Cause,
+    held: Held,
 ) -> Result<Printed, OutOfMemory>
     requires { ranks ≤ length (transcripts_of report) }
     ensures text { IfOk result (λ printed. string_bytes printed.text ≡ text_upto (lines_at (transcripts_of report)) ranks) }
@@ -120,7 +155,12 @@ fn print_report(
 {
     let text = text_of(alloc, &report, ranks)?;
     let end = end_of(report.waiting, cause);
-    Ok(Printed { text, end })
+    Ok(Printed {
+        text,
+        end,
+        transcripts: report.transcripts,
+        held,
+    })
 }
 
 // The lines of all ranks.

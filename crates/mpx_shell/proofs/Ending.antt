@@ -1,15 +1,15 @@
 -- What a process ends with.
-use Rattle.std.proofs.Common.{◌≡◌, ℕ, List, Option, Result, Ok, IfOk, OnOk, subst, sym}
-use Rattle.std.specs.Io.KnownBytes.{Appends}
+use Rattle.std.proofs.Common.{◌≡◌, ℕ, List, Option, Result, Ok, IfOk, subst, sym}
+use Rattle.mpx_program.specs.Jobs.{Tells}
 use Rattle.mpx_program.specs.declared.job.Exit.{Exit}
 use Rattle.mpx_shell.specs.Answers.{EndsBy}
 
 -- what is done with one of two words that are the same is done with the other
 pub ends_by : {A : Type 0} (Does : A → (code : ℕ) (Says : List ℕ → Type 0) → Type 0) (words now : A) (old new : Option (List ℕ)) (exit : Exit) (status : ℕ) → now ≡ words
-    → Does now exit.status (λ said. OnOk exit.told (Appends old new said)) → status ≡ exit.status → EndsBy (Does words) old new status
+    → Does now exit.status (Tells old new exit.told) → status ≡ exit.status → EndsBy (Does words) old new status
 ends_by Does words now old new exit status same does ends = record {
   exit = exit;
-  does = subst (λ w. Does w exit.status (λ said. OnOk exit.told (Appends old new said))) same does;
+  does = subst (λ w. Does w exit.status (Tells old new exit.told)) same does;
   ends = ends;
 }
 

@@ -1,10 +1,9 @@
 -- What a call of a program comes to.
-use Rattle.std.specs.Prelude.{◌≡◌, ◌⊎◌, ℕ, List, Option, OnOk}
-use Rattle.std.specs.Io.KnownBytes.{Appends}
+use Rattle.std.specs.Prelude.{◌≡◌, ◌⊎◌, ℕ, List, Option}
 use Rattle.clap.specs.declared.error.kind.ErrorKind.TheVariants as kind
 use Rattle.mpx_num.specs.declared.own.Operation.{Operation}
 use Rattle.mpx_run.specs.Texts.{OfRuns}
-use Rattle.mpx_program.specs.Jobs.{DoesJob, IsRefused}
+use Rattle.mpx_program.specs.Jobs.{DoesJob, IsRefused, Tells}
 use Rattle.mpx_program.specs.declared.job.Exit.{Exit}
 
 -- the words' job is done by some operations of a job's own
@@ -22,8 +21,8 @@ pub record Starves (there left old new : Option (List ℕ)) (code : ℕ) (Says :
 abbrev pub Answers : (Is : OfRuns) (words : List (List ℕ)) (there left old new : Option (List ℕ)) (code : ℕ) (Says : List ℕ → Type 0) → Type 0
 Answers Is words there left old new code Says = IsDoneBy Is words there left old new code Says ⊎ Starves there left old new code Says
 
--- a process ends with the status of what is done, and what is said is out where the message is
+-- a process ends with the status of what is done, and what is said is out, or a beginning of it
 pub record EndsBy (Does : (code : ℕ) (Says : List ℕ → Type 0) → Type 0) (old new : Option (List ℕ)) (status : ℕ) : Type 0 where
   pub exit : Exit
-  pub does : Does exit.status (λ said. OnOk exit.told (Appends old new said))
+  pub does : Does exit.status (Tells old new exit.told)
   pub ends : status ≡ exit.status

@@ -1,5 +1,5 @@
 -- The lines that tell who waits, and which calls were refused or are faults.
-use Rattle.std.specs.Prelude.{ℕ, ◌+◌, ◌==◌, Bool, true, false, ◌&&◌, List, [], ◌∷◌, ◌++◌, bytes_eq, codes, cond, if◌then◌else◌, map, slice_get, slice_index_or, Option, Some, None, unwrap_or}
+use Rattle.std.specs.Prelude.{ℕ, zero, suc, ◌+◌, ◌-◌, ◌==◌, Bool, true, false, ◌&&◌, List, [], ◌∷◌, ◌++◌, bytes_eq, codes, cond, if◌then◌else◌, length, map, slice_get, slice_index_or, take, Option, Some, None, unwrap_or}
 use Rattle.std.specs.Fmt.{decimal}
 use Rattle.std.specs.List.{flat_map}
 use Rattle.mpx_eval.specs.declared.missing.MissingMember.{MissingMember}
@@ -120,14 +120,29 @@ end_text places call missing = codes ", call " ++ decimal call ++ codes ": no po
 abbrev pub call_text : (text : List ℕ) → List Statement → (numbers : List ℕ) → (places : List (ℕ × ℕ)) → (rank line : ℕ) → MissingCallView → List ℕ
 call_text text statements numbers places rank line c = start_text rank line ++ what_text text statements numbers line c.request ++ end_text places c.call c.missing
 
--- those of a rank
-abbrev pub rank_text : (text : List ℕ) → List (List Statement) → (places : List (ℕ × ℕ)) → WaitingView → List ℕ
-rank_text text statements places w =
-    flat_map (call_text text (slice_index_or statements w.rank []) (lines_given w.rank text) places w.rank (line_at (lines_given w.rank text) w.statement)) w.calls
+-- those of a rank, at most so many
+abbrev pub rank_text : (text : List ℕ) → List (List Statement) → (places : List (ℕ × ℕ)) → (most : ℕ) → WaitingView → List ℕ
+rank_text text statements places most w =
+    flat_map (call_text text (slice_index_or statements w.rank []) (lines_given w.rank text) places w.rank (line_at (lines_given w.rank text) w.statement)) (take most w.calls)
 
--- of all that wait
+-- those of these ranks, at most so many in all
+abbrev pub ranks_text : (text : List ℕ) → List (List Statement) → (places : List (ℕ × ℕ)) → (most : ℕ) → List WaitingView → List ℕ
+ranks_text text statements places most [] = []
+ranks_text text statements places most (w ∷ found) = rank_text text statements places most w ++ ranks_text text statements places (most - length w.calls) found
+
+-- how many there are
+abbrev pub calls_in : List WaitingView → ℕ
+calls_in [] = 0
+calls_in (w ∷ found) = length w.calls + calls_in found
+
+-- that there are so many more
+abbrev pub more_text : ℕ → List ℕ
+more_text zero = []
+more_text (suc n) = codes "and " ++ decimal (suc n) ++ codes " more\n"
+
+-- of all that wait, at most a hundred, and how many more there are
 abbrev pub waiting_told : (text : List ℕ) → List (List Statement) → List WaitingView → List ℕ
-waiting_told text statements found = flat_map (rank_text text statements (map (place_of text) found)) found
+waiting_told text statements found = ranks_text text statements (map (place_of text) found) 100 found ++ more_text (calls_in found - 100)
 
 -- COMPLAINTS
 

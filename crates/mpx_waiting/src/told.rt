@@ -1,8 +1,8 @@
 //! The text of the lines that tell who waits, and of all lines.
-ghost use Rattle.std.specs.Prelude.{◌≡◌, ◌++◌, IfOk, OnOk, bytes_eq, codes, map};
+ghost use Rattle.std.specs.Prelude.{◌≡◌, ◌++◌, IfOk, OnOk, bytes_eq, codes, map, take};
 ghost use Rattle.std.specs.Option.{option_copied};
 ghost use Rattle.mpx_eval.specs.Found.{complaint_view, missing_view, waiting_view};
-ghost use Rattle.mpx_waiting.specs.ToldLines.{all_told, apart_words, call_text, call_words, end_text, rank_text, request_text, second_word, start_text, waiting_told, what_text, word_in};
+ghost use Rattle.mpx_waiting.specs.ToldLines.{all_told, apart_words, call_text, call_words, calls_in, end_text, more_text, rank_text, ranks_text, request_text, second_word, start_text, waiting_told, what_text, word_in};
 
 use crate::complaints::push_complaints;
 use crate::members::push_members;
@@ -28,7 +28,11 @@ pub fn all_told(
     Ok(told)
 }
 
-/// Adds a line for each call that is missing. An `Err` is want of memory, and leaves the lines so far.
+// More calls than these are not told.
+const MOST_CALLS: usize = 100;
+
+/// Adds a line for each call that is missing, at most a hundred, and how many more there are. An `Err` is want of memory, and leaves the
+/// lines so far.
 pub fn push_waiting(
     alloc: Global,
     text: &[u8],
@@ -39,27 +43,49 @@ pub fn push_waiting(
     ensures { OnOk result (told.new.items ≡ told.old.items ++ waiting_told text.now script.now.statements (map waiting_view found.now)) }
 {
     let places = places_of(alloc, text, found)?;
+    push_ranks(alloc, text, script, places.as_slice(), found, told)?;
+    push_more(alloc, calls_in(found).saturating_sub(100), told)
+}
+
+// Adds the lines of all ranks, at most a hundred.
+fn push_ranks(
+    alloc: Global,
+    text: &[u8],
+    script: &Script,
+    places: &[(u8, u32)],
+    found: &[WaitingRank],
+    told: &mut Vec<u8>,
+) -> Result<(), OutOfMemory>
+    ensures { OnOk result (told.new.items ≡ told.old.items ++ ranks_text text.now script.now.statements places.now 100 (map waiting_view found.now)) }
+{
+    let mut most = MOST_CALLS;
     for waiting in found {
-        push_rank(alloc, text, script, places.as_slice(), waiting, told)?;
+        push_rank(alloc, text, script, places, most, waiting, told)?;
+        most = most.saturating_sub(waiting.calls.len());
     }
     Ok(())
 }
 
-// Adds the lines of a rank.
+// Adds the lines of a rank, at most so many.
 fn push_rank(
     alloc: Global,
     text: &[u8],
     script: &Script,
     places: &[(u8, u32)],
+    most: usize,
     waiting: &WaitingRank,
     told: &mut Vec<u8>,
 ) -> Result<(), OutOfMemory>
-    ensures { OnOk result (told.new.items ≡ told.old.items ++ rank_text text.now script.now.statements places.now (waiting_view waiting.now)) }
+    ensures { OnOk result (told.new.items ≡ told.old.items ++ rank_text text.now script.now.statements places.now most (waiting_view waiting.now)) }
 {
+    let calls = first_of(waiting.calls.as_slice(), most);
+    if calls.is_empty() {
+        return Ok(());
+    }
     let statements = script.statements(waiting.rank);
     let numbers = statement_lines(alloc, text, waiting.rank)?;
     let line = line_at(numbers.as_slice(), waiting.statement);
-    for call in &waiting.calls {
+    for call in calls {
         push_call(
             alloc,
             text,
@@ -72,6 +98,40 @@ fn push_rank(
             told,
         )?;
     }
+    Ok(())
+}
+
+// The first so many of these.
+fn first_of(calls: &[MissingCall], most: usize) -> &[MissingCall]
+    ensures { result.now ≡ take most calls.now }
+{
+    if most < calls.len() {
+        &calls[..most]
+    } else {
+        calls
+    }
+}
+
+// How many calls the ranks wait for.
+fn calls_in(found: &[WaitingRank]) -> u128
+    ensures { result ≡ calls_in (map waiting_view found.now) }
+{
+    let mut calls = 0u128;
+    for waiting in found {
+        calls += waiting.calls.len() as u128;
+    }
+    calls
+}
+
+// Adds that there are so many more.
+fn push_more(alloc: Global, more: u128, told: &mut Vec<u8>) -> Result<(), OutOfMemory>
+    ensures { OnOk result (told.new.items ≡ told.old.items ++ more_text more) }
+{
+    if more == 0 {
+        return Ok(());
+    }
+    let line = format!(in alloc; "and {more} more\n")?;
+    told.extend_from_slice(line.as_bytes())?;
     Ok(())
 }
 

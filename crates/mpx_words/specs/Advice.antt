@@ -2,12 +2,12 @@
 -- script tells it.
 use Rattle.std.specs.Prelude.{Bool, true, false, not, ◌==◌, ◌&&◌, ◌||◌, List, [], ◌∷◌, ◌++◌, Option, Some, None, codes, bytes_eq, if◌then◌else◌, is_some, option_map}
 use Rattle.std.specs.List.{list_any}
-use Rattle.std.specs.Option.{option_map_or}
+use Rattle.std.specs.Option.{option_map_or, option_or}
 use Rattle.clap.specs.Walk.{Text}
 use Rattle.clap.specs.declared.error.kind.ErrorKind.{ErrorKind}
 use Rattle.clap.specs.declared.error.kind.ErrorKind.TheVariants as kind
 use Rattle.mpx_num.specs.Text.{number_of}
-use Rattle.mpx_words.specs.Words.{begins_with, is_common, is_flag}
+use Rattle.mpx_words.specs.Words.{begins_with, is_common, is_flag, limits_of}
 
 -- a word that is `-`, or doesn't begin with it
 abbrev pub is_plain : Text → Bool
@@ -93,8 +93,41 @@ advice_of (name ∷ command ∷ words) =
     if stands_alone command then option_map (advice command) (surplus_alone words) else
     advice_first command
 
+-- A NUMBER BELOW 0, AN OPTION OF ANOTHER COMMAND
+
+-- the first word is a number below 0
+abbrev pub begins_below_zero : List Text → Bool
+begins_below_zero [] = false
+begins_below_zero (word ∷ rest) = not (is_plain word) && is_some (number_of word)
+
+-- the limits of the first option behind which such a number stands
+abbrev pub below_zero : List Text → Option Text
+below_zero [] = None
+below_zero (option ∷ rest) = if is_option option && begins_below_zero rest then Some (limits_of option) else below_zero rest
+
+-- a word, where it is an option of `run`
+abbrev pub of_run : Text → Option Text
+of_run word = if is_option word || (is_flag word || is_joined word) then Some word else None
+
+-- such a word behind those that each command may have
+abbrev pub foreign : List Text → Option Text
+foreign [] = None
+foreign (word ∷ rest) = if is_common word then foreign rest else of_run word
+
+abbrev pub foreign_advice : Text → Text
+foreign_advice word = word ++ codes " is an option of run alone"
+
+-- what is said of the words, if such a number stands behind an option of `run`, or an option of `run` behind another command
+abbrev pub strange_option : List Text → Option Text
+strange_option [] = None
+strange_option (name ∷ []) = None
+strange_option (name ∷ command ∷ words) =
+    if is_run command then below_zero words else
+    if stands_alone command then option_map foreign_advice (foreign words) else
+    None
+
 -- what is told in place of clap's text: where a word is no argument or no command, and that is said of the words
 abbrev pub told_instead : ErrorKind → List Text → Option Text
-told_instead kind.UnknownArgument words = advice_of words
+told_instead kind.UnknownArgument words = option_or (advice_of words) (strange_option words)
 told_instead kind.InvalidSubcommand words = advice_of words
 told_instead other words = None

@@ -1,10 +1,11 @@
 //! What is said of words that name a file, though a script is read from the standard input alone, or a number of ranks, though the
-//! script tells it.
+//! script tells it; of an option of `run` behind another command, and of a number below 0 behind an option.
 ghost use Rattle.std.specs.Prelude.{◌≡◌, IfOk, false, map, option_map, string_bytes};
 ghost use Rattle.std.specs.Option.{option_copied};
-ghost use Rattle.mpx_words.specs.Advice.{advice, advice_first, advice_of, asks_ranks, awaits_behind, file_advice, first_surplus, is_file, is_joined, is_option, is_plain, is_run, ranks_advice, shown, stands_alone, surplus, surplus_alone, surplus_behind, told_instead};
+ghost use Rattle.mpx_words.specs.Advice.{advice, advice_first, advice_of, asks_ranks, awaits_behind, begins_below_zero, below_zero, file_advice, first_surplus, foreign, foreign_advice, is_file, is_joined, is_option, is_plain, is_run, of_run, ranks_advice, shown, stands_alone, strange_option, surplus, surplus_alone, surplus_behind, told_instead};
 
 use crate::command::{is_common, is_flag};
+use crate::refusal::limits_of;
 use clap::error::ErrorKind;
 use mpx_num::parse_number;
 use std::alloc::{AllocError, Global};
@@ -38,9 +39,105 @@ pub(crate) fn told_instead(
     ensures { IfOk result (λ told. option_map string_bytes told ≡ told_instead kind (map string_bytes words.now)) }
 {
     match kind {
-        ErrorKind::UnknownArgument => advice_of(alloc, words),
+        ErrorKind::UnknownArgument => match advice_of(alloc, words)? {
+            Some(said) => Ok(Some(said)),
+            None => strange_option(alloc, words),
+        },
         ErrorKind::InvalidSubcommand => advice_of(alloc, words),
         _ => Ok(None),
+    }
+}
+
+/// What is said of words of which one is a number below 0 behind an option of `run`, or an option of `run` behind another command: the
+/// option's limits, or whose it is. None is said of other words.
+pub fn strange_option(alloc: Global, words: &[String]) -> Result<Option<String>, AllocError>
+    ensures { IfOk result (λ said. option_map string_bytes said ≡ strange_option (map string_bytes words.now)) }
+{
+    match words {
+        [] => Ok(None),
+        [_] => Ok(None),
+        [_, command, rest @ ..] => {
+            if is_run(command.as_bytes()) {
+                return said_of(alloc, below_zero(rest));
+            }
+            if stands_alone(command.as_bytes()) {
+                return foreign_advice(alloc, foreign(rest));
+            }
+            Ok(None)
+        }
+    }
+}
+
+// The text, where there is one.
+fn said_of(alloc: Global, said: Option<&str>) -> Result<Option<String>, AllocError>
+    ensures { IfOk result (λ text. option_map string_bytes text ≡ option_copied said.entry) }
+{
+    match said {
+        Some(said) => Ok(Some(String::from_str(alloc, said)?)),
+        None => Ok(None),
+    }
+}
+
+// The limits of the first option behind which a number below 0 stands.
+fn below_zero(words: &[String]) -> Option<&'static str>
+    ensures { option_map (λ said. said.now) result ≡ below_zero (map string_bytes words.now) }
+{
+    let mut rest = words;
+    while let [option, more @ ..] = rest {
+        if is_option(option.as_bytes()) && begins_below_zero(more) {
+            return Some(limits_of(option.as_bytes()));
+        }
+        rest = more;
+    }
+    None
+}
+
+// Whether the first word is a number below 0.
+fn begins_below_zero(words: &[String]) -> bool
+    ensures { result ≡ begins_below_zero (map string_bytes words.now) }
+{
+    match words {
+        [] => false,
+        [word, ..] => { !is_plain(word.as_bytes()) && parse_number(word.as_bytes()).is_some() }
+    }
+}
+
+// The first word behind those that each command may have, where it is an option of `run`.
+fn foreign(words: &[String]) -> Option<&str>
+    ensures { option_map (λ word. word.now) result ≡ foreign (map string_bytes words.now) }
+{
+    let mut rest = words;
+    while let [word, more @ ..] = rest {
+        if !is_common(word.as_bytes()) {
+            return of_run(word);
+        }
+        rest = more;
+    }
+    None
+}
+
+// The word, where it is an option of `run`.
+fn of_run(word: &String) -> Option<&str>
+    ensures { option_map (λ word. word.now) result ≡ of_run (string_bytes word.now) }
+{
+    if is_option(word.as_bytes()) || is_flag(word.as_bytes()) || is_joined(word.as_bytes()) {
+        Some(word.as_str())
+    } else {
+        None
+    }
+}
+
+// What is said of such a word.
+fn foreign_advice(alloc: Global, word: Option<&str>) -> Result<Option<String>, AllocError>
+    ensures { IfOk result (λ said. option_map string_bytes said ≡ option_map foreign_advice (option_copied word.entry)) }
+{
+    match word {
+        Some(word) => {
+            let mut said = String::from_str(alloc, word)?;
+            said.push_str(" is an option of run alone")?;
+            Ok(Some(said))
+        }
+        None => Ok(None),
     }
 }
 

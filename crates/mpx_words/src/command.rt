@@ -28,7 +28,8 @@ pub fn call_of(alloc: Global, words: &[String]) -> Result<Invocation, Error>
     }
 }
 
-fn invocation_in(words: &[String]) -> Option<Invocation>
+/// The same without a word on why they ask for nothing, which takes no memory.
+pub fn invocation_in(words: &[String]) -> Option<Invocation>
     ensures { result ≡ invocation_in (map string_bytes words.now) }
 {
     let job = job_in(words)?;

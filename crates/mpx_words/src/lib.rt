@@ -1,6 +1,6 @@
 //! The words of a call of the program, and what they ask for: a [`mpx_statement::Job`], and what is to be told beside it.
 //!
-//! In the order of reading: [`Invocation`], [`call_of`], and its part [`flags_behind`]; [`advice_of`] and [`complaint_of`] for words that ask for none; [`not_text`] for words of
+//! In the order of reading: [`Invocation`], [`call_of`], and its parts [`invocation_in`] and [`flags_behind`]; [`advice_of`] and [`complaint_of`] for words that ask for none; [`not_text`] for words of
 //! which one is no text.
 #![tactic(auto)]
 
@@ -11,6 +11,6 @@ mod program;
 mod refusal;
 
 pub use advice::advice_of;
-pub use command::{call_of, flags_behind};
+pub use command::{call_of, flags_behind, invocation_in};
 pub use invocation::{Flags, Invocation};
 pub use refusal::{complaint_of, not_text};

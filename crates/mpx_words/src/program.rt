@@ -14,9 +14,9 @@ pub(crate) fn program<'a>(alloc: Global) -> Result<Command<'a>, AllocError>
     with_command(
         with_command(
             with_command(bare_program(alloc)?, run(alloc))?,
-            plain(alloc, "eval", EVAL, STRICT),
+            plain(alloc, "eval", EVAL, STRICT, EXPLAIN),
         )?,
-        plain(alloc, "check", CHECK, CERTAIN),
+        plain(alloc, "check", CHECK, CERTAIN, EXPLAIN_CHECK),
     )
 }
 
@@ -42,10 +42,10 @@ pub(crate) fn named<'a>(alloc: Global, name: &[u8]) -> Result<Command<'a>, Alloc
         return run(alloc)?.bin_name("gossipmpi run");
     }
     if name == b"eval".as_slice() {
-        return plain(alloc, "eval", EVAL, STRICT)?.bin_name("gossipmpi eval");
+        return plain(alloc, "eval", EVAL, STRICT, EXPLAIN)?.bin_name("gossipmpi eval");
     }
     if name == b"check".as_slice() {
-        return plain(alloc, "check", CHECK, CERTAIN)?.bin_name("gossipmpi check");
+        return plain(alloc, "check", CHECK, CERTAIN, EXPLAIN_CHECK)?.bin_name("gossipmpi check");
     }
     program(alloc)
 }
@@ -62,7 +62,7 @@ fn bare_program<'a>(alloc: Global) -> Result<Command<'a>, AllocError>
 {
     Command::new(alloc, "gossipmpi")
         .about("Run, evaluate or check a text script of MPI collectives for up to 64 ranks")
-        .version("0.1.0")
+        .version("0.2.0")
         .subcommand_required(true)
         .arg_required_else_help(true)
         .bin_name("gossipmpi")
@@ -98,6 +98,7 @@ fn with_run_flags<'a>(alloc: Global) -> Result<Command<'a>, AllocError>
         "run",
         "Run the script on the standard input (gossipmpi run < SCRIPT) and print what each rank gets",
         STRICT,
+        EXPLAIN,
     )?
     .after_help(
         "An option that has a number is followed by it: --seed 7, or --seed=7. The script says how many ranks there are.",
@@ -113,13 +114,14 @@ fn plain<'a>(
     name: &'a str,
     about: &'a str,
     strict: &'a str,
+    explain: &'a str,
 ) -> Result<Command<'a>, AllocError>
     ensures shape { IfOk result (λ c. shape_of c ≡ plain name.entry.now) }
     ensures local { IfOk result (λ c. (fields_of c).has_globals ≡ false) }
 {
     bare(alloc, name, about)
         .arg(flag(alloc, "strict", strict))?
-        .arg(flag(alloc, "explain", EXPLAIN))
+        .arg(flag(alloc, "explain", explain))
 }
 
 const STRICT: &str = "Exit with status 6 where the script has a call that is refused or is a fault";
@@ -128,6 +130,9 @@ const CERTAIN: &str = "Exit with status 6 where a call on world is refused for c
 
 const EXPLAIN: &str =
     "Tell more on the standard error: what is wrong with the script, and why a run ended";
+
+const EXPLAIN_CHECK: &str =
+    "Tell more on the standard error: what is wrong with the script, and which calls on world are refused for certain";
 
 const TRACE: &str =
     "Tell each event on the standard error: what is sent, lost and taken, and what ranks get; not with --threads";

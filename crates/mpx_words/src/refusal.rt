@@ -104,7 +104,7 @@ fn is_of(option: &[u8], name: &[u8], joined: &[u8]) -> bool
 }
 
 // What an option is followed by.
-fn limits_of(option: &[u8]) -> &'static str
+pub(crate) fn limits_of(option: &[u8]) -> &'static str
     ensures { result.now ≡ limits_of option.now }
 {
     if is_of(option, b"--seed", b"--seed=") {

@@ -1,0 +1,187 @@
+//! What is told of a refused line beside its refusal: which word is missing, one too many or wrong, and what was meant, perhaps.
+
+use crate::blame::{Blamed, Line, blamed_at, line_in, missing_part, place_of};
+use crate::forms::{Form, Misfit, form_of, misfit_of};
+use crate::meant::meant;
+use join_core::OutOfMemory;
+use mpx_num::Ops;
+use mpx_script::{ReadScriptError, ScriptError, ScriptFault, read_script};
+use std::alloc::Global;
+
+// A word of more bytes than these is not shown.
+const MOST_LETTERS: usize = 64;
+
+/// What is told of the line that a script is refused for, where anything is.
+pub(crate) fn detail_of(
+    alloc: Global,
+    text: &[u8],
+    refusal: ScriptError,
+    ops: &Ops,
+) -> Result<Option<String>, OutOfMemory> {
+    let Some(line) = line_in(alloc, text, refusal.line)? else {
+        return Ok(None);
+    };
+    let told = told_of(alloc, &line, refusal.what, ops);
+    drop(line);
+    told
+}
+
+fn told_of(
+    alloc: Global,
+    line: &Line<'_>,
+    what: ScriptFault,
+    ops: &Ops,
+) -> Result<Option<String>, OutOfMemory> {
+    match what {
+        ScriptFault::NotAscii | ScriptFault::TooLarge | ScriptFault::NoRanksLine => Ok(None),
+        ScriptFault::RanksOutOfRange
+        | ScriptFault::RankOutOfRange
+        | ScriptFault::NameUnknown
+        | ScriptFault::NameTaken => wrong_word(alloc, line, what, ops),
+        ScriptFault::WrongWords
+        | ScriptFault::UnknownStatement
+        | ScriptFault::BadNumber
+        | ScriptFault::BadList
+        | ScriptFault::BadName => {
+            let words = line.words.as_slice();
+            let Some((part, place)) = missing_part(alloc, words, ops)? else {
+                return wrong_line(alloc, line, what, ops);
+            };
+            by_form(alloc, words, Misfit::Missing(part, place))
+        }
+    }
+}
+
+// What is told of a line that lacks no part that another one can't be taken for.
+fn wrong_line(
+    alloc: Global,
+    line: &Line<'_>,
+    what: ScriptFault,
+    ops: &Ops,
+) -> Result<Option<String>, OutOfMemory> {
+    if what != ScriptFault::WrongWords {
+        return wrong_word(alloc, line, what, ops);
+    }
+    let words = line.words.as_slice();
+    let Some(form) = form_in(words) else {
+        return Ok(None);
+    };
+    match misfit_of(form, words) {
+        Some(misfit) => by_form(alloc, words, misfit),
+        None => Ok(None),
+    }
+}
+
+// The form of a line's statement.
+fn form_in(words: &[&str]) -> Option<Form> {
+    form_of(words.get(1)?)
+}
+
+// How a line differs from its statement's form, behind that.
+fn by_form(alloc: Global, words: &[&str], misfit: Misfit) -> Result<Option<String>, OutOfMemory> {
+    let (Some(form), Some(statement)) = (form_in(words), words.get(1)) else {
+        return Ok(None);
+    };
+    let (parts, behind) = (form.parts, if form.starts { " -> D" } else { "" });
+    let mut told = format!(in alloc; "{statement} {parts}{behind}: ")?;
+    match misfit {
+        Misfit::Missing(part, place) => {
+            told.push_str(part)?;
+            told.push_str(" is missing")?;
+            push_shown(words, place, " before ", &mut told)?;
+        }
+        Misfit::Surplus(place) => {
+            told.push_str("a word too many")?;
+            push_shown(words, place, ": ", &mut told)?;
+        }
+        Misfit::Joined(_) => told.push_str("a blank is missing behind ->")?,
+    }
+    Ok(Some(told))
+}
+
+// Adds the word at this place of a line, where it can be shown.
+fn push_shown(
+    words: &[&str],
+    place: usize,
+    between: &str,
+    told: &mut String,
+) -> Result<(), OutOfMemory> {
+    if let Some(word) = words.get(place) {
+        if is_shown(word.as_bytes()) {
+            told.push_str(between)?;
+            told.push_str(word)?;
+        }
+    }
+    Ok(())
+}
+
+/// Whether a word can be shown: one of few letters that are seen.
+pub(crate) fn is_shown(word: &[u8]) -> bool {
+    word.len() <= MOST_LETTERS && word.iter().all(|byte| 33 <= *byte && *byte <= 126)
+}
+
+// The word that is to blame, and why.
+fn wrong_word(
+    alloc: Global,
+    line: &Line<'_>,
+    what: ScriptFault,
+    ops: &Ops,
+) -> Result<Option<String>, OutOfMemory> {
+    let Some(place) = place_of(alloc, line, what, ops)? else {
+        return Ok(None);
+    };
+    let Some(blamed) = blamed_at(alloc, line, place)? else {
+        return Ok(None);
+    };
+    if !is_shown(blamed.word.as_bytes()) {
+        return Ok(None);
+    }
+    let why = why_of(alloc, line, what, &blamed, ops)?;
+    let (place, word) = (blamed.place, blamed.word.as_str());
+    let more = match &why {
+        Some(why) => why.as_str(),
+        None => "",
+    };
+    let between = if more.is_empty() { "" } else { "; " };
+    Ok(Some(format!(in alloc; "word {place}: {word}{between}{more}")?))
+}
+
+// What was meant by a word, perhaps, or its limits.
+fn why_of(
+    alloc: Global,
+    line: &Line<'_>,
+    what: ScriptFault,
+    blamed: &Blamed,
+    ops: &Ops,
+) -> Result<Option<String>, OutOfMemory> {
+    match what {
+        // (a line's second word is its statement)
+        ScriptFault::UnknownStatement => meant(alloc, blamed.word.as_str(), blamed.place == 2),
+        ScriptFault::RanksOutOfRange => {
+            Ok(Some(String::from_str(alloc, "there are 1 to 64 ranks")?))
+        }
+        ScriptFault::RankOutOfRange => last_rank(alloc, line, ops),
+        _ => Ok(None),
+    }
+}
+
+// Which ranks there are, by the lines before.
+fn last_rank(alloc: Global, line: &Line<'_>, ops: &Ops) -> Result<Option<String>, OutOfMemory> {
+    match read_script(alloc, line.before.as_bytes(), ops) {
+        Ok(script) => {
+            let ranks = script.ranks();
+            drop(script);
+            Ok(Some(ranks_of(alloc, ranks)?))
+        }
+        Err(ReadScriptError::Refused(_)) => Ok(None),
+        Err(ReadScriptError::OutOfMemory) => Err(OutOfMemory),
+    }
+}
+
+fn ranks_of(alloc: Global, ranks: u8) -> Result<String, OutOfMemory> {
+    if ranks == 1 {
+        return Ok(String::from_str(alloc, "there is rank 0 alone")?);
+    }
+    let last = ranks.saturating_sub(1);
+    Ok(format!(in alloc; "there are ranks 0 to {last}")?)
+}

@@ -1,0 +1,191 @@
+//! Which calls a rank's statements have made, by their contexts and numbers there.
+
+use join_core::{Exact, OutOfMemory};
+use mpx_group::Proc;
+use mpx_name::Name;
+use mpx_node::Node;
+use mpx_post::Gathering;
+use mpx_script::{Posting, Statement, Word};
+use mpx_value::Outcome;
+use std::alloc::Global;
+use std::collections::BTreeMap;
+
+/// A call that a rank waits for, by its request where it has one.
+#[derive(Drop)]
+pub(crate) struct Awaited {
+    pub(crate) request: Option<Word>,
+    pub(crate) name: Name,
+    pub(crate) call: u32,
+}
+
+/// What a rank's words stand for behind some of its statements: communicators, open requests, and how many calls each context has.
+#[derive(Drop)]
+pub(crate) struct Walk {
+    names: BTreeMap<Word, Name>,
+    open: BTreeMap<Word, (Name, u32)>,
+    counts: BTreeMap<Name, u32>,
+}
+
+impl Walk {
+    /// Before all statements.
+    pub(crate) fn new(alloc: Global) -> Result<Walk, OutOfMemory> {
+        let mut names = BTreeMap::new(alloc);
+        names.insert(Word::new(alloc, b"world")?, Name::world(alloc))?;
+        Ok(Walk {
+            names,
+            open: BTreeMap::new(alloc),
+            counts: BTreeMap::new(alloc),
+        })
+    }
+
+    /// Behind a statement that wasn't refused, by the results that the rank's node keeps.
+    pub(crate) fn pass(
+        &mut self,
+        alloc: Global,
+        node: &Node,
+        statement: &Statement,
+    ) -> Result<(), OutOfMemory> {
+        match statement {
+            Statement::Post(posting) => self.post(alloc, node, posting),
+            Statement::Wait(words) => {
+                for word in words.as_slice() {
+                    let _ = self.open.remove(word);
+                }
+                Ok(())
+            }
+            Statement::Ask(_) => Ok(()),
+        }
+    }
+
+    /// The calls that a statement waits for, where it is next. They aren't told where a communicator isn't known any more.
+    pub(crate) fn awaited(
+        &mut self,
+        alloc: Global,
+        node: &Node,
+        statement: &Statement,
+    ) -> Result<Vec<Awaited>, OutOfMemory> {
+        let mut found = Vec::new(alloc);
+        match statement {
+            Statement::Post(posting) => {
+                if let Some((name, call)) = self.call_of(alloc, node, posting)? {
+                    found.push(Awaited {
+                        request: None,
+                        name,
+                        call,
+                    })?;
+                }
+            }
+            Statement::Wait(words) => {
+                for word in words.as_slice() {
+                    self.push_open(alloc, word, &mut found)?;
+                }
+            }
+            Statement::Ask(_) => {}
+        }
+        Ok(found)
+    }
+
+    // Adds the call of a request, where it is open, and closes it.
+    fn push_open(
+        &mut self,
+        alloc: Global,
+        word: &Word,
+        found: &mut Vec<Awaited>,
+    ) -> Result<(), OutOfMemory> {
+        if let Some((name, call)) = self.open.remove(word) {
+            let request = Some(word.copy(alloc)?);
+            found.push(Awaited {
+                request,
+                name,
+                call,
+            })?;
+        }
+        Ok(())
+    }
+
+    // Behind a call that wasn't refused.
+    fn post(&mut self, alloc: Global, node: &Node, posting: &Posting) -> Result<(), OutOfMemory> {
+        let Some((name, call)) = self.call_of(alloc, node, posting)? else {
+            return Ok(());
+        };
+        self.counts
+            .insert(name.copy(alloc)?, call.saturating_add(1))?;
+        if let Some(target) = posting.target() {
+            return self.bind(alloc, node, target, &name, call);
+        }
+        if let Some(request) = posting.request() {
+            self.open.insert(request.copy(alloc)?, (name, call))?;
+        }
+        Ok(())
+    }
+
+    // The word stands for the communicator that a call gave, where it gave one.
+    fn bind(
+        &mut self,
+        alloc: Global,
+        node: &Node,
+        target: &Word,
+        name: &Name,
+        call: u32,
+    ) -> Result<(), OutOfMemory> {
+        let Some(finished) = node.result(name, call) else {
+            return Ok(());
+        };
+        if let Outcome::NewComm { name, .. } = &finished.outcome {
+            self.names.insert(target.copy(alloc)?, name.copy(alloc)?)?;
+        }
+        Ok(())
+    }
+
+    // The context of a call, and its number there.
+    fn call_of(
+        &self,
+        alloc: Global,
+        node: &Node,
+        posting: &Posting,
+    ) -> Result<Option<(Name, u32)>, OutOfMemory> {
+        let Some(on) = self.names.get(posting.on()) else {
+            return Ok(None);
+        };
+        let name = match posting {
+            Posting::CreateGroup { tag, ranks, .. } => {
+                match gathering_of(alloc, node, on, *tag, ranks.as_slice())? {
+                    Some(name) => name,
+                    None => return Ok(None),
+                }
+            }
+            _ => on.copy(alloc)?,
+        };
+        let call = self.counts.get(&name).copied().unwrap_or(0);
+        Ok(Some((name, call)))
+    }
+}
+
+// The gathering of the members with these ranks of a communicator, under this tag.
+fn gathering_of(
+    alloc: Global,
+    node: &Node,
+    parent: &Name,
+    tag: i128,
+    ranks: &[i128],
+) -> Result<Option<Name>, OutOfMemory> {
+    let Some(birth) = node.board().birth(parent) else {
+        return Ok(None);
+    };
+    let Some(me) = first_of(birth.members(), ranks) else {
+        return Ok(None);
+    };
+    let Ok(gathering) = Gathering::check(alloc, birth, me, parent.depth(), false, tag, ranks) else {
+        return Ok(None);
+    };
+    match parent.gathering(alloc, gathering.tag(), gathering.members()) {
+        Ok(name) => Ok(Some(name)),
+        Err(_) => Ok(None),
+    }
+}
+
+// The member with the first of these ranks.
+fn first_of(members: &[Proc], ranks: &[i128]) -> Option<Proc> {
+    let rank = usize::try_from(*ranks.first()?).ok()?;
+    members.get(rank).copied()
+}

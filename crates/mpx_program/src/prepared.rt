@@ -1,0 +1,116 @@
+//! A call's script, which is read once, and examined once at most.
+ghost use Rattle.std.specs.Prelude.{◌≡◌, Err, IfErr, IfOk, Ok, Option, List, ℕ};
+ghost use Rattle.mpx_script.specs.Reading.{reading};
+ghost use Rattle.mpx_run.specs.Founded.{IsFounded};
+ghost use Rattle.mpx_run.specs.Texts.{PrintsUngated};
+ghost use Rattle.mpx_program.specs.Jobs.{FailsBefore, IsPrepared};
+ghost use Rattle.mpx_program.specs.Strict.{IsStrict};
+
+use crate::explaining::explained_refusals;
+use crate::found::{Examined, Found, examined};
+use join_core::OutOfMemory;
+use mpx_num::{Listing, Ops};
+use mpx_run::{RunError, read_bytes};
+use mpx_script::{ReadScriptError, Script, read_script};
+use mpx_words::Invocation;
+use std::alloc::Global;
+use std::io::Read;
+
+/// What a job needs of its script.
+#[derive(Drop)]
+pub(crate) struct Prepared {
+    pub(crate) text: Vec<u8>,
+    pub(crate) script: Script,
+    pub(crate) found: Found,
+    /// Whether the status tells that the script has a call that is refused or is a fault.
+    pub(crate) complains: bool,
+}
+
+/// Why there is none, and what `--explain` tells of it.
+#[derive(Drop)]
+pub(crate) struct Failed {
+    pub(crate) error: RunError,
+    pub(crate) more: Vec<u8>,
+}
+
+/// Reads the text of a call's script, and the script, and finds what `--strict` and `--explain` ask for.
+pub(crate) fn prepared<R: Read>(
+    alloc: Global,
+    call: &Invocation,
+    reader: &mut R,
+    ops: &Ops,
+) -> Result<Prepared, Failed>
+    ensures ok { IfOk result (λ p. IsPrepared (⟦<Ops as Listing>⟧.operations ops.now) call.now (R.remaining reader.old) (R.remaining reader.new) p.text.items p.script p.complains) }
+    ensures err { IfErr result (λ f. FailsBefore (⟦<Ops as Listing>⟧.operations ops.now) call.now.job (R.remaining reader.old) (R.remaining reader.new) f.error) }
+{
+    let text = match read_bytes(alloc, reader) {
+        Ok(text) => text,
+        Err(fault) => return Err(without_more(alloc, RunError::from(fault))),
+    };
+    match with_script(alloc, call, &text, ops) {
+        Ok(read) => Ok(Prepared {
+            text,
+            script: read.script,
+            found: read.examined.found,
+            complains: read.examined.complains,
+        }),
+        Err(failed) => Err(failed),
+    }
+}
+
+// A script, and what was found in it.
+#[derive(Drop)]
+struct WithScript {
+    script: Script,
+    examined: Examined,
+}
+
+// The script that a text is, and what is found in it.
+fn with_script(
+    alloc: Global,
+    call: &Invocation,
+    text: &[u8],
+    ops: &Ops,
+) -> Result<WithScript, Failed>
+    ensures read { IfOk result (λ w. reading (⟦<Ops as Listing>⟧.operations ops.now) text.now ≡ Ok w.script) }
+    ensures strict { IfOk result (λ w. IsStrict (⟦<Ops as Listing>⟧.operations ops.now) call.now text.now w.examined.complains) }
+    ensures err { IfErr result (λ f. (old : Option (List ℕ)) → PrintsUngated IsFounded (⟦<Ops as Listing>⟧.operations ops.now) call.now.job text.now old old (Err f.error)) }
+{
+    match read_script(alloc, text, ops) {
+        Ok(script) => match examined(alloc, call, &script, ops) {
+            Ok(examined) => Ok(WithScript { script, examined }),
+            Err(OutOfMemory) => Err(without_more(alloc, RunError::Memory)),
+        },
+        Err(refused) => {
+            let more = refused_lines(alloc, call, &refused, text, ops);
+            Err(Failed {
+                error: RunError::from(refused),
+                more,
+            })
+        }
+    }
+}
+
+// What is explained of a refused script.
+fn refused_lines(
+    alloc: Global,
+    call: &Invocation,
+    refused: &ReadScriptError,
+    text: &[u8],
+    ops: &Ops,
+) -> Vec<u8> {
+    match refused {
+        ReadScriptError::Refused(_) => explained_refusals(alloc, call, text, ops),
+        ReadScriptError::OutOfMemory => Vec::new(alloc),
+    }
+}
+
+// An error of which nothing is explained.
+fn without_more(alloc: Global, error: RunError) -> Failed
+    ensures { result.error ≡ error }
+{
+    Failed {
+        error,
+        more: Vec::new(alloc),
+    }
+}
