@@ -11,11 +11,16 @@ ghost use Rattle.mpx_format.specs.Fields.{process, some_calls};
 ghost use Rattle.mpx_decode.specs.Raising.{JoinsFront, RaisesRows, StandsInFront, StopsBetween, row, rows};
 
 use crate::join_rows::raise_entry;
-use crate::process_numbers::front_row;
-use join_core::{Max, OutOfMemory};
+use crate::process_numbers::{front_row, read_rows};
+use join_core::{Join, Max, OutOfMemory};
+use join_nest::Keyed;
 use mpx_format::Version;
 use mpx_group::Proc;
 use mpx_rope::Source;
+use std::mem;
+
+// Where at least so many are new, they are read as a list, to which the taker's are joined: each that is put in moves all behind it.
+const FEWEST_NEW: usize = 4;
 
 // Joins so many numbers at the front, one after the other.
 pub fn raise_numbers<'a>(
@@ -33,6 +38,9 @@ pub fn raise_numbers<'a>(
         (keyed_view nat_cmp (λ n. n.0) entries.old.items) (keyed_view nat_cmp (λ n. n.0) entries.new.items)) }
     ensures rising { IsTrue (is_sorted nat_cmp entries.new.items) }
 {
+    if entries.len() + FEWEST_NEW <= count {
+        return merge_numbers(version, source, entries, count, bytes);
+    }
     let (done, behind) = raise_fours(entries, count, bytes);
     let mut next = done;
     let mut rest = behind;
@@ -42,6 +50,39 @@ pub fn raise_numbers<'a>(
         rest = left;
     }
     Ok(rest)
+}
+
+// Joins so many numbers at the front, in one pass over both: the taker's to those that are read.
+fn merge_numbers<'a>(
+    version: Version,
+    source: Source<'_>,
+    entries: &mut Vec<(Proc, Max)>,
+    count: usize,
+    bytes: &'a [u8],
+) -> Result<&'a [u8], OutOfMemory>
+    requires rising { IsTrue (is_sorted nat_cmp entries.old.items) }
+    requires spelled { StandsInFront (rows nat_cmp process some_calls count) bytes.now }
+    ensures ok { IfOk result (λ rest. JoinsFront (rows nat_cmp process some_calls count) (keyed_joining max_joining) bytes.now rest.now
+        (keyed_view nat_cmp (λ n. n.0) entries.old.items) (keyed_view nat_cmp (λ n. n.0) entries.new.items)) }
+    ensures err { OnErr result (StopsBetween (rows nat_cmp process some_calls count) (keyed_between (old_or_joined max_joining)) bytes.now
+        (keyed_view nat_cmp (λ n. n.0) entries.old.items) (keyed_view nat_cmp (λ n. n.0) entries.new.items)) }
+    ensures rising { IsTrue (is_sorted nat_cmp entries.new.items) }
+{
+    let Ok((read, rest)) = read_rows(version, source, count, bytes) else {
+        return Err(OutOfMemory);
+    };
+    let held = Keyed::from_rising(mem::replace(entries, Vec::new(source.alloc())));
+    let mut all = Keyed::from_rising(read);
+    match all.join_in(source.alloc(), &held) {
+        Err(e) => {
+            *entries = held.into_entries();
+            Err(e)
+        }
+        Ok(()) => {
+            *entries = all.into_entries();
+            Ok(rest)
+        }
+    }
 }
 
 // Joins fours of them, as long as they stand at the taker's first processes. Tells how many were joined, and the bytes after them.

@@ -1,7 +1,8 @@
 -- What a process says that it has, and what it gives of its board then.
-use Rattle.std.proofs.Common.{arith, ◌≡◌, ℕ, ◌≤◌, ◌==◌, max, true, cond, sym, ap, ◌∙◌, subst}
+use Rattle.std.proofs.Common.{arith, ◌≡◌, ℕ, ◌≤◌, ◌==◌, max, Bool, true, cond, sym, ap, ◌∙◌, subst}
 use Rattle.std.proofs.lemmas.Bool.Decides.{nat_tests}
 use Rattle.std.specs.FinMap.{get}
+use Rattle.join_core.specs.Cases.{answer, yes, no}
 use Rattle.mpx_name.specs.Name.{Name}
 use Rattle.mpx_board.specs.Boards.{Look, empty, join, own_acks}
 use Rattle.mpx_board.specs.Contexts.{look_of}
@@ -30,3 +31,24 @@ acknowledged me numbers old new digest learnt = record {
   learnt = learnt;
   own = λ name p. subst (λ (l : Look). numbers name p ≤ l.acks me name p) (sym learnt) (own_there me numbers old.acks name p);
 }
+
+-- what a process says with these numbers too, where they are its own
+abbrev with_own : Look → Numbers → ℕ → Name → ℕ → Bool → ℕ
+with_own b numbers q name p own = max (b.acks q name p) (cond own (numbers name p) 0)
+
+-- what adds as much to what the process says is said as the whole
+pub whole_said : (me : ℕ) (d whole : Numbers) (b : Look) → ((name : Name) (p : ℕ) → max (b.acks me name p) (d name p) ≡ max (b.acks me name p) (whole name p)) → join b (own_acks me d) ≡ join b (own_acks me whole)
+whole_said me d whole b same i = record { contexts = (join b (own_acks me d)).contexts; acks = λ q name p. at q name p i } where
+  is_me : (q : ℕ) → (q == me) ≡ true → q ≡ me
+  is_me q t = grind (arith, nat_tests)
+
+  at : (q : ℕ) (name : Name) (p : ℕ) → with_own b d q name p (q == me) ≡ with_own b whole q name p (q == me)
+  at q name p = elim (answer (q == me)) [
+    | no n ↦ ap (with_own b d q name p) n ∙ sym (ap (with_own b whole q name p) n)
+    | yes t ↦
+        ap (with_own b d q name p) t
+        ∙ ap (λ (r : ℕ). max (b.acks r name p) (d name p)) (is_me q t)
+        ∙ same name p
+        ∙ sym (ap (λ (r : ℕ). max (b.acks r name p) (whole name p)) (is_me q t))
+        ∙ sym (ap (with_own b whole q name p) t)
+  ]

@@ -18,7 +18,7 @@ use crate::posted::common_of_posts;
 use join_core::{OutOfMemory, Pair};
 use join_nest::Keyed;
 use mpx_board::{Acks, Board, Raised};
-use mpx_digest::digest_of;
+use mpx_digest::digest_beyond;
 use mpx_encode::{EncodeError, encode_over, encode_rope, keep};
 use mpx_format::Kept;
 use mpx_group::Proc;
@@ -54,7 +54,7 @@ pub fn new_frames(
     ensures kept { AreKept kept.new.of.items (parts_of board.new).1 }
     ensures made { IfOk result (λ made. AreLacking me processes limit (look board.old) made.said made.frames.items) }
 {
-    let digest = digest_of(alloc, board)?;
+    let digest = digest_beyond(alloc, board, me)?;
     let before = board.say(alloc, me, &digest)?;
     kept.forget_said(&before);
     let made = kept_frames(alloc, board, processes, limit, spare, kept);

@@ -1,7 +1,6 @@
 //! What all processes say that they have.
 ghost use Rattle.std.specs.Prelude.{◌≡◌, ◌<◌, ◌≤◌, ℕ, IfOk, IsTrue, min};
 ghost use Rattle.std.specs.FinMap.{get};
-ghost use Rattle.std.specs.Option.{option_copied, option_map};
 ghost use Rattle.mpx_name.specs.Name.{Name as NameView};
 ghost use Rattle.mpx_board.specs.Looks.{look};
 ghost use Rattle.mpx_board.specs.Tidy.{are_tidy_numbers};
@@ -14,6 +13,7 @@ ghost use Rattle.mpx_delta.specs.Least.{least, least_number, least_numbers};
 use join_core::{Exact, Join, Key, Max, OutOfMemory};
 use join_nest::Keyed;
 use mpx_board::{Acks, Board, VersionVector};
+use mpx_digest::value_near;
 use mpx_group::Proc;
 use mpx_name::Name;
 use std::alloc::Global;
@@ -125,18 +125,4 @@ pub fn place_from<K: Key, J>(entries: &[(K, J)], from: usize, key: &K) -> usize 
         at += 1;
     }
     at
-}
-
-// The value at the key: it is looked for at the place first.
-pub fn value_near<'a, K: Key, J: Exact>(map: &'a Keyed<K, J>, at: usize, key: &K) -> Option<&'a J>
-    ensures { option_map J.view (option_copied result) ≡ get (⟦<Keyed<K, J> as Exact>⟧.view map.now) key.now }
-{
-    let entries = map.entries();
-    if at < entries.len() {
-        let entry = &entries[at];
-        if let Ordering::Equal = entry.0.cmp(key) {
-            return Some(&entry.1);
-        }
-    }
-    map.get(key)
 }

@@ -3,14 +3,15 @@ ghost use Rattle.std.specs.Prelude.{◌≡◌, ◌-◌, ◌<◌, ◌≤◌, IfOk
 ghost use Rattle.std.specs.Option.{option_copied, option_map};
 ghost use Rattle.mpx_board.specs.Looks.{look, parts_of};
 ghost use Rattle.mpx_board.specs.Views.{view_of_acks, view_of_all_acks, view_of_lifted, view_of_numbers};
-ghost use Rattle.mpx_digest.specs.Digest.{number_at, numbers_acked};
+ghost use Rattle.mpx_digest.specs.Digest.{numbers_acked};
 ghost use Rattle.mpx_delta.specs.Digests.{common_on, without};
 ghost use Rattle.mpx_delta.specs.Posted.{above, least_above, least_posted, lesser, said_on};
 
-use crate::least::{place_from, value_near};
+use crate::least::place_from;
 use join_core::{Exact, Max, OutOfMemory};
 use join_nest::{Keyed, Lift};
 use mpx_board::{Acks, Board, Lifted, VersionVector};
+use mpx_digest::{number_near, value_near};
 use mpx_group::Proc;
 use mpx_name::Name;
 use std::alloc::Global;
@@ -127,7 +128,7 @@ fn said_on<'a>(
 ) -> Option<&'a VersionVector>
     ensures { option_map view_of_numbers (option_copied result) ≡ said_on (view_of_all_acks acks.now) name.now process }
 {
-    match acks.get(&process) {
+    match value_near(acks, process.number() as usize, &process) {
         None => None,
         Some(names) => value_near(names, near, name),
     }
@@ -137,7 +138,7 @@ fn said_on<'a>(
 fn above(alloc: Global, numbers: &VersionVector, call: u32) -> Result<VersionVector, OutOfMemory>
     ensures { IfOk result (λ made. view_of_numbers made ≡ above call (Some (view_of_numbers numbers.now))) }
 {
-    let mut made = Vec::new(alloc);
+    let mut made = Vec::with_capacity(alloc, numbers.len())?;
     for (process, number) in numbers.entries() {
         if call < number.0 {
             made.push((*process, *number))?;
@@ -155,7 +156,7 @@ fn lesser(
 ) -> Result<VersionVector, OutOfMemory>
     ensures { IfOk result (λ made. view_of_numbers made ≡ lesser call (view_of_numbers numbers.now) (Some (view_of_numbers others.now))) }
 {
-    let mut made = Vec::new(alloc);
+    let mut made = Vec::with_capacity(alloc, numbers.len())?;
     let mut at = 0;
     for (process, number) in numbers.entries() {
         at = place_from(others.entries(), at, process);
@@ -165,14 +166,4 @@ fn lesser(
         }
     }
     Ok(Keyed::from_rising(made))
-}
-
-// The number of the process, which is looked for at the place first: 0 where there is none.
-fn number_near(numbers: &VersionVector, at: usize, process: Proc) -> u32
-    ensures { result ≡ number_at (view_of_numbers numbers.now) process }
-{
-    match value_near(numbers, at, &process) {
-        None => 0,
-        Some(number) => number.0,
-    }
 }

@@ -182,7 +182,7 @@ module _ (e : EntryView) where
   number_where p true = or_zero_back (digest_number e p)
   number_where p false = refl
 
-  digest_at : (p : ℕ) → number_acked p (unless_bare (digest_numbers e)) ≡ cond (nat_lt p 64) (digest_number e p) 0
+  pub digest_at : (p : ℕ) → number_acked p (unless_bare (digest_numbers e)) ≡ cond (nat_lt p 64) (digest_number e p) 0
   digest_at p = bare_number (digest_numbers e) p ∙ ap or_zero (get_number p) ∙ number_where p (nat_lt p 64)
 
 -- WHO IS LISTED
@@ -295,7 +295,7 @@ others_in (Some (live e)) p more =
       ]
     ]
 
-get_digest : (v : PartsView) (name : Name) → get (digest_parts v) name ≡ option_and_then (λ l. unless_bare (digest_lifted l)) (get v.0 name)
+pub get_digest : (v : PartsView) (name : Name) → get (digest_parts v) name ≡ option_and_then (λ l. unless_bare (digest_lifted l)) (get v.0 name)
 get_digest v name = get_keep name_cmp (λ name l. unless_bare (digest_lifted l)) name_total name_exact v.0 name
 
 pub digest_is : (v : PartsView) → IsDigest (numbers_acked (digest_parts v)) (look_of v)
@@ -316,7 +316,7 @@ numbers_some e = get_entries nat_cmp_total nat_cmp-IsAntisymmetric (λ p n. nat_
   some_number p n true is = above_zero (digest_number e p) n (nat_lt 0 (digest_number e p)) refl is
   some_number p n false is = cc is
 
-lifted_some : (l : LiftedView) → has_no_zero (digest_lifted l) ≡ true
+pub lifted_some : (l : LiftedView) → has_no_zero (digest_lifted l) ≡ true
 lifted_some (live e) = numbers_some e
 lifted_some dead = all_empty nat_cmp_total nat_cmp-IsAntisymmetric (λ p n. nat_lt 0 n)
 

@@ -4,3 +4,4 @@ pub mod Bare
 pub mod Reaching
 pub mod Passing
 pub mod Gaps
+pub mod Saying

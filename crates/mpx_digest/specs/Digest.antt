@@ -1,5 +1,5 @@
 -- How many calls of each process a board knows, in order.
-use Rattle.std.specs.Prelude.{◌≡◌, ◌≢◌, ◌<◌, ℕ, Bool, true, false, slice_get, Some}
+use Rattle.std.specs.Prelude.{◌≡◌, ◌≢◌, ◌<◌, ℕ, max, Bool, true, false, slice_get, Some}
 use Rattle.std.specs.FinMap.{get}
 use Rattle.join_core.specs.Flat.{unknown, known}
 use Rattle.mpx_name.specs.Name.{Name}
@@ -29,3 +29,9 @@ pub data IsListed (c : Context) (p : ℕ) : Type 0 where
 pub record IsDigest (d : Numbers) (b : Look) : Type 0 where
   pub listed : (name : Name) (p : ℕ) → p < 64 → IsListed (b.contexts name) p → IsFirstGap (λ k. is_posted (b.contexts name) k p) (d name p)
   pub others : (name : Name) (p : ℕ) → 0 < d name p → (p < 64) × IsListed (b.contexts name) p
+
+-- with what the process says already, these are as much as a digest
+pub record IsDigestBeyond (me : ℕ) (d : Numbers) (b : Look) : Type 0 where
+  pub whole : Numbers
+  pub digest : IsDigest whole b
+  pub same : (name : Name) (p : ℕ) → max (b.acks me name p) (d name p) ≡ max (b.acks me name p) (whole name p)

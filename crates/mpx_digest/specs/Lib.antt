@@ -1,3 +1,4 @@
+pub mod Beyond
 pub mod Keep
 pub mod Digest
 pub mod Reach

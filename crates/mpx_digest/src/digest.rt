@@ -8,9 +8,11 @@ ghost use Rattle.mpx_board.specs.Tidy.{all_entries, are_tidy_numbers, is_tidy_ca
 ghost use Rattle.mpx_board.specs.Views.{view_of_acks, view_of_call, view_of_calls, view_of_entry, view_of_lifted, view_of_numbers};
 ghost use Rattle.mpx_group.specs.Group.{has};
 ghost use Rattle.mpx_post.specs.Drafts.{most_calls};
-ghost use Rattle.mpx_digest.specs.Digest.{IsDigest, numbers_acked};
+ghost use Rattle.mpx_digest.specs.Beyond.{digest_above, numbers_above};
+ghost use Rattle.mpx_digest.specs.Digest.{IsDigest, IsDigestBeyond, numbers_acked};
 ghost use Rattle.mpx_digest.specs.Reach.{AreMarks, digest_lifted, digest_numbers, has_posted, is_member_of, is_told_of, next_number, reach};
 
+use crate::quiet::says_all;
 use join_core::{Exact, Flat, Max, OutOfMemory};
 use join_nest::{Keyed, Lift, Trunc};
 use mpx_birth::Birth;
@@ -35,6 +37,50 @@ pub fn digest_of(alloc: Global, board: &Board) -> Result<Acks, OutOfMemory>
     Ok(Keyed::from_rising(made))
 }
 
+/// As [`digest_of`], without contexts that have no post held and of which the process says as much already. An `Err` is want of memory.
+pub fn digest_beyond(alloc: Global, board: &Board, me: Proc) -> Result<Acks, OutOfMemory>
+    ensures digest { IfOk result (λ made. IsDigestBeyond me (numbers_acked (view_of_acks made)) (look board.now)) }
+    ensures tidy { IfOk result (λ made. IsTrue (are_tidy_numbers (view_of_acks made))) }
+{
+    match board.pair().second.get(&me) {
+        None => digest_of(alloc, board),
+        Some(said) => digest_above(alloc, board, said),
+    }
+}
+
+// The digest, without quiet contexts of which these say as much.
+fn digest_above(alloc: Global, board: &Board, said: &Acks) -> Result<Acks, OutOfMemory>
+    ensures { IfOk result (λ made. view_of_acks made ≡ digest_above (view_of_acks said.now) (parts_of board.now)) }
+{
+    let mut made = Vec::new(alloc);
+    let mut near = 0usize;
+    for (name, known) in board.pair().first.entries() {
+        let numbers = numbers_above(alloc, said, near, name, known)?;
+        if !numbers.is_empty() {
+            made.push((name.copy(alloc)?, numbers))?;
+        }
+        near = near.wrapping_add(1);
+    }
+    Ok(Keyed::from_rising(made))
+}
+
+// The digest of one context, whose name is looked for at the place first: empty where these say as much.
+fn numbers_above(
+    alloc: Global,
+    said: &Acks,
+    near: usize,
+    name: &Name,
+    known: &Lifted,
+) -> Result<VersionVector, OutOfMemory>
+    requires { is_tidy_lifted (view_of_lifted known.now) ≡ true }
+    ensures { IfOk result (λ made. view_of_numbers made ≡ numbers_above (view_of_acks said.now) name.now (view_of_lifted known.now)) }
+{
+    if says_all(said, near, name, known) {
+        return Ok(Keyed::new(alloc));
+    }
+    lifted_digest(alloc, known)
+}
+
 // The digest of one context: for each process how many calls are told or dropped in order. Of a dead one it is empty.
 fn lifted_digest(alloc: Global, known: &Lifted) -> Result<VersionVector, OutOfMemory>
     requires { is_tidy_lifted (view_of_lifted known.now) ≡ true }
@@ -54,7 +100,7 @@ fn entry_digest(alloc: Global, entry: &Entry) -> Result<VersionVector, OutOfMemo
     let are_members = members_of(&entry.first);
     let have_posted = posters_of(&entry.second.second);
     let reached = reaches(&entry.second.second);
-    let mut made = Vec::new(alloc);
+    let mut made = Vec::with_capacity(alloc, most_of(&entry.first))?;
     for process in 0..64 {
         let number = digest_number(&are_members, &have_posted, &reached, process);
         if number != 0 {
@@ -62,6 +108,14 @@ fn entry_digest(alloc: Global, entry: &Entry) -> Result<VersionVector, OutOfMemo
         }
     }
     Ok(Keyed::from_rising(made))
+}
+
+// So many members, where these are known.
+fn most_of(birth: &Flat<Birth>) -> usize {
+    match birth {
+        Flat::Known(birth) => birth.members().len(),
+        _ => 0,
+    }
 }
 
 // How far the process has come, where it is a member or has a post.

@@ -5,7 +5,7 @@ use Rattle.std.specs.FinMap.{find, get-entries}
 use Rattle.join_nest.specs.Seen.{keyed_view}
 use Rattle.join_nest.proofs.Places.{find_at, holds}
 use Rattle.join_nest.proofs.Steps.{find_seen}
-use Rattle.mpx_delta.proofs.least.value_near.Goals as goal
+use Rattle.mpx_digest.proofs.quiet.value_near.Goals as goal
 
 pub returns-in-Equal : goal.returns-in-Equal
 returns-in-Equal g c =
