@@ -1,5 +1,5 @@
 -- With what a process says, what it doesn't say yet is a digest.
-use Rattle.std.proofs.Common.{arith, ◌≡◌, ℕ, ◌≤◌, ◌<◌, ◌==◌, ◌||◌, ◌&&◌, Bool, true, false, cond, max, List, [], ◌∷◌, Option, Some, None, refl, sym, ap, ◌∙◌, subst}
+use Rattle.std.proofs.Common.{arith, ◌≡◌, ℕ, ◌≤◌, ◌==◌, ◌||◌, Bool, true, false, cond, max, List, [], ◌∷◌, Option, Some, None, refl, sym, ap, ◌∙◌, subst}
 use Rattle.std.specs.Prelude.{nat_eq, nat_le, nat_lt, option_and_then}
 use Rattle.std.proofs.lemmas.Bool.Decides.{nat_tests}
 use Rattle.std.specs.FinMap.{empty as no_entry, entries, get, get-empty}
@@ -13,11 +13,11 @@ use Rattle.mpx_board.specs.Boards.{Look, told}
 use Rattle.mpx_board.specs.Contexts.{ack_in, look_of, number_acked, numbers_acked, or_zero}
 use Rattle.mpx_board.specs.Parts.{AcksView, CallView, EntryView, LiftedView, OfProcesses, PartsView}
 use Rattle.mpx_board.specs.Tidy.{are_tidy_numbers, has_no_zero, is_tidy_numbers}
-use Rattle.mpx_board.proofs.Entries.{all_empty, get_entries}
+use Rattle.mpx_board.proofs.Entries.{get_entries}
 use Rattle.mpx_digest.specs.Beyond.{digest_above, have_all, numbers_above, says_all, says_dropped, says_members, says_quiet}
 use Rattle.mpx_digest.specs.Digest.{IsDigest, IsDigestBeyond, number_at}
 use Rattle.mpx_digest.specs.Keep.{unless_bare}
-use Rattle.mpx_digest.specs.Reach.{digest_lifted, digest_number, digest_numbers, digest_parts, has_posted, is_member_of, reach}
+use Rattle.mpx_digest.specs.Reach.{digest_lifted, digest_number, digest_parts, has_posted, is_member_of, reach}
 use Rattle.mpx_digest.proofs.Bare.{bare_number, unless_bare_tidy}
 use Rattle.mpx_digest.proofs.Gaps.{digest_at, digest_is, get_digest, lifted_some}
 use Rattle.mpx_digest.proofs.Kept.{get_keep}
