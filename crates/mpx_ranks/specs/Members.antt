@@ -3,11 +3,13 @@ use Rattle.std.specs.Prelude.{◌≡◌, ◌⊎◌, ℕ, Bool, List, [], false, 
 use Rattle.std.proofs.Common.{refl, ◌∙◌}
 use Rattle.atomic_table.specs.Seated.{TableId}
 use Rattle.mpx_num.specs.declared.own.Operation.{Operation}
-use Rattle.mpx_bus.specs.Answers.{Wants}
+use Rattle.mpx_bus.specs.Answers.{PushesNext, Wants}
 use Rattle.mpx_bus.specs.declared.act.Setup.{Setup}
 use Rattle.mpx_bus.specs.declared.port.Pop.{Pop}
 use Rattle.mpx_bus.specs.declared.port.Pop.TheVariants as O
-use Rattle.mpx_bus.specs.Ports.{IsSamePort, PortView}
+use Rattle.mpx_bus.specs.declared.port.Push.{Push}
+use Rattle.mpx_bus.specs.Ports.{IsSamePort, PortView, node_in}
+use Rattle.mpx_comm.specs.Later.{Later}
 
 -- no queue
 abbrev pub no_table : TableId
@@ -32,6 +34,10 @@ wanted_memory (O.OutOfMemory frame) = true
 -- memory was wanting: for the part of a frame that was popped first; or for a new list, and then the port keeps none
 abbrev pub HasWanted : PortView → PortView → Type 0
 HasWanted old new = ((bytes : List ℕ) × (popped : PortView) × Wants bytes old popped) ⊎ (new.kept ≡ [])
+
+-- behind what it took it pushed what is next
+abbrev pub PushesOnce : PortView → PortView → Type 0
+PushesOnce old new = (push : Push) × (popped : PortView) × Later (node_in old) (node_in popped) × PushesNext 1048576 push popped new
 
 -- ONE PORT
 

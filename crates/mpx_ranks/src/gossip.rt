@@ -2,10 +2,9 @@
 ghost use Rattle.std.specs.Prelude.{◌≡◌, ◌||◌, [], false, is_err, IfOk, OnErr, OnOk};
 ghost use Rattle.mpx_bus.specs.Answers.{PopsOne, PushesNext};
 ghost use Rattle.mpx_bus.specs.Buses.{table_of};
-ghost use Rattle.mpx_bus.specs.declared.port.Push.{Push};
-ghost use Rattle.mpx_bus.specs.Ports.{IsSamePort, PortView, node_in};
+ghost use Rattle.mpx_bus.specs.Ports.{IsSamePort, node_in};
 ghost use Rattle.mpx_comm.specs.Later.{Later};
-ghost use Rattle.mpx_ranks.specs.Members.{HasWanted, wanted_memory};
+ghost use Rattle.mpx_ranks.specs.Members.{HasWanted, PushesOnce, wanted_memory};
 
 use join_core::{Exact, OutOfMemory};
 use mpx_board::PruneError;
@@ -30,7 +29,7 @@ pub(crate) fn gossip<R: Wait>(
     requires free { port.old.setup.planned ≡ false }
     ensures same { IsSamePort port.old port.new }
     ensures later { Later (node_in port.old) (node_in port.new) }
-    ensures pushes { OnOk result ((push : Push) × (popped : PortView) × Later (node_in port.old) (node_in popped) × PushesNext 1048576 push popped port.new) }
+    ensures pushes { OnOk result (PushesOnce port.old port.new) }
     ensures wanted { OnErr result (HasWanted port.old port.new) }
 {
     let popped = pull(rt, alloc, bus, port);

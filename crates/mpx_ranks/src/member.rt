@@ -1,8 +1,9 @@
 //! A member of a job: the host of a rank's desk in a thread of its own.
-ghost use Rattle.std.specs.Prelude.{◌≡◌, false};
+ghost use Rattle.std.specs.Prelude.{◌≡◌, OnErr, OnOk, false};
 ghost use Rattle.mpx_bus.specs.Buses.{table_of};
 ghost use Rattle.mpx_bus.specs.Ports.{IsSamePort, node_in};
 ghost use Rattle.mpx_comm.specs.Later.{Later};
+ghost use Rattle.mpx_ranks.specs.Members.{PushesOnce};
 
 use crate::crew::Crew;
 use crate::folds::Folds;
@@ -139,7 +140,13 @@ impl<'a, L: Seat, O: Folds, R: Wait> Host for Member<'a, L, O, R> {
         self.port.node().result(name, call)
     }
 
-    fn turn(&mut self, alloc: Global) -> Result<(), OutOfMemory> {
+    // Beside what a host says of each: one that is made has pushed what is next, with nothing wanting.
+    fn turn(&mut self, alloc: Global) -> Result<(), OutOfMemory>
+        ensures later { Later (node_in self.old.port) (node_in self.new.port) }
+        ensures counted { OnOk result (IsSamePort self.old.port self.new.port) }
+        ensures refused { OnErr result (IsSamePort self.old.port self.new.port) }
+        ensures pushes { OnOk result (PushesOnce self.old.port self.new.port) }
+    {
         if self.crew.has_stopped() {
             return Err(OutOfMemory);
         }

@@ -8,13 +8,9 @@ use Rattle.mpx_name.specs.Name.{Name}
 use Rattle.mpx_birth.specs.Births.{BirthView}
 use Rattle.mpx_post.specs.declared.draft.PostError.{PostError}
 use Rattle.mpx_post.specs.declared.draft.PostError.TheVariants.{OutOfMemory}
-use Rattle.mpx_board.specs.Boards.{Look}
 use Rattle.mpx_value.specs.declared.outcomes.Outcome.{Outcome}
 use Rattle.mpx_value.specs.declared.outcomes.Outcome.TheVariants.{Nothing, Absent, Items, NewComm, Null, Fault}
 use Rattle.mpx_value.specs.Histories.{Answer, Made, answer_with, has_freed}
-use Rattle.mpx_comm.specs.Comms.{comm_of}
-use Rattle.mpx_comm.specs.Later.{result_at}
-use Rattle.mpx_comm.specs.declared.comm.Comm.{Comm}
 use Rattle.mpx_node.specs.declared.finished.Finished.{Finished}
 use Rattle.mpx_node.specs.Nodes.{NodeView, freed_on}
 use Rattle.mpx_node.specs.Shown.{node_of}
@@ -41,11 +37,11 @@ use Rattle.mpx_system.specs.Systems.{System, Drives, posts_bound, posts_of, worl
 use Rattle.mpx_system.proofs.Coupling.{Couples, answer_born, bound_so, goes_on-other}
 use Rattle.mpx_system.proofs.Posting.{IsBoundSo, driven_bound, not_same}
 use Rattle.mpx_sim.specs.declared.desk.RunDesk.{RunDesk}
-use Rattle.mpx_sim.specs.Carrying.{Tries, desk_terms, hears_more, hears_nothing, known_to, outcomes_on, tried_on}
-use Rattle.mpx_sim.specs.Turns.{Alone, Moment}
-use Rattle.mpx_sim.specs.Running.{IsUnderWay, Moves, ProcessView, StandsBy, name_in, name_of, with_births}
+use Rattle.mpx_sim.specs.Carrying.{Tries, desk_terms, hears_more, hears_nothing, known_to, new_name, outcomes_on, stored_at, tried_on}
+use Rattle.mpx_sim.specs.Turns.{Alone, FrameView, Moment}
+use Rattle.mpx_sim.specs.Running.{IsUnderWay, Moves, ProcessView, StandsBy, name_of, with_births}
 use Rattle.mpx_sim.proofs.Posting.{IsTried, answered_err, answered_ok, found_there, tried_bound, answered as answered_so}
-use Rattle.mpx_sim.proofs.Running.{couples, keeps_harvested, moves_node, moves_then, run_on}
+use Rattle.mpx_sim.proofs.Running.{couples, moves_node, moves_then, run_on}
 
 -- WHAT A NODE SAYS
 
@@ -53,7 +49,7 @@ use Rattle.mpx_sim.proofs.Running.{couples, keeps_harvested, moves_node, moves_t
 abbrev node_terms : List Operation → (born : Name → Option BirthView) → Terms NodeView CommunicatorView
 node_terms ops born = record {
   tells = λ n me. outcomes_on n;
-  gives = λ n me name call to. (f : Finished) × (result_at n name call ≡ Some f) × (bound_as to ≡ bound_by f.outcome (answer_with born f.outcome).born);
+  gives = λ n me name call to. (f : Finished) × (stored_at n name call ≡ Some f) × (bound_as to ≡ bound_by f.outcome (answer_with born f.outcome).born);
   knows = λ n c. Some c;
   closes = λ n me c. freed_on n c.0;
   may = λ n me posting on. Unit {0};
@@ -86,10 +82,10 @@ module _ (ops : List Operation) (script : Script) (ranks : ℕ) (s : System) (c 
   pub goes_by : GoesBy ops (node_terms ops (births s.world)) (world_tells s.world p) p (s.ranks p) (λ n. n ≡ here) (λ t n. Unit {0})
   goes_by = record {
     hears = λ n m fits h. h ∙ fits;
-    tells = λ n fits name call outcome e. told_same (births s.world) (result_at here name call) ∙ ap (λ (x : NodeView). outcomes_on x name call) (sym fits) ∙ e;
+    tells = λ n fits name call outcome e. told_same (births s.world) (stored_at here name call) ∙ ap (λ (x : NodeView). outcomes_on x name call) (sym fits) ∙ e;
     gives = λ n fits name call to given. (
       answer_with (births s.world) given.0.outcome,
-      ap (option_map (λ (f : Finished). answer_with (births s.world) f.outcome)) (ap (λ (x : NodeView). result_at x name call) (sym fits) ∙ given.1),
+      ap (option_map (λ (f : Finished). answer_with (births s.world) f.outcome)) (ap (λ (x : NodeView). stored_at x name call) (sym fits) ∙ given.1),
       given.2,
     );
     closes = λ n fits k. ap (λ (x : NodeView). freed_on x k.0) fits ∙ (c.upheld.holds.processes p).closed k.0 ∙ ap (has_freed k.0) (c.made p);
@@ -122,7 +118,7 @@ bound_again (Communicator name birth) = refl
 bound_again NullCommunicator = refl
 
 -- what an outcome gives is what its word is bound to, where the birth of a new communicator is known
-given_so : (outcome : Outcome) (born : Option BirthView) → ((new : Name) (size rank : ℕ) → outcome ≡ NewComm new size rank → (birth : BirthView) × (born ≡ Some birth)) → name_in (comm_of outcome) ≡ name_of (communicator_of (Some (bound_by outcome born)))
+given_so : (outcome : Outcome) (born : Option BirthView) → ((new : Name) (size rank : ℕ) → outcome ≡ NewComm new size rank → (birth : BirthView) × (born ≡ Some birth)) → new_name outcome ≡ name_of (communicator_of (Some (bound_by outcome born)))
 given_so Nothing born h = refl
 given_so Absent born h = refl
 given_so (Items items) born h = refl
@@ -130,19 +126,19 @@ given_so (NewComm new size rank) born h = let x = h new size rank refl in ap (λ
 given_so Null born h = refl
 given_so (Fault fault) born h = refl
 
-names_on : (o : Option (Option Comm)) (b : Option (Option CommunicatorView)) → option_map name_in o ≡ option_map name_of b → name_in (communicator_in o) ≡ name_of (communicator_in b)
+names_on : (o : Option (Option Name)) (b : Option (Option CommunicatorView)) → o ≡ option_map name_of b → communicator_in o ≡ name_of (communicator_in b)
 names_on None None e = refl
 names_on None (Some b) e = cc e
 names_on (Some o) None e = cc e
-names_on (Some o) (Some b) e = same_Some (name_in o) (name_of b) e
+names_on (Some o) (Some b) e = same_Some o (name_of b) e
 
-module _ (bound : List ℕ → Option (Option Comm)) (seen : List ℕ → Option (Option CommunicatorView)) (names : (word : List ℕ) → option_map name_in (bound word) ≡ option_map name_of (seen word)) where
-  names_bound : (target : Option (List ℕ)) (to : Option Comm) (known : Option CommunicatorView) → name_in to ≡ name_of known → (word : List ℕ) → option_map name_in (binds target to bound word) ≡ option_map name_of (binds target known seen word)
-  names_bound target to known e word = binds_seen name_in target to bound word ∙ (λ i. binds target (e i) (λ other. names other i) word) ∙ sym (binds_seen name_of target known seen word)
+module _ (bound : List ℕ → Option (Option Name)) (seen : List ℕ → Option (Option CommunicatorView)) (names : (word : List ℕ) → bound word ≡ option_map name_of (seen word)) where
+  names_bound : (target : Option (List ℕ)) (to : Option Name) (known : Option CommunicatorView) → to ≡ name_of known → (word : List ℕ) → binds target to bound word ≡ option_map name_of (binds target known seen word)
+  names_bound target to known e word = (λ i. binds target (e i) (λ other. names other i) word) ∙ sym (binds_seen name_of target known seen word)
 
 -- ONE MOVE
 
-module _ (ops : List Operation) (script : Script) (ranks size : ℕ) (begun : Moment) (processes : List ProcessView) (frames : List Look) (p : ℕ) (l : p < ranks) (r : RankView Comm) (node : NodeView) (at : slice_get processes p ≡ Some (record { rank = r; node = node })) (run : IsUnderWay ops script ranks size begun Alone processes frames) where
+module _ (ops : List Operation) (script : Script) (ranks size : ℕ) (begun : Moment) (processes : List ProcessView) (frames : List FrameView) (p : ℕ) (l : p < ranks) (r : RankView Name) (node : NodeView) (at : slice_get processes p ≡ Some (record { rank = r; node = node })) (run : IsUnderWay ops script ranks size begun Alone processes frames) where
   abbrev coupled : Couples ops script ranks run.system
   coupled = couples ops script ranks size begun Alone processes frames run
 
@@ -168,7 +164,7 @@ module _ (ops : List Operation) (script : Script) (ranks size : ℕ) (begun : Mo
   abbrev IsMoved : NodeView → Type 0
   IsMoved m = m ≡ ((goes_on_world w (posts_of w.operations p (w.each p).made local.bound local.todo)).each p).node
 
-  moves : (s : RankView Comm) (bound : List ℕ → Option (Option CommunicatorView)) (m : NodeView) → s.me ≡ r.me → ((word : List ℕ) → option_map name_in (s.bound word) ≡ option_map name_of (bound word)) → Move (node_terms ops (births w)) seen node (with_births bound s) m → IsMoved m
+  moves : (s : RankView Name) (bound : List ℕ → Option (Option CommunicatorView)) (m : NodeView) → s.me ≡ r.me → ((word : List ℕ) → s.bound word ≡ option_map name_of (bound word)) → Move (node_terms ops (births w)) seen node (with_births bound s) m → IsMoved m
       → IsUnderWay ops script ranks size begun Alone (set processes p (record { rank = s; node = m })) frames
   moves s bound m me names move is =
       let a = run.each p (record { rank = r; node = node }) at in
@@ -191,14 +187,14 @@ module _ (ops : List Operation) (script : Script) (ranks size : ℕ) (begun : Mo
   rests : (todo : List Todo) → local.todo ≡ todo → posts_of w.operations p (w.each p).made local.bound todo ≡ [] → IsMoved node
   rests todo e none = node_is ∙ ap (λ hs. ((goes_on_world w hs).each p).node) (sym (ap (posts_of w.operations p (w.each p).made local.bound) e ∙ none))
 
-  hears_next : (wait : WaitView) (outcome : Outcome) (text : List ℕ) (to : Option Comm) (f : Finished) → r.waits ≡ Some wait → outcomes_on node wait.name wait.call ≡ Some outcome → text ≡ outcome_text outcome → result_at node wait.name wait.call ≡ Some f → to ≡ comm_of f.outcome
+  hears_next : (wait : WaitView) (outcome : Outcome) (text : List ℕ) (to : Option Name) (f : Finished) → r.waits ≡ Some wait → outcomes_on node wait.name wait.call ≡ Some outcome → text ≡ outcome_text outcome → stored_at node wait.name wait.call ≡ Some f → to ≡ new_name f.outcome
       → IsUnderWay ops script ranks size begun Alone (set processes p (record { rank = heard r wait text to; node = node })) frames
   hears_next wait outcome text to f waits tells said held gives =
       let answer : Answer = answer_with (births w) f.outcome in
       let b = bound_by answer.outcome answer.born in
       let there = communicator_of (Some b) in
-      let known : world_tells w p wait.name wait.call ≡ Some answer = ap (λ (n : NodeView). option_map (λ (x : Finished). answer_with (births w) x.outcome) (result_at n wait.name wait.call)) (sym node_is) ∙ ap (option_map (λ (x : Finished). answer_with (births w) x.outcome)) held in
-      let given : name_in to ≡ name_of there = ap name_in gives ∙ given_so f.outcome answer.born (answer_born ops script ranks run.system coupled p wait.name wait.call answer known) in
+      let known : world_tells w p wait.name wait.call ≡ Some answer = ap (λ (n : NodeView). option_map (λ (x : Finished). answer_with (births w) x.outcome) (stored_at n wait.name wait.call)) (sym node_is) ∙ ap (option_map (λ (x : Finished). answer_with (births w) x.outcome)) held in
+      let given : to ≡ name_of there = gives ∙ given_so f.outcome answer.born (answer_born ops script ranks run.system coupled p wait.name wait.call answer known) in
       moves (heard r wait text to) (binds wait.target there stands.bound) node refl (names_bound r.bound stands.bound stands.names wait.target to there given)
       (hears wait outcome text there waits refl tells said (f, held, bound_again b))
       (rests (todo_of (Some wait) r.todo) (todo_is (Some wait) r.todo waits refl) refl)
@@ -207,7 +203,7 @@ module _ (ops : List Operation) (script : Script) (ranks size : ℕ) (begun : Mo
     abbrev on : Option CommunicatorView
     on = communicator_in (stands.bound (communicator_word posting))
 
-    on_is : name_in (communicator_in (r.bound (communicator_word posting))) ≡ name_of on
+    on_is : communicator_in (r.bound (communicator_word posting)) ≡ name_of on
     on_is = names_on (r.bound (communicator_word posting)) (stands.bound (communicator_word posting)) (stands.names (communicator_word posting))
 
     tried_next : (tried_on ops posting (name_of on) node).node ≡ ((goes_on_world w (posts_of w.operations p (w.each p).made local.bound local.todo)).each p).node
@@ -218,19 +214,19 @@ module _ (ops : List Operation) (script : Script) (ranks size : ℕ) (begun : Mo
         ∙ (tried_here ops script ranks run.system coupled p l posting b (bound_so ops script ranks run.system coupled p l (communicator_word posting))).node
         ∙ ap (λ todo. ((goes_on_world w (posts_of w.operations p (w.each p).made local.bound todo)).each p).node) (sym (todo_is None (Post posting ∷ rest) waits todo))
 
-    posts_next : (name : Name) (call : ℕ) (m : NodeView) → started_as posting ≡ None → Tries (tried_on ops posting (name_in (communicator_in (r.bound (communicator_word posting)))) node) (Ok (name, call)) m
+    posts_next : (name : Name) (call : ℕ) (m : NodeView) → started_as posting ≡ None → Tries (tried_on ops posting (communicator_in (r.bound (communicator_word posting))) node) (Ok (name, call)) m
         → IsUnderWay ops script ranks size begun Alone (set processes p (record { rank = posted r posting rest name call; node = m })) frames
     posts_next name call m none tries =
         let tried : Tries (tried_on ops posting (name_of on) node) (Ok (name, call)) m = subst (λ o. Tries (tried_on ops posting o node) (Ok (name, call)) m) on_is tries in
         moves (posted r posting rest name call) stands.bound m refl stands.names (posts posting rest name call waits todo none tried) (tried.1 ∙ tried_next)
 
-    starts_next : (word : List ℕ) (name : Name) (call : ℕ) (m : NodeView) → started_as posting ≡ Some word → Tries (tried_on ops posting (name_in (communicator_in (r.bound (communicator_word posting)))) node) (Ok (name, call)) m
+    starts_next : (word : List ℕ) (name : Name) (call : ℕ) (m : NodeView) → started_as posting ≡ Some word → Tries (tried_on ops posting (communicator_in (r.bound (communicator_word posting))) node) (Ok (name, call)) m
         → IsUnderWay ops script ranks size begun Alone (set processes p (record { rank = started r word rest name call; node = m })) frames
     starts_next word name call m open_as tries =
         let tried : Tries (tried_on ops posting (name_of on) node) (Ok (name, call)) m = subst (λ o. Tries (tried_on ops posting o node) (Ok (name, call)) m) on_is tries in
         moves (started r word rest name call) stands.bound m refl stands.names (starts posting rest word name call waits todo open_as tried) (tried.1 ∙ tried_next)
 
-    refused_next : (refusal : PostError) (text : List ℕ) (m : NodeView) → (refusal ≡ OutOfMemory → ⊥) → Tries (tried_on ops posting (name_in (communicator_in (r.bound (communicator_word posting)))) node) (Err refusal) m → text ≡ line_text (Refused refusal)
+    refused_next : (refusal : PostError) (text : List ℕ) (m : NodeView) → (refusal ≡ OutOfMemory → ⊥) → Tries (tried_on ops posting (communicator_in (r.bound (communicator_word posting))) node) (Err refusal) m → text ≡ line_text (Refused refusal)
         → IsUnderWay ops script ranks size begun Alone (set processes p (record { rank = refused r posting rest text; node = m })) frames
     refused_next refusal text m other tries said =
         let tried : Tries (tried_on ops posting (name_of on) node) (Err refusal) m = subst (λ o. Tries (tried_on ops posting o node) (Err refusal) m) on_is tries in
@@ -244,21 +240,21 @@ module _ (ops : List Operation) (script : Script) (ranks size : ℕ) (begun : Mo
       (rests (todo_of None (Wait words ∷ rest)) (todo_is None (Wait words ∷ rest) waits todo) refl)
 
   -- what a word stands for
-  found_so : (word : List ℕ) → found_in (λ (k : Comm). freed_on node k.name) (λ (k : Comm). known_to node k.name) (communicator_in (r.bound word)) ≡ found_in (λ (k : CommunicatorView). freed_on node k.0) Some (communicator_in (stands.bound word))
+  found_so : (word : List ℕ) → found_in (λ k. freed_on node k) (λ k. known_to node k) (communicator_in (r.bound word)) ≡ found_in (λ (k : CommunicatorView). freed_on node k.0) Some (communicator_in (stands.bound word))
   found_so word = by_both (communicator_in (r.bound word)) (communicator_in (stands.bound word)) refl (names_on (r.bound word) (stands.bound word) (stands.names word)) where
-    by_both : (o : Option Comm) (b : Option CommunicatorView) → communicator_in (stands.bound word) ≡ b → name_in o ≡ name_of b
-        → found_in (λ (k : Comm). freed_on node k.name) (λ (k : Comm). known_to node k.name) o ≡ found_in (λ (k : CommunicatorView). freed_on node k.0) Some b
+    by_both : (o : Option Name) (b : Option CommunicatorView) → communicator_in (stands.bound word) ≡ b → o ≡ name_of b
+        → found_in (λ k. freed_on node k) (λ k. known_to node k) o ≡ found_in (λ (k : CommunicatorView). freed_on node k.0) Some b
     by_both None None is e = refl
     by_both None (Some k) is e = cc e
     by_both (Some o) None is e = cc e
     by_both (Some o) (Some k) is e =
         let bound = bound_so ops script ranks run.system coupled p l word k.0 k.1 (sym (stands.stands.bound word) ∙ bound_there (stands.bound word) k is) in
-        (λ i. found_as (freed_on (node_is i) (same_Some o.name k.0 e i)) (known_to (node_is i) (same_Some o.name k.0 e i)))
+        (λ i. found_as (freed_on (node_is i) (same_Some o k.0 e i)) (known_to (node_is i) (same_Some o k.0 e i)))
         ∙ found_there w coupled.upheld p k.0 k.1 bound.0 bound.1
         ∙ ap (λ (n : NodeView). found_as (freed_on n k.0) (Some k)) (sym node_is)
 
   asks_next : (question : Question) (rest : List Statement) (text : List ℕ) → r.waits ≡ None → r.todo ≡ Ask question ∷ rest
-      → text ≡ line_text (answered_by r.me (λ word. found_in (λ (k : Comm). freed_on node k.name) (λ (k : Comm). known_to node k.name) (communicator_in (r.bound word))) question)
+      → text ≡ line_text (answered_by r.me (λ word. found_in (λ k. freed_on node k) (λ k. known_to node k) (communicator_in (r.bound word))) question)
       → IsUnderWay ops script ranks size begun Alone (set processes p (record { rank = answered r rest text; node = node })) frames
   asks_next question rest text waits todo said =
       moves (answered r rest text) stands.bound node refl stands.names (asks question rest text waits todo (said ∙ λ i. line_text (answered_by r.me (λ word. found_so word i) question)))
@@ -267,42 +263,42 @@ module _ (ops : List Operation) (script : Script) (ranks size : ℕ) (begun : Mo
 -- MOVES
 
 module _ (ops : List Operation) where
-  abbrev beside : RankView Comm → RunDesk → ProcessView
-  beside r d = record { rank = r; node = node_of d.desk.host }
+  abbrev beside : RankView Name → RunDesk → ProcessView
+  beside r d = record { rank = r; node = node_of d.node }
 
   -- the desk hears of others
-  hears_of : (r : RankView Comm) (c d : RunDesk) → (desk_terms ops).hears c d → Moves ops (beside r c) (beside r d)
-  hears_of r c d h = moves_node ops r (node_of c.desk.host) (node_of d.desk.host) (keeps_harvested ops (node_of c.desk.host) (node_of d.desk.host) h.0)
+  hears_of : (r : RankView Name) (c d : RunDesk) → (desk_terms ops).hears c d → Moves ops (beside r c) (beside r d)
+  hears_of r c d h = moves_node ops r (node_of c.node) (node_of d.node) h.0
 
   -- a move of the rank is one of its process
-  move_is : (r : RankView Comm) (c : RunDesk) (s : RankView Comm) (d : RunDesk) → Move (desk_terms ops) r c s d → Moves ops (beside r c) (beside s d)
+  move_is : (r : RankView Name) (c : RunDesk) (s : RankView Name) (d : RunDesk) → Move (desk_terms ops) r c s d → Moves ops (beside r c) (beside s d)
   move_is r c s d (hears wait outcome text to waits before tells said gives) =
       moves_then ops (beside r c) (beside r d) (beside s d) (hears_of r c d before)
-      (λ script ranks size begun processes frames p l at run. hears_next ops script ranks size begun processes frames p l r (node_of d.desk.host) at run wait outcome text to gives.0 waits tells said gives.1 gives.2)
+      (λ script ranks size begun processes frames p l at run. hears_next ops script ranks size begun processes frames p l r (node_of d.node) at run wait outcome text to gives.0 waits tells said gives.1 gives.2)
   move_is r c s d (posts posting rest name call waits todo none tries) = λ script ranks size begun processes frames p l at run.
-      posts_next ops script ranks size begun processes frames p l r (node_of c.desk.host) at run posting rest waits todo name call (node_of d.desk.host) none tries
+      posts_next ops script ranks size begun processes frames p l r (node_of c.node) at run posting rest waits todo name call (node_of d.node) none tries
   move_is r c s d (starts posting rest word name call waits todo open_as tries) = λ script ranks size begun processes frames p l at run.
-      starts_next ops script ranks size begun processes frames p l r (node_of c.desk.host) at run posting rest waits todo word name call (node_of d.desk.host) open_as tries
+      starts_next ops script ranks size begun processes frames p l r (node_of c.node) at run posting rest waits todo word name call (node_of d.node) open_as tries
   move_is r c s d (is_refused posting rest refusal text waits todo other tries said) = λ script ranks size begun processes frames p l at run.
-      refused_next ops script ranks size begun processes frames p l r (node_of c.desk.host) at run posting rest waits todo refusal text (node_of d.desk.host) other tries said
+      refused_next ops script ranks size begun processes frames p l r (node_of c.node) at run posting rest waits todo refusal text (node_of d.node) other tries said
   move_is r c s d (passes {mid = between} words rest waits todo before done after) =
       moves_then ops (beside r c) (beside r between) (beside s d) (hears_of r c between before)
       (moves_then ops (beside r between) (beside s between) (beside s d)
-      (λ script ranks size begun processes frames p l at run. passes_next ops script ranks size begun processes frames p l r (node_of between.desk.host) at run words rest waits todo done)
+      (λ script ranks size begun processes frames p l at run. passes_next ops script ranks size begun processes frames p l r (node_of between.node) at run words rest waits todo done)
       (hears_of s between d after))
   move_is r c s d (asks question rest text waits todo said) = λ script ranks size begun processes frames p l at run.
-      asks_next ops script ranks size begun processes frames p l r (node_of c.desk.host) at run question rest text waits todo said
+      asks_next ops script ranks size begun processes frames p l r (node_of c.node) at run question rest text waits todo said
 
   -- without a move it harvests at most
-  still_is : (r : RankView Comm) (c d : RunDesk) → Still (desk_terms ops) r c d → Moves ops (beside r c) (beside r d)
+  still_is : (r : RankView Name) (c d : RunDesk) → Still (desk_terms ops) r c d → Moves ops (beside r c) (beside r d)
   still_is r c d (has_ended waits todo) = hears_of r c c (hears_nothing ops c)
   still_is r c d (waits_on w waits before none) = hears_of r c d before
   still_is r c d (posts_not posting rest waits todo tried) = absurd tried
   still_is r c d (passes_not {mid = between} words rest waits todo before undone after) = hears_of r c d (hears_more ops c between d before after)
 
-  ran_is : (r : RankView Comm) (c : RunDesk) (s : RankView Comm) (d : RunDesk) (moved : Bool) → Ran (desk_terms ops) r c s d moved → Moves ops (beside r c) (beside s d)
+  ran_is : (r : RankView Name) (c : RunDesk) (s : RankView Name) (d : RunDesk) (moved : Bool) → Ran (desk_terms ops) r c s d moved → Moves ops (beside r c) (beside s d)
   ran_is r c s d moved stayed = hears_of r c c (hears_nothing ops c)
   ran_is r c s d moved (moved_on {s = mid} {d = before} {moved = earlier} ran move) = moves_then ops (beside r c) (beside mid before) (beside s d) (ran_is r c mid before earlier ran) (move_is mid before s d move)
 
-  pub goes_is : (r : RankView Comm) (c : RunDesk) (s : RankView Comm) (d : RunDesk) (moved : Bool) → GoesOn (desk_terms ops) r c s d moved → Moves ops (beside r c) (beside s d)
+  pub goes_is : (r : RankView Name) (c : RunDesk) (s : RankView Name) (d : RunDesk) (moved : Bool) → GoesOn (desk_terms ops) r c s d moved → Moves ops (beside r c) (beside s d)
   goes_is r c s d moved goes = moves_then ops (beside r c) (beside s goes.0) (beside s d) (ran_is r c s goes.0 moved goes.1) (still_is s goes.0 d goes.2)

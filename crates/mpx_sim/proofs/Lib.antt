@@ -3,6 +3,7 @@ pub mod Running
 pub mod Posting
 pub mod Carried
 pub mod Tried
+pub mod Harvests
 pub mod Sending
 pub mod Spelled
 pub mod Starting

@@ -1,12 +1,12 @@
 -- What is done in a turn.
-use Rattle.std.proofs.Common.{◌≡◌, ℕ, suc, ◌+◌, ◌<◌, ◌≤◌, arith, List, [], ◌∷◌, ◌++◌, refl, sym, ap, ◌∙◌, subst}
-use Rattle.mpx_board.specs.Boards.{Look}
+use Rattle.std.proofs.Common.{◌≡◌, ℕ, suc, ◌+◌, ◌<◌, arith, List, [], ◌∷◌, ◌++◌, refl, sym, ap, ◌∙◌, subst}
+use Rattle.std.specs.List.{All}
+use Rattle.std.proofs.lemmas.Option.{slice_get-get_or}
 use Rattle.rand_pcg.specs.Lcg.{Lcg}
-use Rattle.mpx_world.specs.Worlds.{Sends}
-use Rattle.mpx_system.specs.Systems.{System, Doing, Nets, MayDo, does}
+use Rattle.mpx_system.specs.Systems.{System, Doing, MayDo, does}
 use Rattle.mpx_system.proofs.Leading.{does_all-push, may-push}
-use Rattle.mpx_sim.specs.Draws.{AreDrawn, IsLater, ScheduleView, draw, drawn_once, nothing_drawn, one_more}
-use Rattle.mpx_sim.specs.Turns.{Alone, AreAllSo, AreTurns, Coming, Going, IsIn, IsLeft, IsOwn, IsTaken, IsTurn, LeadsBy, Moment, Phase, Since, loses, none, says, sends}
+use Rattle.mpx_sim.specs.Draws.{AreDrawn, IsLater, ScheduleView, nothing_drawn, one_more}
+use Rattle.mpx_sim.specs.Turns.{Alone, AreAllSo, AreTurns, Coming, FrameView, HasSent, IsIn, IsLeft, IsOwn, IsSaid, IsTaken, IsTurn, IsUnder, LeadsBy, Moment, Phase, Saying, Since}
 
 are-push : (P : Doing → Type 0) (ds : List Doing) (d : Doing) → AreAllSo P ds → P d → AreAllSo P (ds ++ d ∷ [])
 are-push P [] d h k = (k, tt)
@@ -34,36 +34,35 @@ later_then a b c h k = (k.0 ∙ h.0, drawn_then a.draws b.draws c.draws h.1 k.1)
 
 -- PHASES
 
+pub under_itself : (frames : List FrameView) → All (IsUnder frames) frames
+under_itself frames k d l = (k, slice_get-get_or frames k d l)
+
+pub under_later : (turn : ℕ) (frames : List FrameView) → All (λ (f : FrameView). turn < f.turn → IsUnder frames f) frames
+under_later turn frames k d l later = under_itself frames k d l
+
 -- one more is done
-pub since_on : (ranks : ℕ) (begun : Moment) (phase : Phase) (s : System) → Since ranks begun phase s → (d : Doing) → IsIn phase d → MayDo ranks s d → Since ranks begun phase (does s d)
-since_on ranks begun Alone s h d is m = more_by IsOwn ranks begun.system s d h is m
-since_on ranks begun (Going t) s h d is m = record { alone = h.alone; own = h.own; left = h.left; goes = says d h.goes is m }
-since_on ranks begun (Coming t) s h d is m = record { sent = h.sent; going = h.going; comes = more_by IsTaken ranks h.sent.system s d h.comes is m; later = h.later }
-
--- a frame goes out, or is lost
-pub since_sends : (ranks : ℕ) (begun : Moment) (t : ScheduleView) (s : System) (p : ℕ) (part : Look) → Since ranks begun (Going t) s → MayDo ranks s (Nets (Sends p part)) → t.loss ≤ draw 100 t.draws → Since ranks begun (Going (drawn_once t)) (does s (Nets (Sends p part)))
-since_sends ranks begun t s p part h m kept = record { alone = h.alone; own = h.own; left = h.left; goes = sends p part h.goes m kept }
-
-pub since_loses : (ranks : ℕ) (begun : Moment) (t : ScheduleView) (s : System) → Since ranks begun (Going t) s → draw 100 t.draws < t.loss → Since ranks begun (Going (drawn_once t)) s
-since_loses ranks begun t s h lost = record { alone = h.alone; own = h.own; left = h.left; goes = loses h.goes lost }
+pub since_on : (ranks size : ℕ) (begun : Moment) (phase : Phase) (frames : List FrameView) (s : System) → Since ranks size begun phase frames s → (d : Doing) → IsIn phase d → MayDo ranks s d → Since ranks size begun phase frames (does s d)
+since_on ranks size begun Alone frames s h d is m = (more_by IsOwn ranks begun.system s d h.0 is m, h.1)
+since_on ranks size begun Saying frames s h d is m = (record { alone = h.0.alone; own = h.0.own; left = h.0.left; says = more_by IsSaid ranks h.0.alone s d h.0.says is m }, h.1)
+since_on ranks size begun (Coming turn t) frames s h d is m = (record { sent = h.0.sent; going = h.0.going; comes = more_by IsTaken ranks h.0.sent.system s d h.0.comes is m; later = h.0.later }, h.1)
 
 -- more is drawn
-pub since_draws : (ranks : ℕ) (begun : Moment) (t u : ScheduleView) (s : System) → Since ranks begun (Coming t) s → IsLater t u → Since ranks begun (Coming u) s
-since_draws ranks begun t u s h later = record { sent = h.sent; going = h.going; comes = h.comes; later = later_then h.sent.schedule t u h.later later }
+pub since_draws : (ranks size : ℕ) (begun : Moment) (turn : ℕ) (t u : ScheduleView) (frames : List FrameView) (s : System) → Since ranks size begun (Coming turn t) frames s → IsLater t u → Since ranks size begun (Coming turn u) frames s
+since_draws ranks size begun turn t u frames s h later = (record { sent = h.0.sent; going = h.0.going; comes = h.0.comes; later = later_then h.0.sent.schedule t u h.0.later later }, h.1)
 
 -- the next phase begins
-pub begins : (ranks : ℕ) (m : Moment) → Since ranks m Alone m.system
-begins ranks m = none_by IsOwn ranks m.system
+pub begins : (ranks size : ℕ) (m : Moment) → Since ranks size m Alone m.frames m.system
+begins ranks size m = (none_by IsOwn ranks m.system, refl)
 
-pub goes_now : (ranks : ℕ) (begun : Moment) (s : System) → Since ranks begun Alone s → IsLeft ranks s.ranks → Since ranks begun (Going begun.schedule) s
-goes_now ranks begun s h left = record { alone = s; own = h; left = left; goes = none }
+pub says_now : (ranks size : ℕ) (begun : Moment) (frames : List FrameView) (s : System) → Since ranks size begun Alone frames s → IsLeft ranks s.ranks → Since ranks size begun Saying frames s
+says_now ranks size begun frames s h left = (record { alone = s; own = h.0; left = left; says = none_by IsSaid ranks s }, h.1)
 
-pub comes_now : (ranks : ℕ) (begun : Moment) (t : ScheduleView) (s : System) → Since ranks begun (Going t) s → Since ranks begun (Coming t) s
-comes_now ranks begun t s h = record { sent = record { system = s; schedule = t }; going = h; comes = none_by IsTaken ranks s; later = (refl, nothing_drawn) }
+pub comes_now : (ranks size turn : ℕ) (begun sent : Moment) → HasSent ranks size turn begun sent → Since ranks size begun (Coming turn sent.schedule) sent.frames sent.system
+comes_now ranks size turn begun sent h = (record { sent = sent; going = h; comes = none_by IsTaken ranks sent.system; later = (refl, nothing_drawn) }, under_itself sent.frames)
 
 -- a turn more
-pub turns_more : (turns ranks : ℕ) (from mid to : Moment) → AreTurns turns ranks from mid → IsTurn ranks mid to → AreTurns (turns + 1) ranks from to
-turns_more turns ranks from mid to are is =
-    let more : AreTurns (suc turns) ranks from to = (mid, are, is) in
+pub turns_more : (turns ranks size : ℕ) (from mid to : Moment) → AreTurns turns ranks size from mid → IsTurn ranks size turns mid to → AreTurns (turns + 1) ranks size from to
+turns_more turns ranks size from mid to are is =
+    let more : AreTurns (suc turns) ranks size from to = (mid, are, is) in
     let same : suc turns ≡ turns + 1 = omega arith in
-    subst (λ n. AreTurns n ranks from to) same more
+    subst (λ n. AreTurns n ranks size from to) same more

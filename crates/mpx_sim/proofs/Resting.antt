@@ -1,16 +1,13 @@
 -- A run that rests has come to the end of the evaluation.
-use Rattle.std.proofs.Common.{◌≡◌, ℕ, ◌<◌, ◌≤◌, Bool, true, false, not, List, [], ◌∷◌, length, Option, Some, None, refl, sym, ap, ◌∙◌, subst, arith}
+use Rattle.std.proofs.Common.{◌≡◌, ℕ, ◌<◌, ◌≤◌, Bool, true, false, List, [], ◌∷◌, length, Option, Some, None, refl, sym, ap, ◌∙◌, subst, arith}
 use Rattle.std.specs.Prelude.{slice_get, is_some, IfOk, Result, Ok, Err}
 use Rattle.std.specs.Option.{option_map}
 use Rattle.std.proofs.lemmas.Option.{slice_get-map}
 use Rattle.mpx_num.specs.declared.own.Operation.{Operation}
 use Rattle.mpx_name.specs.Name.{Name}
-use Rattle.mpx_board.specs.Boards.{Look, IsBoardBelow}
+use Rattle.mpx_board.specs.Boards.{IsBoardBelow}
 use Rattle.mpx_value.specs.Histories.{Answer, Results}
 use Rattle.mpx_node.specs.Nodes.{NodeView, has_next, results_on}
-use Rattle.mpx_comm.specs.Later.{IsPending}
-use Rattle.mpx_comm.specs.Requests.{HasStatus}
-use Rattle.mpx_comm.specs.declared.request.Request.{Request}
 use Rattle.mpx_world.specs.Worlds.{WorldView}
 use Rattle.mpx_world.proofs.Reached.{are_least}
 use Rattle.mpx_world.proofs.Steps.{Holds}
@@ -32,25 +29,20 @@ use Rattle.mpx_system.specs.Runs.{HaveOneBoard}
 use Rattle.mpx_system.specs.Rest.{AreAtHand}
 use Rattle.mpx_system.proofs.Results.{behind_first, none_mapped, one_fails, some_at}
 use Rattle.mpx_system.proofs.Settled.{rest_ends}
-use Rattle.mpx_sim.specs.Ends.{AllLack, Lacks, OneIsOpen, awaits, has_ended, nodes_of, waits_for}
-use Rattle.mpx_sim.specs.Turns.{Alone, Moment}
+use Rattle.mpx_sim.specs.Ends.{AllLack, IsOpen, Lacks, OneIsOpen, awaits, has_ended, nodes_of, waits_for}
+use Rattle.mpx_sim.specs.Turns.{Alone, FrameView, Moment}
 use Rattle.mpx_sim.specs.Running.{IsAt, IsUnderWay, ProcessView, StandsBy}
 use Rattle.mpx_sim.proofs.Running.{couples}
-
--- a status that is false is that of a call that is pending
-pub status_pends : (done : Bool) (request : Request) (node : NodeView) → HasStatus done request node → not done ≡ true → IsPending node request.name request.call
-status_pends true request node h e = cc e
-status_pends false request node h e = h
 
 pub if_ok_then : {T E : Type 0} {P Q : T → Type 0} (r : Result T E) → ((x : T) → P x → Q x) → IfOk r P → IfOk r Q
 if_ok_then (Ok x) f h = f x h
 if_ok_then (Err e) f h = h
 
 -- the rank waits for this call
-pub awaited_lacks : (v : ProcessView) (call : Name × ℕ) → option_map place_of v.rank.waits ≡ Some call → IsPending v.node call.0 call.1 → Lacks v
+pub awaited_lacks : (v : ProcessView) (call : Name × ℕ) → option_map place_of v.rank.waits ≡ Some call → IsOpen v.node call.0 call.1 → Lacks v
 awaited_lacks v call e pending =
     let found = mapped_some place_of v.rank.waits call e in
-    awaits found.0 found.1 (subst (λ (c : Name × ℕ). IsPending v.node c.0 c.1) (sym found.2) pending)
+    awaits found.0 found.1 (subst (λ (c : Name × ℕ). IsOpen v.node c.0 c.1) (sym found.2) pending)
 
 -- it stands at a wait
 pub waiting_lacks : (v : ProcessView) (words : List (List ℕ)) → option_map place_of v.rank.waits ≡ None → slice_get v.rank.todo 0 ≡ Some (Wait words) → OneIsOpen v.node v.rank.requests words → Lacks v
@@ -65,14 +57,14 @@ module _ (ops : List Operation) (ranks : ℕ) (s : System) (p : ℕ) (l : p < ra
   todo_is : (waits : Option WaitView) (todo : List Statement) → v.rank.waits ≡ waits → v.rank.todo ≡ todo → (s.ranks p).todo ≡ todo_of waits todo
   todo_is waits todo e f = stands.stands.todo ∙ λ i. todo_of (e i) (f i)
 
-  untold : (name : Name) (call : ℕ) → IsPending v.node name call → told name call ≡ None
+  untold : (name : Name) (call : ℕ) → IsOpen v.node name call → told name call ≡ None
   untold name call pending = hand name call (ap (λ (n : NodeView). slice_get (results_on n name) call) (sym at.node) ∙ pending.none) (ap (λ (n : NodeView). has_next n name) (sym at.node) ∙ pending.next)
 
   not_done : (words : List (List ℕ)) → OneIsOpen v.node v.rank.requests words → are_done (outcomes_of told) (named (s.ranks p).requests) words ≡ false
   not_done words o =
       let there : named (s.ranks p).requests o.word ≡ Some (o.name, o.call) = sym (stands.stands.requests o.word) ∙ o.stands_for in
       one_fails (λ word. is_done (outcomes_of told) (named (s.ranks p).requests word)) words o.place o.word o.at
-      (ap (is_done (outcomes_of told)) there ∙ ap (λ x. is_some (option_map (λ (a : Answer). a.outcome) x)) (untold o.name o.call o.pending))
+      (ap (is_done (outcomes_of told)) there ∙ ap (λ x. is_some (option_map (λ (a : Answer). a.outcome) x)) (untold o.name o.call o.is_open))
 
   pub no_move : Lacks v → step ops told (s.ranks p) ≡ None
   no_move (has_ended w e) = step_ends ops told (s.ranks p) (todo_is None [] w e)
@@ -86,7 +78,7 @@ module _ (ops : List Operation) (ranks : ℕ) (s : System) (p : ℕ) (l : p < ra
 below_itself : (w : WorldView) → Holds w → (p : ℕ) → IsBoardBelow (w.each p).node.board (w.each p).node.board
 below_itself w h p = let a = are_least w h p in a.least (w.each p).node.board (λ i b e. a.above i b e)
 
-module _ (ops : List Operation) (script : Script) (ranks size : ℕ) (begun : Moment) (within : ranks ≤ size) (few : length script ≤ ranks) (processes : List ProcessView) (frames : List Look) (run : IsUnderWay ops script ranks size begun Alone processes frames) where
+module _ (ops : List Operation) (script : Script) (ranks size : ℕ) (begun : Moment) (within : ranks ≤ size) (few : length script ≤ ranks) (processes : List ProcessView) (frames : List FrameView) (run : IsUnderWay ops script ranks size begun Alone processes frames) where
   process_at : (p : ℕ) → p < ranks → (v : ProcessView) × (slice_get processes p ≡ Some v)
   process_at p l = some_at processes p (omega (arith, l, within, run.count))
 

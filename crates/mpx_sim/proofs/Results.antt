@@ -4,7 +4,6 @@ use Rattle.std.specs.Prelude.{slice_get, ◌||◌, is_some}
 use Rattle.std.proofs.lemmas.List.{length-map}
 use Rattle.mpx_num.specs.declared.own.Operation.{Operation}
 use Rattle.mpx_node.specs.Nodes.{NodeView}
-use Rattle.mpx_board.specs.Boards.{Look}
 use Rattle.mpx_world.proofs.Steps.{sound_of}
 use Rattle.mpx_statement.specs.declared.statement.Statement.{Statement}
 use Rattle.mpx_script.specs.ScriptView.{ScriptView}
@@ -24,7 +23,7 @@ use Rattle.mpx_system.proofs.Results.{length_taken, mapped_at, nothing_left, pre
 use Rattle.mpx_system.proofs.Settled.{stuck_ends}
 use Rattle.mpx_sim.specs.Ends.{RestsBy, nodes_of}
 use Rattle.mpx_sim.specs.Draws.{IsLater, ScheduleView, generator}
-use Rattle.mpx_sim.specs.Turns.{Alone, AreAfter, AreTurns, IsLeft, Moment}
+use Rattle.mpx_sim.specs.Turns.{Alone, AreAfter, AreTurns, FrameView, IsLeft, Moment}
 use Rattle.mpx_sim.specs.Running.{IsUnderWay, ProcessView, is_waiting_at}
 use Rattle.mpx_sim.proofs.Resting.{rests_ends}
 use Rattle.mpx_sim.proofs.Running.{couples}
@@ -38,13 +37,13 @@ left_todo (Some w) todo = refl
 left_todo None todo = left_doing todo
 
 -- a rank that waits has something left in the system
-pub left_at : (ops : List Operation) (script : Script) (ranks size : ℕ) (begun : Moment) (processes : List ProcessView) (frames : List Look) (run : IsUnderWay ops script ranks size begun Alone processes frames) (p : ℕ) → p < ranks → is_waiting_at (slice_get processes p) ≡ true → IsLeft ranks run.system.ranks
+pub left_at : (ops : List Operation) (script : Script) (ranks size : ℕ) (begun : Moment) (processes : List ProcessView) (frames : List FrameView) (run : IsUnderWay ops script ranks size begun Alone processes frames) (p : ℕ) → p < ranks → is_waiting_at (slice_get processes p) ≡ true → IsLeft ranks run.system.ranks
 left_at ops script ranks size begun processes frames run p l waits = by_view (slice_get processes p) refl waits where
   by_view : (o : Option ProcessView) → slice_get processes p ≡ o → is_waiting_at o ≡ true → IsLeft ranks run.system.ranks
   by_view None e w = cc w
   by_view (Some v) e w = record { rank = p; among = l; left = sym (left_todo v.rank.waits v.rank.todo ∙ ap is_left (sym ((run.each p v e).stands l).stands.todo)) ∙ w }
 
-module _ (ops : List Operation) (script : ScriptView) (relays : ℕ) (begun : Moment) (processes : List ProcessView) (frames : List Look) (run : IsUnderWay ops script.statements script.ranks (script.ranks + relays) begun Alone processes frames) where
+module _ (ops : List Operation) (script : ScriptView) (relays : ℕ) (begun : Moment) (processes : List ProcessView) (frames : List FrameView) (run : IsUnderWay ops script.statements script.ranks (script.ranks + relays) begun Alone processes frames) where
   abbrev transcripts : List (List (List ℕ))
   transcripts = take script.ranks (map (λ (v : ProcessView). v.rank.lines) processes)
 
@@ -85,7 +84,7 @@ module _ (ops : List Operation) (script : ScriptView) (relays : ℕ) (begun : Mo
         waiting_are = waiting_so;
       }
 
-  pub is_after : (told : List NodeView) → told ≡ nodes_of processes → (seed loss turns : ℕ) (first : ScheduleView) → IsLater (record { loss = loss; draws = generator seed }) first → AreTurns turns script.ranks (record { system = start_system ops script.statements script.ranks (script.ranks + relays); schedule = first }) begun
+  pub is_after : (told : List NodeView) → told ≡ nodes_of processes → (seed loss turns : ℕ) (first : ScheduleView) → IsLater (record { loss = loss; draws = generator seed }) first → AreTurns turns script.ranks (script.ranks + relays) (record { system = start_system ops script.statements script.ranks (script.ranks + relays); frames = []; schedule = first }) begun
       → AreAfter ops script relays seed loss turns told
   is_after told same seed loss turns first seeded made = record {
     first = first;
@@ -93,7 +92,7 @@ module _ (ops : List Operation) (script : ScriptView) (relays : ℕ) (begun : Mo
     begun = begun;
     made = made;
     system = run.system;
-    own = run.since;
+    own = run.since.0;
     nodes_are = λ p node e. let found = mapped_at (λ (v : ProcessView). v.node) processes p node (ap (λ ns. slice_get ns p) (sym same) ∙ e) in sym found.2 ∙ (run.each p found.0 found.1).node;
   }
 
@@ -124,7 +123,7 @@ module _ (ops : List Operation) (script : ScriptView) (relays : ℕ) (begun : Mo
     pub are_all : RestsBy loss script.ranks processes → (e : State) → IsEvaluation ops script.statements script.ranks e → AreAll transcripts waiting script.ranks e
     are_all rest e is = subst (AreAll transcripts waiting script.ranks) (confluent ops script.statements script.ranks run.system.ranks e (has_come rest) is) (record { lines = lines_so; who = waiting_so })
 
-module _ (ops : List Operation) (script : ScriptView) (relays ranks : ℕ) (same : ranks ≡ script.ranks) (begun : Moment) (processes : List ProcessView) (frames : List Look) (run : IsUnderWay ops script.statements script.ranks (script.ranks + relays) begun Alone processes frames)
+module _ (ops : List Operation) (script : ScriptView) (relays ranks : ℕ) (same : ranks ≡ script.ranks) (begun : Moment) (processes : List ProcessView) (frames : List FrameView) (run : IsUnderWay ops script.statements script.ranks (script.ranks + relays) begun Alone processes frames)
     (told : List NodeView) (said : List (List (List ℕ))) (wait : List ℕ) (nodes_so : told ≡ nodes_of processes) (lines_said : said ≡ take ranks (map (λ (v : ProcessView). v.rank.lines) processes)) (wait_so : wait ≡ which (λ p. is_waiting_at (slice_get processes p)) ranks) where
   said_so : transcripts ops script relays begun processes frames run ≡ said
   said_so = sym (lines_said ∙ ap (λ n. take n (map (λ (v : ProcessView). v.rank.lines) processes)) same)

@@ -1,41 +1,37 @@
 -- What the steps of a process keep of a run.
-use Rattle.std.proofs.Common.{◌≡◌, ℕ, ◌<◌, ◌≤◌, Bool, true, false, List, [], ◌∷◌, ◌++◌, length, set, get_or, Option, Some, None, refl, sym, ap, ◌∙◌, inl, subst}
+use Rattle.std.proofs.Common.{◌≡◌, ℕ, ◌<◌, Bool, true, false, List, [], length, set, get_or, Option, Some, None, refl, sym, ap, ◌∙◌, ◌⊎◌, inl, inr, subst, arith}
 use Rattle.std.specs.Prelude.{slice_get, is_some, Result, Ok, Err, OnOk, OnErr}
 use Rattle.std.specs.List.{All}
 use Rattle.std.proofs.lemmas.List.{length-set}
-use Rattle.std.proofs.lemmas.List.Elements.{All-push}
 use Rattle.std.proofs.lemmas.Option.{slice_get-get_or, slice_get_within, same_Some}
 use Rattle.join_core.specs.declared.memory.OutOfMemory.{OutOfMemory}
 use Rattle.mpx_num.specs.declared.own.Operation.{Operation}
 use Rattle.mpx_name.specs.Name.{Name}
 use Rattle.mpx_board.specs.declared.errors.PruneError.{PruneError}
-use Rattle.mpx_board.specs.Boards.{Look, Numbers}
+use Rattle.mpx_board.specs.Boards.{IsBoardBelow, Look, Numbers}
 use Rattle.mpx_board.specs.Changes.{pruned_on}
-use Rattle.mpx_delta.specs.Facts.{OnlyFactsOf}
 use Rattle.mpx_delta.specs.Digests.{HasUpTo}
-use Rattle.mpx_comm.specs.declared.comm.Comm.{Comm}
-use Rattle.mpx_comm.specs.Harvested.{Harvested, stay, on}
 use Rattle.mpx_node.specs.declared.finished.Finished.{Finished}
 use Rattle.mpx_node.specs.declared.node.Harvest.{Harvest}
 use Rattle.mpx_node.specs.declared.node.Harvest.TheVariants.{Done, NotYet, NotOpened}
 use Rattle.mpx_node.specs.Harvests.{Harvests as HarvestsOn}
-use Rattle.mpx_node.specs.Nodes.{NodeView, acknowledge, add_result, children_on, front_on, learn, learn_some, next_result, prune_part}
-use Rattle.mpx_world.specs.Worlds.{WorldView, Happening, IsNoPost, MayHappen, happens, stores, drops, takes, acknowledges, harvests, prunes, Harvests, Prunes, Sends, Takes, Acknowledges, at_process, ProcessView as InWorld}
-use Rattle.mpx_world.proofs.Kept.{taken_node}
-use Rattle.mpx_world.proofs.Lists.{slice_get-push}
+use Rattle.mpx_node.specs.Nodes.{NodeView, acknowledge, add_result, children_on, front_on, learn, learn_some, next_result, prune_part, results_on}
+use Rattle.mpx_world.specs.Worlds.{WorldView, Happening, IsNoPost, MayHappen, happens, stores, drops, takes, acknowledges, harvests, prunes, Harvests, Prunes, Takes, Acknowledges, at_process, ProcessView as InWorld}
+use Rattle.mpx_world.proofs.Kept.{kept_stores, taken_node}
 use Rattle.mpx_world.proofs.Steps.{at_here}
-use Rattle.mpx_world.proofs.Reached.{own_seen}
 use Rattle.mpx_meaning.specs.Evaluation.{Script}
 use Rattle.mpx_rank.specs.Moves.{RankView}
 use Rattle.mpx_system.specs.Systems.{System, Doing, Nets, does, MayDo, start_system}
 use Rattle.mpx_system.proofs.Coupling.{Couples}
 use Rattle.mpx_system.proofs.Leading.{coupled, leads_on}
 use Rattle.mpx_system.proofs.Posting.{each_other}
-use Rattle.mpx_post.proofs.Lists.{set_cases, set_twice, set_has, set_same, slice_get-append}
-use Rattle.mpx_sim.specs.Running.{ProcessView, StandsBy, IsAt, IsAmong, IsUnderWay, KeepsNode, Moves}
-use Rattle.mpx_sim.specs.Draws.{IsLater, ScheduleView, draw, drawn_once}
-use Rattle.mpx_sim.specs.Turns.{Alone, Coming, Going, IsIn, IsLeft, Moment, Phase}
-use Rattle.mpx_sim.proofs.Phases.{begins, comes_now, goes_now, since_draws, since_loses, since_on, since_sends}
+use Rattle.mpx_system.proofs.Results.{some_at}
+use Rattle.mpx_post.proofs.Lists.{set_cases, set_twice, set_has, set_same}
+use Rattle.mpx_sim.specs.Running.{HasCome, HaveCome, ProcessView, StandsBy, IsAt, IsAmong, IsUnderWay, KeepsNode, Moves}
+use Rattle.mpx_sim.specs.Draws.{IsLater, ScheduleView}
+use Rattle.mpx_sim.specs.Keeping.{keeps_node_itself}
+use Rattle.mpx_sim.specs.Turns.{Alone, Coming, FrameView, IsIn, IsLeft, IsTurn, IsUnder, Moment, Phase, Saying}
+use Rattle.mpx_sim.proofs.Phases.{begins, later_then, says_now, since_draws, since_on, under_itself}
 
 -- LISTS
 
@@ -45,8 +41,15 @@ read_at xs i d x e = same_Some (get_or xs i d) x (sym (slice_get-get_or xs i d (
 pub all_at : {A : Type 0} (P : A → Type 0) (xs : List A) (i : ℕ) (x : A) → slice_get xs i ≡ Some x → All P xs → P x
 all_at P xs i x e h = subst P (read_at xs i x x e) (h i x (slice_get_within xs i x e))
 
-all_more : {A : Type 0} (P Q : A → Type 0) → ((x : A) → P x → Q x) → (xs : List A) → All P xs → All Q xs
+pub all_more : {A : Type 0} (P Q : A → Type 0) → ((x : A) → P x → Q x) → (xs : List A) → All P xs → All Q xs
 all_more P Q f xs h k d l = f (get_or xs k d) (h k d l)
+
+-- parts among others
+pub among_itself : (parts : List Look) → All (IsAmong parts) parts
+among_itself parts k d l = (k, slice_get-get_or parts k d l)
+
+pub among_then : (a b c : List Look) → All (IsAmong a) b → All (IsAmong b) c → All (IsAmong a) c
+among_then a b c h k = all_more (IsAmong b) (IsAmong a) (λ x is. all_at (IsAmong a) b is.0 x is.1 h) c k
 
 -- ONE DOING
 
@@ -57,7 +60,7 @@ pub record IsDoneAt (ranks : ℕ) (s t : System) (p : ℕ) (new : ProcessView) :
   pub ranks_stay : (q : ℕ) → (q ≡ p → ⊥) → t.ranks q ≡ s.ranks q
   pub parts : t.world.parts ≡ s.world.parts
 
-module _ (ops : List Operation) (script : Script) (ranks size : ℕ) (begun : Moment) (phase : Phase) (processes : List ProcessView) (frames : List Look) (run : IsUnderWay ops script ranks size begun phase processes frames) where
+module _ (ops : List Operation) (script : Script) (ranks size : ℕ) (begun : Moment) (phase : Phase) (processes : List ProcessView) (frames : List FrameView) (run : IsUnderWay ops script ranks size begun phase processes frames) where
   pub couples : Couples ops script ranks run.system
   couples = coupled ops script ranks size run.system run.led
 
@@ -67,16 +70,16 @@ module _ (ops : List Operation) (script : Script) (ranks size : ℕ) (begun : Mo
       record {
         system = t;
         led = leads_on ranks (start_system ops script ranks size) run.system d run.led may;
-        since = since_on ranks begun phase run.system run.since d into may;
+        since = since_on ranks size begun phase frames run.system run.since d into may;
         count = length-set processes p new ∙ run.count;
         each = λ q v e. set_cases processes p q new v (IsAt ranks t q) e
             (λ same. subst (λ j. IsAt ranks t j new) (sym same) is.at)
             (λ old other. let a = run.each q v old in record { me = a.me; node = a.node ∙ sym (is.nodes q other); stands = λ l. subst (StandsBy v.rank) (sym (is.ranks_stay q other)) (a.stands l) });
-        sent = subst (λ ps. All (IsAmong ps) frames) (sym is.parts) run.sent;
+        sent = subst (λ ps. All (λ (f : FrameView). IsAmong ps f.part) frames) (sym is.parts) run.sent;
       }
 
   -- something of process p that makes no post, and changes its node so
-  net_on : (p : ℕ) (r : RankView Comm) (old new : NodeView) → slice_get processes p ≡ Some (record { rank = r; node = old }) → (h : Happening) (f : InWorld → InWorld) → IsNoPost h → IsIn phase (Nets h) → MayHappen run.system.world h
+  net_on : (p : ℕ) (r : RankView Name) (old new : NodeView) → slice_get processes p ≡ Some (record { rank = r; node = old }) → (h : Happening) (f : InWorld → InWorld) → IsNoPost h → IsIn phase (Nets h) → MayHappen run.system.world h
       → happens run.system.world h ≡ at_process p f run.system.world → new ≡ (f (run.system.world.each p)).node → IsUnderWay ops script ranks size begun phase (set processes p (record { rank = r; node = new })) frames
   net_on p r old new at h f net into may is e =
       let s = run.system in
@@ -90,76 +93,68 @@ module _ (ops : List Operation) (script : Script) (ranks size : ℕ) (begun : Mo
       }))
 
   -- a frame is taken
-  pub run_takes : ((p place : ℕ) → IsIn phase (Nets (Takes p place))) → (p : ℕ) (r : RankView Comm) (node : NodeView) (i : ℕ) (b : Look) → slice_get processes p ≡ Some (record { rank = r; node = node }) → slice_get frames i ≡ Some b
-      → IsUnderWay ops script ranks size begun phase (set processes p (record { rank = r; node = learn b node })) frames
-  run_takes into p r node i b at got =
+  pub run_takes : ((p place : ℕ) → IsIn phase (Nets (Takes p place))) → (p : ℕ) (r : RankView Name) (node : NodeView) (i : ℕ) (f : FrameView) → slice_get processes p ≡ Some (record { rank = r; node = node }) → slice_get frames i ≡ Some f
+      → IsUnderWay ops script ranks size begun phase (set processes p (record { rank = r; node = learn f.part node })) frames
+  run_takes into p r node i f at got =
       let s = run.system in
-      let found = all_at (IsAmong s.world.parts) frames i b got run.sent in
-      net_on p r node (learn b node) at (Takes p found.0) (takes (slice_get s.world.parts found.0)) tt (into p found.0) tt refl
-      (ap (learn b) (run.each p (record { rank = r; node = node }) at).node ∙ ap (λ o. (takes o (s.world.each p)).node) (sym found.1))
+      let found = all_at (λ (g : FrameView). IsAmong s.world.parts g.part) frames i f got run.sent in
+      net_on p r node (learn f.part node) at (Takes p found.0) (takes (slice_get s.world.parts found.0)) tt (into p found.0) tt refl
+      (ap (learn f.part) (run.each p (record { rank = r; node = node }) at).node ∙ ap (λ o. (takes o (s.world.each p)).node) (sym found.1))
 
-  -- frames are lost, repeated or reordered
-  pub run_fewer : (fewer : List Look) → ((P : Look → Type 0) → All P frames → All P fewer) → IsUnderWay ops script ranks size begun phase processes fewer
-  run_fewer fewer among = record { system = run.system; led = run.led; since = run.since; count = run.count; each = run.each; sent = among (IsAmong run.system.world.parts) run.sent }
+module _ (ops : List Operation) (script : Script) (ranks size : ℕ) (begun : Moment) (turn : ℕ) (t : ScheduleView) (processes : List ProcessView) (frames : List FrameView) (run : IsUnderWay ops script ranks size begun (Coming turn t) processes frames) where
+  -- frames are reordered
+  pub run_mixed : (mixed : List FrameView) → ((P : FrameView → Type 0) → All P frames → All P mixed) → ((P : FrameView → Type 0) → All P mixed → All P frames) → IsUnderWay ops script ranks size begun (Coming turn t) processes mixed
+  run_mixed mixed to back =
+      let stay = back (IsUnder mixed) (under_itself mixed) in
+      record {
+        system = run.system;
+        led = run.led;
+        since = (run.since.0, all_more (IsUnder frames) (IsUnder mixed) (λ f is. all_at (IsUnder mixed) frames is.0 f is.1 stay) run.since.0.sent.frames run.since.1);
+        count = run.count;
+        each = run.each;
+        sent = to (λ (f : FrameView). IsAmong run.system.world.parts f.part) run.sent;
+      }
 
--- a part of a board is sent, where the number drawn for it isn't below the loss
-pub run_sends : (ops : List Operation) (script : Script) (ranks size : ℕ) (begun : Moment) (t : ScheduleView) (processes : List ProcessView) (frames : List Look) (run : IsUnderWay ops script ranks size begun (Going t) processes frames) (p : ℕ) (v : ProcessView) (part : Look)
-    → t.loss ≤ draw 100 t.draws → slice_get processes p ≡ Some v → OnlyFactsOf part v.node.board → IsUnderWay ops script ranks size begun (Going (drawn_once t)) processes (frames ++ part ∷ [])
-run_sends ops script ranks size begun t processes frames run p v part kept at only =
-    let s = run.system in
-    let d : Doing = Nets (Sends p part) in
-    let new = s.world.parts ++ part ∷ [] in
-    let here : OnlyFactsOf part (s.world.each p).node.board = subst (λ (n : NodeView). OnlyFactsOf part n.board) (run.each p v at).node only in
-    let may : MayDo ranks s d = (tt, λ f has. inl (own_seen s.world p (s.world.each p) f ((couples ops script ranks size begun (Going t) processes frames run).upheld.holds.processes p) (here f has))) in
-    record {
-      system = does s d;
-      led = leads_on ranks (start_system ops script ranks size) s d run.led may;
-      since = since_sends ranks begun t s p part run.since may kept;
-      count = run.count;
-      each = λ q v e. let a = run.each q v e in record { me = a.me; node = a.node; stands = a.stands };
-      sent = All-push (IsAmong new) frames part
-          (all_more (IsAmong s.world.parts) (IsAmong new) (λ b found. (found.0, slice_get-append s.world.parts (part ∷ []) found.0 b found.1)) frames run.sent)
-          (length s.world.parts, slice_get-push s.world.parts part);
-    }
+  -- more is drawn while frames come
+  pub run_draws : (u : ScheduleView) → IsLater t u → IsUnderWay ops script ranks size begun (Coming turn u) processes frames
+  run_draws u later = record { system = run.system; led = run.led; since = since_draws ranks size begun turn t u frames run.system run.since later; count = run.count; each = run.each; sent = run.sent }
 
--- else it is lost
-pub run_loses : (ops : List Operation) (script : Script) (ranks size : ℕ) (begun : Moment) (t : ScheduleView) (processes : List ProcessView) (frames : List Look) → IsUnderWay ops script ranks size begun (Going t) processes frames → draw 100 t.draws < t.loss
-    → IsUnderWay ops script ranks size begun (Going (drawn_once t)) processes frames
-run_loses ops script ranks size begun t processes frames run lost = record { system = run.system; led = run.led; since = since_loses ranks begun t run.system run.since lost; count = run.count; each = run.each; sent = run.sent }
+  -- the turn is made once its frames have come, where those of later turns stay
+  pub run_turned : HaveCome turn frames processes → (u : ScheduleView) → IsLater t u → (left : List FrameView) → All (λ (f : FrameView). turn < f.turn → IsUnder left f) frames → IsTurn ranks size turn begun (record { system = run.system; frames = left; schedule = u })
+  run_turned come u later left stay =
+      let c = run.since.0 in
+      record {
+        coming = record { sent = c.sent; going = c.going; comes = c.comes; later = later_then c.sent.schedule t u c.later later };
+        came = all_more (IsUnder frames) (λ (f : FrameView). f.turn ≡ turn → f.to < size → IsBoardBelow f.part (run.system.world.each f.to).node.board)
+            (λ f is now within.
+            let v = some_at processes f.to (omega (arith, within, run.count)) in
+            subst (λ (n : NodeView). IsBoardBelow f.part n.board) (run.each f.to v.0 v.1).node (all_at (HasCome turn processes) frames is.0 f is.1 come now v.0 v.1))
+            c.sent.frames run.since.1;
+        still = all_more (IsUnder frames) (λ (f : FrameView). turn < f.turn → IsUnder left f) (λ f is. all_at (λ (g : FrameView). turn < g.turn → IsUnder left g) frames is.0 f is.1 stay) c.sent.frames run.since.1;
+      }
 
--- more is drawn while frames come
-pub run_draws : (ops : List Operation) (script : Script) (ranks size : ℕ) (begun : Moment) (t u : ScheduleView) (processes : List ProcessView) (frames : List Look) → IsUnderWay ops script ranks size begun (Coming t) processes frames → IsLater t u
-    → IsUnderWay ops script ranks size begun (Coming u) processes frames
-run_draws ops script ranks size begun t u processes frames run later = record { system = run.system; led = run.led; since = since_draws ranks begun t u run.system run.since later; count = run.count; each = run.each; sent = run.sent }
+  -- and the next one begins, with these frames
+  pub run_begins : (u : ScheduleView) (left : List FrameView) → All (λ (f : FrameView). IsAmong run.system.world.parts f.part) left → IsUnderWay ops script ranks size (record { system = run.system; frames = left; schedule = u }) Alone processes left
+  run_begins u left sent = record { system = run.system; led = run.led; since = begins ranks size (record { system = run.system; frames = left; schedule = u }); count = run.count; each = run.each; sent = sent }
 
--- the next phase of the turn begins
-pub run_goes : (ops : List Operation) (script : Script) (ranks size : ℕ) (begun : Moment) (processes : List ProcessView) (frames : List Look) (run : IsUnderWay ops script ranks size begun Alone processes frames) → IsLeft ranks run.system.ranks
-    → IsUnderWay ops script ranks size begun (Going begun.schedule) processes frames
-run_goes ops script ranks size begun processes frames run left = record { system = run.system; led = run.led; since = goes_now ranks begun run.system run.since left; count = run.count; each = run.each; sent = run.sent }
-
-pub run_comes : (ops : List Operation) (script : Script) (ranks size : ℕ) (begun : Moment) (t : ScheduleView) (processes : List ProcessView) (frames : List Look) → IsUnderWay ops script ranks size begun (Going t) processes frames → IsUnderWay ops script ranks size begun (Coming t) processes frames
-run_comes ops script ranks size begun t processes frames run = record { system = run.system; led = run.led; since = comes_now ranks begun t run.system run.since; count = run.count; each = run.each; sent = run.sent }
-
--- and so does the next turn
-pub run_begins : (ops : List Operation) (script : Script) (ranks size : ℕ) (begun : Moment) (t : ScheduleView) (processes : List ProcessView) (frames : List Look) (run : IsUnderWay ops script ranks size begun (Coming t) processes frames)
-    → IsUnderWay ops script ranks size (record { system = run.system; schedule = t }) Alone processes frames
-run_begins ops script ranks size begun t processes frames run = record { system = run.system; led = run.led; since = begins ranks (record { system = run.system; schedule = t }); count = run.count; each = run.each; sent = run.sent }
+-- where a rank has something left, processes say what they have
+pub run_says : (ops : List Operation) (script : Script) (ranks size : ℕ) (begun : Moment) (processes : List ProcessView) (frames : List FrameView) (run : IsUnderWay ops script ranks size begun Alone processes frames) → IsLeft ranks run.system.ranks
+    → IsUnderWay ops script ranks size begun Saying processes frames
+run_says ops script ranks size begun processes frames run left = record { system = run.system; led = run.led; since = says_now ranks size begun frames run.system run.since left; count = run.count; each = run.each; sent = run.sent }
 
 -- the same processes and frames
-pub run_same : (ops : List Operation) (script : Script) (ranks size : ℕ) (begun : Moment) (phase : Phase) (ps qs : List ProcessView) (bs cs : List Look) → ps ≡ qs → bs ≡ cs → IsUnderWay ops script ranks size begun phase ps bs → IsUnderWay ops script ranks size begun phase qs cs
+pub run_same : (ops : List Operation) (script : Script) (ranks size : ℕ) (begun : Moment) (phase : Phase) (ps qs : List ProcessView) (bs cs : List FrameView) → ps ≡ qs → bs ≡ cs → IsUnderWay ops script ranks size begun phase ps bs → IsUnderWay ops script ranks size begun phase qs cs
 run_same ops script ranks size begun phase ps qs bs cs p f run = subst (λ xs. IsUnderWay ops script ranks size begun phase xs cs) p (subst (λ xs. IsUnderWay ops script ranks size begun phase ps xs) f run)
 
+pub run_framed : (ops : List Operation) (script : Script) (ranks size : ℕ) (s : System) (t : ScheduleView) (ps : List ProcessView) (bs cs : List FrameView) → bs ≡ cs → IsUnderWay ops script ranks size (record { system = s; frames = bs; schedule = t }) Alone ps bs
+    → IsUnderWay ops script ranks size (record { system = s; frames = cs; schedule = t }) Alone ps cs
+run_framed ops script ranks size s t ps bs cs e run = subst (λ fs. IsUnderWay ops script ranks size (record { system = s; frames = fs; schedule = t }) Alone ps fs) e run
+
+-- or the same while frames come, by the same schedule
+pub run_scheduled : (ops : List Operation) (script : Script) (ranks size : ℕ) (begun : Moment) (turn : ℕ) (t u : ScheduleView) (ps qs : List ProcessView) (bs cs : List FrameView) → t ≡ u → ps ≡ qs → bs ≡ cs → IsUnderWay ops script ranks size begun (Coming turn t) ps bs → IsUnderWay ops script ranks size begun (Coming turn u) qs cs
+run_scheduled ops script ranks size begun turn t u ps qs bs cs s p f run = run_same ops script ranks size begun (Coming turn u) ps qs bs cs p f (subst (λ x. IsUnderWay ops script ranks size begun (Coming turn x) ps bs) s run)
+
 -- A NODE'S STEPS
-
-pub keeps_node_itself : (phase : Phase) (ops : List Operation) (old new : NodeView) → new ≡ old → KeepsNode phase ops old new
-keeps_node_itself phase ops old new e r script ranks size begun processes frames p at run =
-    subst (λ rs. IsUnderWay ops script ranks size begun phase rs frames) (sym (set_same processes p (record { rank = r; node = old }) at) ∙ ap (λ n. set processes p (record { rank = r; node = n })) (sym e)) run
-
-pub keeps_node_then : (phase : Phase) (ops : List Operation) (a b c : NodeView) → KeepsNode phase ops a b → KeepsNode phase ops b c → KeepsNode phase ops a c
-keeps_node_then phase ops a b c f g r script ranks size begun processes frames p at run =
-    let mid : ProcessView = record { rank = r; node = b } in
-    subst (λ rs. IsUnderWay ops script ranks size begun phase rs frames) (set_twice processes p mid (record { rank = r; node = c }))
-    (g r script ranks size begun (set processes p mid) frames p (set_has processes p (record { rank = r; node = a }) mid at) (f r script ranks size begun processes frames p at run))
 
 -- a step of a node that happens in each world of these operations where the node is so
 keeps_net : (phase : Phase) (ops : List Operation) (old new : NodeView) (h : ℕ → Happening) (f : List Operation → InWorld → InWorld) → ((p : ℕ) → IsNoPost (h p)) → ((w : WorldView) (p : ℕ) → happens w (h p) ≡ at_process p (f w.operations) w) → ((p : ℕ) → IsIn phase (Nets (h p)))
@@ -184,26 +179,33 @@ keeps_stored ops name old new e =
     keeps_net Alone ops old new (λ p. Harvests p name) (λ o. harvests o name) (λ p. tt) (λ w p. refl) (λ p. tt) (λ w p same. tt)
     (λ v same. e ∙ (λ i. stored ops name (next_result ops (sym same i) name) (sym same i)) ∙ sym (stores_node ops name (next_result ops v.node name) v))
 
-keeps_node_harvest : (ops : List Operation) (opened : Bool) (name : Name) (next : Option Finished) (answer : Result Harvest OutOfMemory) (old new : NodeView) → next ≡ next_result ops old name → HarvestsOn ops opened name next answer old new → KeepsNode Alone ops old new
-keeps_node_harvest ops false name next answer old new e x = keeps_node_itself Alone ops old new x.1
-keeps_node_harvest ops true name (Some finished) (Ok (Done call)) old new e x = keeps_stored ops name old new (x.1 ∙ ap (λ o. stored ops name o old) e)
-keeps_node_harvest ops true name (Some finished) (Ok NotYet) old new e x = absurd x
-keeps_node_harvest ops true name (Some finished) (Ok NotOpened) old new e x = absurd x
-keeps_node_harvest ops true name (Some finished) (Err refused) old new e x = keeps_node_itself Alone ops old new x
-keeps_node_harvest ops true name None (Ok (Done call)) old new e x = absurd x
-keeps_node_harvest ops true name None (Ok NotYet) old new e x = keeps_node_itself Alone ops old new x
-keeps_node_harvest ops true name None (Ok NotOpened) old new e x = absurd x
-keeps_node_harvest ops true name None (Err refused) old new e x = absurd x
+-- a harvest stores the next result, or nothing
+stores_or_not : (ops : List Operation) (opened : Bool) (name : Name) (next : Option Finished) (answer : Result Harvest OutOfMemory) (old new : NodeView) → HarvestsOn ops opened name next answer old new → (new ≡ old) ⊎ (new ≡ stored ops name next old)
+stores_or_not ops false name next answer old new x = inl x.1
+stores_or_not ops true name (Some finished) (Ok (Done call)) old new x = inr x.1
+stores_or_not ops true name (Some finished) (Ok NotYet) old new x = absurd x
+stores_or_not ops true name (Some finished) (Ok NotOpened) old new x = absurd x
+stores_or_not ops true name (Some finished) (Err refused) old new x = inl x
+stores_or_not ops true name None (Ok (Done call)) old new x = absurd x
+stores_or_not ops true name None (Ok NotYet) old new x = inl x
+stores_or_not ops true name None (Ok NotOpened) old new x = absurd x
+stores_or_not ops true name None (Err refused) old new x = absurd x
 
--- harvests, one after the other
-pub keeps_harvested : (ops : List Operation) (a b : NodeView) → Harvested ops a b → KeepsNode Alone ops a b
-keeps_harvested ops a b (stay x y e) = keeps_node_itself Alone ops a b e
-keeps_harvested ops a b (on x d y name answer done more) = keeps_node_then Alone ops a d b (keeps_node_harvest ops (is_some (a.opened name)) name (next_result ops a name) answer a d refl done) (keeps_harvested ops d b more)
+-- it keeps the run, and what the node held
+pub keeps_harvest : (ops : List Operation) (name : Name) (answer : Result Harvest OutOfMemory) (old new : NodeView) → HarvestsOn ops (is_some (old.opened name)) name (next_result ops old name) answer old new
+    → KeepsNode Alone ops old new × ((n : Name) (k : ℕ) (x : Finished) → slice_get (results_on old n) k ≡ Some x → slice_get (results_on new n) k ≡ Some x)
+keeps_harvest ops name answer old new h =
+    let next = next_result ops old name in
+    let v : InWorld = record { node = old; made = []; learned = [] } in
+    elim (stores_or_not ops (is_some (old.opened name)) name next answer old new h) [
+      | inl same ↦ (keeps_node_itself Alone ops old new same, λ n k x e. subst (λ m. slice_get (results_on m n) k ≡ Some x) (sym same) e)
+      | inr is ↦ (keeps_stored ops name old new is, λ n k x e. subst (λ m. slice_get (results_on m n) k ≡ Some x) (stores_node ops name next v ∙ sym is) ((kept_stores ops name next v).results_kept n k x e))
+    ]
 
 -- a process acknowledges what its board has
-pub keeps_node_acknowledge : (schedule : ScheduleView) (ops : List Operation) (numbers : Numbers) (old new : NodeView) → ((name : Name) (m : ℕ) → HasUpTo old.board name m (numbers name m)) → new ≡ acknowledge numbers old → KeepsNode (Going schedule) ops old new
-keeps_node_acknowledge schedule ops numbers old new has e =
-    keeps_net (Going schedule) ops old new (λ p. Acknowledges p numbers) (λ o. acknowledges numbers) (λ p. tt) (λ w p. refl) (λ p. tt)
+pub keeps_node_acknowledge : (ops : List Operation) (numbers : Numbers) (old new : NodeView) → ((name : Name) (m : ℕ) → HasUpTo old.board name m (numbers name m)) → new ≡ acknowledge numbers old → KeepsNode Saying ops old new
+keeps_node_acknowledge ops numbers old new has e =
+    keeps_net Saying ops old new (λ p. Acknowledges p numbers) (λ o. acknowledges numbers) (λ p. tt) (λ w p. refl) (λ p. tt)
     (λ w p same. subst (λ (n : NodeView). (name : Name) (m : ℕ) → HasUpTo n.board name m (numbers name m)) (sym same) has)
     (λ v same. e ∙ ap (acknowledge numbers) (sym same))
 
@@ -227,7 +229,7 @@ keeps_node_prune ops name n answer old new e f g =
 
 -- A RANK'S MOVES
 
-pub moves_node : (ops : List Operation) (r : RankView Comm) (a b : NodeView) → KeepsNode Alone ops a b → Moves ops (record { rank = r; node = a }) (record { rank = r; node = b })
+pub moves_node : (ops : List Operation) (r : RankView Name) (a b : NodeView) → KeepsNode Alone ops a b → Moves ops (record { rank = r; node = a }) (record { rank = r; node = b })
 moves_node ops r a b k script ranks size begun processes frames p l at run = k r script ranks size begun processes frames p at run
 
 pub moves_then : (ops : List Operation) (a b c : ProcessView) → Moves ops a b → Moves ops b c → Moves ops a c

@@ -1,10 +1,12 @@
 -- Frames, and the board whose bytes they are.
-use Rattle.std.proofs.Common.{◌≡◌, ◌<◌, ◌≤◌, ℕ, zero, suc, get_or, take, drop, List, [], ◌∷◌, ◌++◌, length, map, set, Some, refl, sym, ap, subst, arith}
-use Rattle.std.specs.Prelude.{All, slice_get}
+use Rattle.std.proofs.Common.{◌≡◌, ◌+◌, ◌<◌, ◌≤◌, ℕ, zero, suc, Bool, true, false, get_or, take, drop, List, [], ◌∷◌, ◌++◌, length, map, set, Some, refl, sym, ap, ◌∙◌, inl, subst, arith}
+use Rattle.std.specs.Prelude.{All, nat_lt, slice_get, if◌then◌else◌}
 use Rattle.std.specs.List.{remove}
-use Rattle.std.proofs.lemmas.List.{map-append}
-use Rattle.std.proofs.lemmas.Option.{same_Some}
-use Rattle.std.proofs.lemmas.List.Elements.{All-nil, All-cons, All-head, All-tail, All-map}
+use Rattle.std.specs.Option.{option_map}
+use Rattle.std.proofs.lemmas.Bool.Decides.{nat_tests}
+use Rattle.std.proofs.lemmas.List.{append-nil, append_assoc}
+use Rattle.std.proofs.lemmas.Option.{get_or_from_slice_get, same_Some, slice_get-get_or, slice_get-map, slice_get_within}
+use Rattle.std.proofs.lemmas.List.Elements.{All-append, All-nil, All-cons, All-head, All-push, All-tail, All-map}
 use Rattle.mpx_num.specs.declared.own.Operation.{Operation}
 use Rattle.mpx_board.specs.Boards.{Look}
 use Rattle.mpx_board.specs.Contexts.{look_of}
@@ -13,14 +15,24 @@ use Rattle.mpx_format.specs.declared.versions.Version.{Version}
 use Rattle.mpx_format.specs.Decoding.{Spells, decoded}
 use Rattle.mpx_format.proofs.Decoded.{decoded_again}
 use Rattle.mpx_delta.specs.Facts.{OnlyFactsOf}
+use Rattle.mpx_node.specs.Nodes.{NodeView}
+use Rattle.mpx_post.proofs.Lists.{next_left, slice_get-append}
+use Rattle.mpx_world.specs.Worlds.{Sends}
+use Rattle.mpx_world.proofs.Lists.{slice_get-push}
+use Rattle.mpx_world.proofs.Reached.{own_seen}
 use Rattle.mpx_meaning.specs.Evaluation.{Script}
+use Rattle.mpx_system.specs.Systems.{Doing, Leads, MayDo, Nets, System, does, does_all, start_system}
+use Rattle.mpx_system.proofs.Leading.{coupled, leads_on}
+use Rattle.mpx_system.proofs.Results.{mapped_at, some_at}
 use Rattle.mpx_sim.specs.declared.frame_under_way.FrameUnderWay.{FrameUnderWay}
 use Rattle.mpx_sim.specs.declared.schedule.Schedule.{Schedule}
 use Rattle.mpx_sim.specs.Draws.{ScheduleView, draw, drawn, drawn_once}
-use Rattle.mpx_sim.specs.Turns.{Going, Moment}
-use Rattle.mpx_sim.specs.Running.{IsUnderWay, ProcessView}
-use Rattle.mpx_sim.specs.Shown.{part_of, schedule_of, shown}
-use Rattle.mpx_sim.proofs.Running.{run_sends}
+use Rattle.mpx_sim.specs.Turns.{Coming, FrameView, IsListOf, IsUnder, Moment, Saying, a_list, drawn_for, joined, no_list, one_a_turn, sends_each, those_out}
+use Rattle.mpx_sim.specs.Running.{IsAmong, IsAt, IsUnderWay, ProcessView}
+use Rattle.mpx_sim.specs.Shown.{frame_of, part_of, schedule_of, shown}
+use Rattle.mpx_sim.specs.SideBySide.{StillToCome}
+use Rattle.mpx_sim.proofs.Phases.{comes_now}
+use Rattle.mpx_sim.proofs.Running.{all_more}
 
 -- BYTES
 
@@ -37,12 +49,160 @@ all_behind f P (x ∷ xs) h = All-cons (λ y. P (f y)) x xs (All-head P (f x) (m
 pub all_same : {A B C : Type 0} (f : A → C) (g : B → C) (P : C → Type 0) (xs : List A) (ys : List B) → map f xs ≡ map g ys → All (λ y. P (g y)) ys → All (λ x. P (f x)) xs
 all_same f g P xs ys e h = all_behind f P xs (subst (All P) (sym e) (All-map P g ys h))
 
--- A FRAME GOES OUT
+-- FRAMES GO OUT
 
-pub goes_out : (ops : List Operation) (script : Script) (ranks size : ℕ) (begun : Moment) (t : ScheduleView) → t.loss ≤ draw 100 t.draws → (processes : List ProcessView) (p : ℕ) (v : ProcessView) (frames : List FrameUnderWay) (new : FrameUnderWay) → slice_get processes p ≡ Some v → OnlyFactsOf (part_of new) v.node.board
-    → IsUnderWay ops script ranks size begun (Going t) processes (map part_of frames) → IsUnderWay ops script ranks size begun (Going (drawn_once t)) processes (map part_of (frames ++ new ∷ []))
-goes_out ops script ranks size begun t kept processes p v frames new at only run =
-    subst (λ (bs : List Look). IsUnderWay ops script ranks size begun (Going (drawn_once t)) processes bs) (sym (map-append part_of frames (new ∷ []))) (run_sends ops script ranks size begun t processes (map part_of frames) run p v (part_of new) kept at only)
+pub out_append : (s : ScheduleView) (xs ys : List FrameView) → those_out s (xs ++ ys) ≡ those_out s xs ++ those_out (drawn_for xs s) ys
+out_append s [] ys = refl
+out_append s (f ∷ xs) ys = by_number (nat_lt (draw 100 s.draws) s.loss) (out_append (drawn_once s) xs ys) where
+  by_number : (lost : Bool) → those_out (drawn_once s) (xs ++ ys) ≡ those_out (drawn_once s) xs ++ those_out (drawn_for xs (drawn_once s)) ys → (if lost then those_out (drawn_once s) (xs ++ ys) else (f ∷ those_out (drawn_once s) (xs ++ ys))) ≡ (if lost then those_out (drawn_once s) xs else (f ∷ those_out (drawn_once s) xs)) ++ those_out (drawn_for xs (drawn_once s)) ys
+  by_number true rest = rest
+  by_number false rest = ap (λ fs. f ∷ fs) rest
+
+pub drawn_append : (xs ys : List FrameView) (s : ScheduleView) → drawn_for (xs ++ ys) s ≡ drawn_for ys (drawn_for xs s)
+drawn_append [] ys s = refl
+drawn_append (f ∷ xs) ys s = drawn_append xs ys (drawn_once s)
+
+pub same_loss : (made : List FrameView) (s : ScheduleView) → (drawn_for made s).loss ≡ s.loss
+same_loss [] s = refl
+same_loss (f ∷ made) s = same_loss made (drawn_once s)
+
+-- some frames, and then more of them
+pub then_out : (frames mid new : List FrameView) (s t : ScheduleView) (xs ys : List FrameView) → mid ≡ frames ++ those_out s xs → t ≡ drawn_for xs s → new ≡ mid ++ those_out t ys → new ≡ frames ++ those_out s (xs ++ ys)
+then_out frames mid new s t xs ys a b c =
+    c ∙ (λ i. a i ++ those_out (b i) ys) ∙ append_assoc frames (those_out s xs) (those_out (drawn_for xs s) ys) ∙ ap (λ fs. frames ++ fs) (sym (out_append s xs ys))
+
+-- one goes out, or is lost, by its number
+pub is_out : (s : ScheduleView) (f : FrameView) → s.loss ≤ draw 100 s.draws → those_out s (f ∷ []) ≡ f ∷ []
+is_out s f kept =
+    let not : nat_lt (draw 100 s.draws) s.loss ≡ false = grind (arith, nat_tests, kept) in
+    ap (λ lost. if lost then [] else (f ∷ [])) not
+
+pub is_lost_out : (s : ScheduleView) (f : FrameView) → draw 100 s.draws < s.loss → those_out s (f ∷ []) ≡ []
+is_lost_out s f lost =
+    let is : nat_lt (draw 100 s.draws) s.loss ≡ true = grind (arith, nat_tests, lost) in
+    ap (λ b. if b then [] else (f ∷ [])) is
+
+all_out : (P : FrameView → Type 0) (s : ScheduleView) (made : List FrameView) → All P made → All P (those_out s made)
+all_out P s [] h = h
+all_out P s (f ∷ made) h = by_number (nat_lt (draw 100 s.draws) s.loss) (all_out P (drawn_once s) made (All-tail P f made h)) where
+  by_number : (lost : Bool) → All P (those_out (drawn_once s) made) → All P (if lost then those_out (drawn_once s) made else (f ∷ those_out (drawn_once s) made))
+  by_number true rest = rest
+  by_number false rest = All-cons P f (those_out (drawn_once s) made) (All-head P f made h) rest
+
+all_joined : (P : FrameView → Type 0) (lists : List (List FrameView)) → ((p : ℕ) (list : List FrameView) → slice_get lists p ≡ Some list → All P list) → All P (joined lists)
+all_joined P [] h = All-nil P
+all_joined P (list ∷ lists) h = All-append P list (joined lists) (h zero list refl) (all_joined P lists (λ p more e. h (suc p) more e))
+
+-- a frame says what is on the board of its process
+abbrev Says : List ProcessView → FrameView → Type 0
+Says processes f = (v : ProcessView) × (slice_get processes f.from ≡ Some v) × OnlyFactsOf f.part v.node.board
+
+parts_say : (processes : List ProcessView) (p : ℕ) (v : ProcessView) → slice_get processes p ≡ Some v → (to turn : ℕ) (parts : List Look) → All (λ part. OnlyFactsOf part v.node.board) parts → All (Says processes) (one_a_turn p to turn parts)
+parts_say processes p v at to turn [] h = All-nil (Says processes)
+parts_say processes p v at to turn (part ∷ parts) h =
+    All-cons (Says processes) (record { from = p; to = to; turn = turn; part = part }) (one_a_turn p to (suc turn) parts) (v, at, All-head (λ b. OnlyFactsOf b v.node.board) part parts h)
+    (parts_say processes p v at to (suc turn) parts (All-tail (λ b. OnlyFactsOf b v.node.board) part parts h))
+
+list_says : (processes : List ProcessView) (size turn p : ℕ) (v : ProcessView) → slice_get processes p ≡ Some v → (list : List FrameView) → IsListOf size turn p v.node list → All (Says processes) list
+list_says processes size turn p v at list no_list = All-nil (Says processes)
+list_says processes size turn p v at list (a_list to parts within facts whole) = parts_say processes p v at to turn parts facts
+
+module _ (ops : List Operation) (script : Script) (ranks size : ℕ) (processes : List ProcessView) where
+  -- a system in which these frames are under way
+  record Sent (frames : List FrameView) (s : System) : Type 0 where
+    led : Leads ranks (start_system ops script ranks size) s
+    each : (p : ℕ) (v : ProcessView) → slice_get processes p ≡ Some v → IsAt ranks s p v
+    sent : All (λ (f : FrameView). IsAmong s.world.parts f.part) frames
+
+  one_sent : (frames : List FrameView) (s : System) → Sent frames s → (f : FrameView) → Says processes f → Sent (frames ++ f ∷ []) (does s (Nets (Sends f.from f.part)))
+  one_sent frames s h f says =
+      let d : Doing = Nets (Sends f.from f.part) in
+      let v = says.0 in
+      let new = s.world.parts ++ f.part ∷ [] in
+      let here : OnlyFactsOf f.part (s.world.each f.from).node.board = subst (λ (n : NodeView). OnlyFactsOf f.part n.board) (h.each f.from v says.1).node says.2 in
+      let may : MayDo ranks s d = (tt, λ fact has. inl (own_seen s.world f.from (s.world.each f.from) fact ((coupled ops script ranks size s h.led).upheld.holds.processes f.from) (here fact has))) in
+      record {
+        led = leads_on ranks (start_system ops script ranks size) s d h.led may;
+        each = λ q u e. let a = h.each q u e in record { me = a.me; node = a.node; stands = a.stands };
+        sent = All-push (λ (g : FrameView). IsAmong new g.part) frames f
+            (all_more (λ (g : FrameView). IsAmong s.world.parts g.part) (λ (g : FrameView). IsAmong new g.part) (λ g found. (found.0, slice_get-append s.world.parts (f.part ∷ []) found.0 g.part found.1)) frames h.sent)
+            (length s.world.parts, slice_get-push s.world.parts f.part);
+      }
+
+  each_sent : (more frames : List FrameView) (s : System) → Sent frames s → All (Says processes) more → Sent (frames ++ more) (does_all s (sends_each more))
+  each_sent [] frames s h says = subst (λ fs. Sent fs s) (sym (append-nil frames)) h
+  each_sent (f ∷ more) frames s h says =
+      let t = does s (Nets (Sends f.from f.part)) in
+      subst (λ fs. Sent fs (does_all t (sends_each more))) (append_assoc frames (f ∷ []) more)
+      (each_sent more (frames ++ f ∷ []) t (one_sent frames s h f (All-head (Says processes) f more says)) (All-tail (Says processes) f more says))
+
+-- once processes have said what they have, the lists that they have made go out
+pub run_out : (ops : List Operation) (script : Script) (ranks size : ℕ) (begun : Moment) (turn : ℕ) (processes : List ProcessView) (frames : List FrameView) (run : IsUnderWay ops script ranks size begun Saying processes frames) (lists : List (List FrameView))
+    → length lists ≡ length processes → ((p : ℕ) (list : List FrameView) → slice_get lists p ≡ Some list → (v : ProcessView) → slice_get processes p ≡ Some v → IsListOf size turn v.rank.me v.node list)
+    → IsUnderWay ops script ranks size begun (Coming turn (drawn_for (joined lists) begun.schedule)) processes (frames ++ those_out begun.schedule (joined lists))
+run_out ops script ranks size begun turn processes frames run lists many are =
+    let s = run.system in
+    let made = joined lists in
+    let out = those_out begun.schedule made in
+    let list_at = λ (p : ℕ) (list : List FrameView) (e : slice_get lists p ≡ Some list) (v : ProcessView) (at : slice_get processes p ≡ Some v). subst (λ q. IsListOf size turn q v.node list) (run.each p v at).me (are p list e v at) in
+    let there = λ (p : ℕ) (list : List FrameView) (e : slice_get lists p ≡ Some list). some_at processes p (omega (arith, slice_get_within lists p list e, many)) in
+    let says : All (Says processes) made = all_joined (Says processes) lists (λ p list e. let v = there p list e in list_says processes size turn p v.0 v.1 list (list_at p list e v.0 v.1)) in
+    let h = each_sent ops script ranks size processes out frames s (record { led = run.led; each = run.each; sent = run.sent }) (all_out (Says processes) begun.schedule made says) in
+    let sent : Moment = record { system = does_all s (sends_each out); frames = frames ++ out; schedule = drawn_for made begun.schedule } in
+    record {
+      system = sent.system;
+      led = h.led;
+      since = comes_now ranks size turn begun sent (record {
+        said = s;
+        before = run.since.0;
+        lists = lists;
+        count = many ∙ run.count;
+        made = λ p list e. let v = there p list e in subst (λ n. IsListOf size turn p n list) (run.each p v.0 v.1).node (list_at p list e v.0 v.1);
+        system_is = refl;
+        frames_are = ap (λ fs. fs ++ out) run.since.1;
+        schedule_is = refl;
+      });
+      count = run.count;
+      each = h.each;
+      sent = h.sent;
+    }
+
+-- THE CODE'S FRAMES
+
+-- of which board each frame of a list is
+pub parts_in_turns : (from to turn : ℕ) (parts : List Look) → map (λ (f : FrameView). f.part) (one_a_turn from to turn parts) ≡ parts
+parts_in_turns from to turn [] = refl
+parts_in_turns from to turn (part ∷ parts) = ap (λ bs. part ∷ bs) (parts_in_turns from to (suc turn) parts)
+
+-- one more of a list
+pub one_turn_more : (from to turn : ℕ) (parts : List Look) (part : Look) → one_a_turn from to turn (parts ++ part ∷ []) ≡ one_a_turn from to turn parts ++ record { from = from; to = to; turn = turn + length parts; part = part } ∷ []
+one_turn_more from to turn [] part = let same : turn ≡ turn + 0 = omega arith in ap (λ n. let f : FrameView = record { from = from; to = to; turn = n; part = part } in f ∷ []) same
+one_turn_more from to turn (first ∷ parts) part =
+    let same : suc turn + length parts ≡ turn + suc (length parts) = omega arith in
+    ap (λ fs. let f : FrameView = record { from = from; to = to; turn = turn; part = first } in f ∷ fs)
+    (one_turn_more from to (suc turn) parts part ∙ ap (λ n. let f : FrameView = record { from = from; to = to; turn = n; part = part } in one_a_turn from to (suc turn) parts ++ f ∷ []) same)
+
+pub length_in_turns : (from to turn : ℕ) (parts : List Look) → length (one_a_turn from to turn parts) ≡ length parts
+length_in_turns from to turn [] = refl
+length_in_turns from to turn (part ∷ parts) = ap suc (length_in_turns from to (suc turn) parts)
+
+pub parts_of_frames : (frames : List FrameUnderWay) → map (λ (f : FrameView). f.part) (map frame_of frames) ≡ map part_of frames
+parts_of_frames [] = refl
+parts_of_frames (f ∷ frames) = ap (λ bs. part_of f ∷ bs) (parts_of_frames frames)
+
+-- what is so of the boards that frames spell
+pub all_of_parts : (P : Look → Type 0) (frames : List FrameUnderWay) → All P (map part_of frames) → All (λ (f : FrameView). P f.part) (map frame_of frames)
+all_of_parts P frames h = all_behind (λ (f : FrameView). f.part) P (map frame_of frames) (subst (All P) (sym (parts_of_frames frames)) h)
+
+pub parts_of_all : (P : Look → Type 0) (frames : List FrameUnderWay) → All (λ (f : FrameView). P f.part) (map frame_of frames) → All P (map part_of frames)
+parts_of_all P frames h = subst (All P) (parts_of_frames frames) (All-map P (λ (f : FrameView). f.part) (map frame_of frames) h)
+
+-- frames that stay are under way
+pub still_under : (turn : ℕ) (old new : List FrameUnderWay) → StillToCome turn old new → All (λ (f : FrameView). turn < f.turn → IsUnder (map frame_of new) f) (map frame_of old)
+still_under turn old new stay k d l later =
+    let f = mapped_at frame_of old k (get_or (map frame_of old) k d) (slice_get-get_or (map frame_of old) k d l) in
+    let now = stay f.0 k f.1 (subst (λ (g : FrameView). turn < g.turn) (sym f.2) later) in
+    (now.0, slice_get-map frame_of new now.0 ∙ ap (option_map frame_of) now.1 ∙ ap (λ g. Some g) f.2)
 
 -- THE CODE'S LISTS
 
@@ -74,6 +234,10 @@ stays_written P zero y (z ∷ zs) same zero x at p = ap (λ w. Some w) (same x a
 stays_written P zero y (z ∷ zs) same (suc k) x at p = at
 stays_written P (suc i) y (z ∷ zs) same zero x at p = at
 stays_written P (suc i) y (z ∷ zs) same (suc k) x at p = stays_written P i y zs same k x at p
+
+-- one of those that are left
+pub one_left : {A : Type 0} (xs : List A) (p : ℕ) (x : A) → slice_get xs p ≡ Some x → drop p xs ≡ x ∷ drop (p + 1) xs
+one_left xs p x e = next_left xs p x (slice_get_within xs p x e) (sym (get_or_from_slice_get xs p x x e))
 
 -- a vector whose elements were lent has what was written there
 pub written_back : {A : Type 0} (len : ℕ) (old new : List A) → length new ≡ length old → length old ≡ len → take len (new ++ drop (length new) old) ≡ new

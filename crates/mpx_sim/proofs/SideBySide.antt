@@ -1,6 +1,6 @@
 -- What processes do side by side, as steps of a run, one process after the other.
 use Rattle.std.proofs.Common.{◌≡◌, ℕ, zero, suc, ◌+◌, ◌<◌, ◌≤◌, Bool, true, false, List, [], ◌∷◌, length, map, set, get_or, Some, refl, sym, ap, ◌∙◌, subst, arith, ◌⊎◌, inl, inr}
-use Rattle.std.specs.Prelude.{IfSome, slice_get, if◌then◌else◌}
+use Rattle.std.specs.Prelude.{◌&&◌, IfSome, nat_eq, slice_get, if◌then◌else◌}
 use Rattle.std.specs.List.{All}
 use Rattle.std.specs.Option.{option_map}
 use Rattle.std.specs.Fork.{ChangesAt, ChangesEach}
@@ -8,20 +8,22 @@ use Rattle.std.proofs.lemmas.Option.{slice_get-get_or, slice_get-map, slice_get_
 use denote.Ref.{MutBor}
 use denote.Param.Members.{Shared}
 use Rattle.mpx_num.specs.declared.own.Operation.{Operation}
-use Rattle.mpx_board.specs.Boards.{Look}
+use Rattle.mpx_board.specs.Boards.{IsBoardBelow, Look}
+use Rattle.mpx_board.proofs.Facts.{below_through, facts_below, join_is_least, under_itself}
 use Rattle.mpx_delta.specs.declared.framed.NewFrames.{NewFrames}
 use Rattle.mpx_node.specs.Deltas.{LackFrames}
 use Rattle.mpx_node.specs.Nodes.{learn}
 use Rattle.mpx_meaning.specs.Evaluation.{Script}
-use Rattle.mpx_post.proofs.Lists.{set_has, set_same, set_twice, written}
-use Rattle.mpx_system.proofs.Results.{some_at}
+use Rattle.mpx_post.proofs.Lists.{set_cases, set_has, set_same, set_twice, written}
+use Rattle.mpx_system.proofs.Results.{mapped_at, some_at}
+use Rattle.mpx_world.proofs.Lists.{itself}
 use Rattle.mpx_sim.specs.declared.frame_under_way.FrameUnderWay.{FrameUnderWay}
 use Rattle.mpx_sim.specs.declared.process.Process.{Process}
 use Rattle.mpx_sim.specs.Draws.{ScheduleView}
-use Rattle.mpx_sim.specs.Running.{IsUnderWay, Keeps, Moves, ProcessView}
-use Rattle.mpx_sim.specs.Shown.{part_of, process_of}
-use Rattle.mpx_sim.specs.SideBySide.{AllGoOn, AllMake, GoesOn, HasToSend, IsReady, Makes, all_taken, comes, taken, took}
-use Rattle.mpx_sim.specs.Turns.{Alone, Coming, Going, Moment}
+use Rattle.mpx_sim.specs.Running.{HasCome, HaveCome, HaveGrown, IsUnderWay, Keeps, Moves, ProcessView}
+use Rattle.mpx_sim.specs.Shown.{frame_of, part_of, process_of}
+use Rattle.mpx_sim.specs.SideBySide.{AllGoOn, AllMake, GoesOn, IsReady, Makes, all_taken, comes, taken, to_send, took}
+use Rattle.mpx_sim.specs.Turns.{Alone, Coming, FrameView, IsListOf, Moment, Saying}
 use Rattle.mpx_sim.proofs.Running.{read_at, run_takes}
 
 -- LISTS
@@ -47,45 +49,86 @@ all_held items P v w e h = subst (λ x. All P (items x)) (sym e) h
 
 -- FRAMES COME
 
-module _ (ops : List Operation) (script : Script) (ranks size : ℕ) (begun : Moment) (t : ScheduleView) (frames : List Look) where
-  one_taken : (processes : List ProcessView) (place : ℕ) (v : ProcessView) (i : ℕ) (b : Look) → slice_get processes place ≡ Some v → slice_get frames i ≡ Some b → (is : Bool) → IsUnderWay ops script ranks size begun (Coming t) processes frames
-      → IsUnderWay ops script ranks size begun (Coming t) (set processes place (if is then record { rank = v.rank; node = learn b v.node } else v)) frames
-  one_taken processes place v i b at got true run = run_takes ops script ranks size begun (Coming t) processes frames run (λ q n. tt) place v.rank v.node i b at got
-  one_taken processes place v i b at got false run = subst (λ rs. IsUnderWay ops script ranks size begun (Coming t) rs frames) (sym (set_same processes place v at)) run
+length_taken : (from turn : ℕ) (fs : List FrameUnderWay) (vs : List ProcessView) → length (all_taken from turn fs vs) ≡ length vs
+length_taken from turn fs [] = refl
+length_taken from turn fs (v ∷ vs) = ap suc (length_taken (suc from) turn fs vs)
+
+taken_at : (from turn : ℕ) (fs : List FrameUnderWay) (vs : List ProcessView) (place : ℕ) (w : ProcessView) → slice_get (all_taken from turn fs vs) place ≡ Some w → (v : ProcessView) × (slice_get vs place ≡ Some v) × (w ≡ taken (from + place) turn fs v)
+taken_at from turn fs [] place w e = cc e
+taken_at from turn fs (v ∷ vs) zero w e =
+    let same : w ≡ taken from turn fs v = sym (same_Some (taken from turn fs v) w e) in
+    let there : from ≡ from + zero = omega arith in
+    (v, refl, subst (λ n. w ≡ taken n turn fs v) there same)
+taken_at from turn fs (v ∷ vs) (suc place) w e =
+    let found = taken_at (suc from) turn fs vs place w e in
+    let there : suc from + place ≡ from + suc place = omega arith in
+    (found.0, found.1, subst (λ n. w ≡ taken n turn fs found.0) there found.2)
+
+pub none_taken : (from turn : ℕ) (vs : List ProcessView) → all_taken from turn [] vs ≡ vs
+none_taken from turn [] = refl
+none_taken from turn (v ∷ vs) = ap (λ ws. v ∷ ws) (none_taken (suc from) turn vs)
+
+-- what a frame says stands on the board of the process that took it, with all that stood there
+took_grows : (place turn : ℕ) (f : FrameUnderWay) (v : ProcessView) → IsBoardBelow v.node.board (took place turn f v).node.board
+took_grows place turn f v = by_test (comes place turn f) where
+  by_test : (is : Bool) → IsBoardBelow v.node.board (if is then record { rank = v.rank; node = learn (part_of f) v.node } else v).node.board
+  by_test true = (join_is_least v.node.board (part_of f)).left
+  by_test false = facts_below v.node.board v.node.board (under_itself v.node.board)
+
+took_has : (place turn : ℕ) (f : FrameUnderWay) (v : ProcessView) → comes place turn f ≡ true → IsBoardBelow (part_of f) (took place turn f v).node.board
+took_has place turn f v is =
+    subst (λ b. IsBoardBelow (part_of f) (if b then record { rank = v.rank; node = learn (part_of f) v.node } else v).node.board) (sym is) (join_is_least v.node.board (part_of f)).right
+
+taken_grows : (place turn : ℕ) (fs : List FrameUnderWay) (v : ProcessView) → IsBoardBelow v.node.board (taken place turn fs v).node.board
+taken_grows place turn [] v = facts_below v.node.board v.node.board (under_itself v.node.board)
+taken_grows place turn (f ∷ fs) v = below_through v.node.board (took place turn f v).node.board (taken place turn fs (took place turn f v)).node.board (took_grows place turn f v) (taken_grows place turn fs (took place turn f v))
+
+taken_has : (place turn : ℕ) (fs : List FrameUnderWay) (v : ProcessView) (i : ℕ) (f : FrameUnderWay) → slice_get fs i ≡ Some f → comes place turn f ≡ true → IsBoardBelow (part_of f) (taken place turn fs v).node.board
+taken_has place turn [] v i f at is = cc at
+taken_has place turn (g ∷ fs) v zero f at is =
+    let same : g ≡ f = same_Some g f at in
+    below_through (part_of f) (took place turn g v).node.board (taken place turn fs (took place turn g v)).node.board
+    (subst (λ h. IsBoardBelow (part_of f) (took place turn h v).node.board) (sym same) (took_has place turn f v is)) (taken_grows place turn fs (took place turn g v))
+taken_has place turn (g ∷ fs) v (suc i) f at is = taken_has place turn fs (took place turn g v) i f at is
+
+comes_there : (place turn : ℕ) (f : FrameUnderWay) → f.to ≡ place → f.turn ≡ turn → comes place turn f ≡ true
+comes_there place turn f to now = subst (λ p. (nat_eq f.to p && nat_eq f.turn turn) ≡ true) to (subst (λ n. (nat_eq f.to f.to && nat_eq f.turn n) ≡ true) now (λ i. itself f.to i && itself f.turn i))
+
+-- where all have come, each has
+pub taken_come : (turn : ℕ) (all : List FrameUnderWay) (old : List ProcessView) → HaveCome turn (map frame_of all) (all_taken zero turn all old)
+taken_come turn all old k d l is v at =
+    let f = mapped_at frame_of all k (get_or (map frame_of all) k d) (slice_get-get_or (map frame_of all) k d l) in
+    let to = (get_or (map frame_of all) k d).to in
+    let found = taken_at zero turn all old to v at in
+    let there : zero + to ≡ to = omega arith in
+    let here : v ≡ taken to turn all found.0 = subst (λ n. v ≡ taken n turn all found.0) there found.2 in
+    let has = taken_has to turn all found.0 k f.0 f.1 (comes_there to turn f.0 (ap (λ (g : FrameView). g.to) f.2) (ap (λ (g : FrameView). g.turn) f.2 ∙ is)) in
+    subst (λ (u : ProcessView). IsBoardBelow (get_or (map frame_of all) k d).part u.node.board) (sym here) (subst (λ (g : FrameView). IsBoardBelow g.part (taken to turn all found.0).node.board) f.2 has)
+
+module _ (ops : List Operation) (script : Script) (ranks size : ℕ) (begun : Moment) (now : ℕ) (t : ScheduleView) (frames : List FrameView) where
+  one_taken : (processes : List ProcessView) (place : ℕ) (v : ProcessView) (i : ℕ) (f : FrameView) → slice_get processes place ≡ Some v → slice_get frames i ≡ Some f → (is : Bool) → IsUnderWay ops script ranks size begun (Coming now t) processes frames
+      → IsUnderWay ops script ranks size begun (Coming now t) (set processes place (if is then record { rank = v.rank; node = learn f.part v.node } else v)) frames
+  one_taken processes place v i f at got true run = run_takes ops script ranks size begun (Coming now t) processes frames run (λ q n. tt) place v.rank v.node i f at got
+  one_taken processes place v i f at got false run = subst (λ rs. IsUnderWay ops script ranks size begun (Coming now t) rs frames) (sym (set_same processes place v at)) run
 
   -- each of these frames is one of those under way
   abbrev AreAmong : List FrameUnderWay → Type 0
-  AreAmong fs = (i : ℕ) (f : FrameUnderWay) → slice_get fs i ≡ Some f → (j : ℕ) × (slice_get frames j ≡ Some (part_of f))
+  AreAmong fs = (i : ℕ) (f : FrameUnderWay) → slice_get fs i ≡ Some f → (j : ℕ) × (slice_get frames j ≡ Some (frame_of f))
 
-  some_taken : (turn : ℕ) (fs : List FrameUnderWay) → AreAmong fs → (processes : List ProcessView) (place : ℕ) (v : ProcessView) → slice_get processes place ≡ Some v → IsUnderWay ops script ranks size begun (Coming t) processes frames
-      → IsUnderWay ops script ranks size begun (Coming t) (set processes place (taken place turn fs v)) frames
-  some_taken turn [] among processes place v at run = subst (λ rs. IsUnderWay ops script ranks size begun (Coming t) rs frames) (sym (set_same processes place v at)) run
+  some_taken : (turn : ℕ) (fs : List FrameUnderWay) → AreAmong fs → (processes : List ProcessView) (place : ℕ) (v : ProcessView) → slice_get processes place ≡ Some v → IsUnderWay ops script ranks size begun (Coming now t) processes frames
+      → IsUnderWay ops script ranks size begun (Coming now t) (set processes place (taken place turn fs v)) frames
+  some_taken turn [] among processes place v at run = subst (λ rs. IsUnderWay ops script ranks size begun (Coming now t) rs frames) (sym (set_same processes place v at)) run
   some_taken turn (f ∷ fs) among processes place v at run =
       let found = among zero f refl in
       let mid = took place turn f v in
-      subst (λ rs. IsUnderWay ops script ranks size begun (Coming t) rs frames) (set_twice processes place mid (taken place turn fs mid))
-      (some_taken turn fs (λ i g e. among (suc i) g e) (set processes place mid) place mid (set_has processes place v mid at) (one_taken processes place v found.0 (part_of f) at found.1 (comes place turn f) run))
-
-  length_taken : (from turn : ℕ) (fs : List FrameUnderWay) (vs : List ProcessView) → length (all_taken from turn fs vs) ≡ length vs
-  length_taken from turn fs [] = refl
-  length_taken from turn fs (v ∷ vs) = ap suc (length_taken (suc from) turn fs vs)
-
-  taken_at : (from turn : ℕ) (fs : List FrameUnderWay) (vs : List ProcessView) (place : ℕ) (w : ProcessView) → slice_get (all_taken from turn fs vs) place ≡ Some w → (v : ProcessView) × (slice_get vs place ≡ Some v) × (w ≡ taken (from + place) turn fs v)
-  taken_at from turn fs [] place w e = cc e
-  taken_at from turn fs (v ∷ vs) zero w e =
-      let same : w ≡ taken from turn fs v = sym (same_Some (taken from turn fs v) w e) in
-      let there : from ≡ from + zero = omega arith in
-      (v, refl, subst (λ n. w ≡ taken n turn fs v) there same)
-  taken_at from turn fs (v ∷ vs) (suc place) w e =
-      let found = taken_at (suc from) turn fs vs place w e in
-      let there : suc from + place ≡ from + suc place = omega arith in
-      (found.0, found.1, subst (λ n. w ≡ taken n turn fs found.0) there found.2)
+      subst (λ rs. IsUnderWay ops script ranks size begun (Coming now t) rs frames) (set_twice processes place mid (taken place turn fs mid))
+      (some_taken turn fs (λ i g e. among (suc i) g e) (set processes place mid) place mid (set_has processes place v mid at) (one_taken processes place v found.0 (frame_of f) at found.1 (comes place turn f) run))
 
   -- to each process those that come to it
-  run_taken : (turn : ℕ) (fs : List FrameUnderWay) → AreAmong fs → (processes : List ProcessView) → IsUnderWay ops script ranks size begun (Coming t) processes frames → IsUnderWay ops script ranks size begun (Coming t) (all_taken zero turn fs processes) frames
+  run_taken : (turn : ℕ) (fs : List FrameUnderWay) → AreAmong fs → (processes : List ProcessView) → IsUnderWay ops script ranks size begun (Coming now t) processes frames → IsUnderWay ops script ranks size begun (Coming now t) (all_taken zero turn fs processes) frames
   run_taken turn fs among processes run =
-      one_by_one (λ ps. IsUnderWay ops script ranks size begun (Coming t) ps frames) (λ place v w. w ≡ taken place turn fs v)
-      (λ place ps v w same at h. subst (λ x. IsUnderWay ops script ranks size begun (Coming t) (set ps place x) frames) (sym same) (some_taken turn fs among ps place v at h))
+      one_by_one (λ ps. IsUnderWay ops script ranks size begun (Coming now t) ps frames) (λ place v w. w ≡ taken place turn fs v)
+      (λ place ps v w same at h. subst (λ x. IsUnderWay ops script ranks size begun (Coming now t) (set ps place x) frames) (sym same) (some_taken turn fs among ps place v at h))
       processes (all_taken zero turn fs processes) (length_taken zero turn fs processes)
       (λ place v w a b.
       let found = taken_at zero turn fs processes place w b in
@@ -95,10 +138,38 @@ module _ (ops : List Operation) (script : Script) (ranks size : ℕ) (begun : Mo
       run
 
   -- where these are all of them, or none
-  pub run_come : (turn : ℕ) (all fs : List FrameUnderWay) → map part_of all ≡ frames → (fs ≡ []) ⊎ (fs ≡ all) → (processes : List ProcessView) → IsUnderWay ops script ranks size begun (Coming t) processes frames → IsUnderWay ops script ranks size begun (Coming t) (all_taken zero turn fs processes) frames
-  run_come turn all fs are (inl none) processes run = subst (λ gs. IsUnderWay ops script ranks size begun (Coming t) (all_taken zero turn gs processes) frames) (sym none) (run_taken turn [] (λ i f e. cc e) processes run)
-  run_come turn all fs are (inr same) processes run = subst (λ gs. IsUnderWay ops script ranks size begun (Coming t) (all_taken zero turn gs processes) frames) (sym same)
-      (run_taken turn all (λ i f e. (i, ap (λ bs. slice_get bs i) (sym are) ∙ slice_get-map part_of all i ∙ ap (option_map part_of) e)) processes run)
+  pub run_come : {in_order : Type 0} (turn : ℕ) (all fs : List FrameUnderWay) → map frame_of all ≡ frames → ((fs ≡ []) × in_order) ⊎ (fs ≡ all) → (processes : List ProcessView) → IsUnderWay ops script ranks size begun (Coming now t) processes frames → IsUnderWay ops script ranks size begun (Coming now t) (all_taken zero turn fs processes) frames
+  run_come turn all fs are (inl none) processes run = subst (λ gs. IsUnderWay ops script ranks size begun (Coming now t) (all_taken zero turn gs processes) frames) (sym none.0) (run_taken turn [] (λ i f e. cc e) processes run)
+  run_come turn all fs are (inr same) processes run = subst (λ gs. IsUnderWay ops script ranks size begun (Coming now t) (all_taken zero turn gs processes) frames) (sym same)
+      (run_taken turn all (λ i f e. (i, ap (λ bs. slice_get bs i) (sym are) ∙ slice_get-map frame_of all i ∙ ap (option_map frame_of) e)) processes run)
+
+-- where none still came, since they had come before, or all of them
+pub coming_come : {in_order last : Type 0} (turn : ℕ) (all fs : List FrameUnderWay) (old : List ProcessView) → ((fs ≡ []) × in_order) ⊎ (fs ≡ all) → (in_order ⊎ last → HaveCome turn (map frame_of all) old) → HaveCome turn (map frame_of all) (all_taken zero turn fs old)
+coming_come turn all fs old (inl none) before = subst (λ gs. HaveCome turn (map frame_of all) (all_taken zero turn gs old)) (sym none.0) (subst (HaveCome turn (map frame_of all)) (sym (none_taken zero turn old)) (before (inl none.1)))
+coming_come turn all fs old (inr same) before = subst (λ gs. HaveCome turn (map frame_of all) (all_taken zero turn gs old)) (sym same) (taken_come turn all old)
+
+-- what has come stays on a board that grows
+pub come_later : (turn : ℕ) (f : FrameView) (old new : List ProcessView) → length new ≡ length old → HaveGrown old new → HasCome turn old f → HasCome turn new f
+come_later turn f old new same grown come is w at =
+    let v = some_at old f.to (omega (arith, slice_get_within new f.to w at, same)) in
+    below_through f.part v.0.node.board w.node.board (come is v.0 v.1) (grown f.to v.0 w v.1 at)
+
+-- where one process takes a part, its board grows
+pub grown_at : (old : List ProcessView) (p : ℕ) (v : ProcessView) (part : Look) → slice_get old p ≡ Some v → HaveGrown old (set old p (record { rank = v.rank; node = learn part v.node }))
+grown_at old p v part here q u w at now =
+    let new : ProcessView = record { rank = v.rank; node = learn part v.node } in
+    set_cases old p q new w (λ x. IsBoardBelow u.node.board x.node.board) now
+    (λ same.
+    let is : v ≡ u = same_Some v u (sym here ∙ ap (slice_get old) (sym same) ∙ at) in
+    subst (λ (x : ProcessView). IsBoardBelow x.node.board new.node.board) is (join_is_least v.node.board part).left)
+    (λ before other.
+    let is : u ≡ w = same_Some u w (sym at ∙ before) in
+    subst (λ (x : ProcessView). IsBoardBelow u.node.board x.node.board) is (facts_below u.node.board u.node.board (under_itself u.node.board)))
+
+pub grown_itself : (old new : List ProcessView) → new ≡ old → HaveGrown old new
+grown_itself old new same p v w at now =
+    let is : v ≡ w = same_Some v w (sym at ∙ ap (λ xs. slice_get xs p) (sym same) ∙ now) in
+    subst (λ (x : ProcessView). IsBoardBelow v.node.board x.node.board) is (facts_below v.node.board v.node.board (under_itself v.node.board))
 
 -- EACH GOES ON
 
@@ -111,18 +182,14 @@ goes_by ops count place old mid new l moves keeps script ranks size begun proces
 pub goes_same : (ops : List Operation) (count place : ℕ) (v x w y : ProcessView) → x ≡ v → y ≡ w → GoesOn ops count place x y → GoesOn ops count place v w
 goes_same ops count place v x w y e f h = subst (λ b. GoesOn ops count place v b) f (subst (λ a. GoesOn ops count place a y) e h)
 
-pub none_taken : (from turn : ℕ) (vs : List ProcessView) → all_taken from turn [] vs ≡ vs
-none_taken from turn [] = refl
-none_taken from turn (v ∷ vs) = ap (λ ws. v ∷ ws) (none_taken (suc from) turn vs)
-
-pub run_gone : (ops : List Operation) (count turn : ℕ) (fs : List FrameUnderWay) (old new : List ProcessView) → AllGoOn ops count turn fs old new → (script : Script) (ranks size : ℕ) (begun : Moment) (frames : List Look) → count ≤ ranks
+pub run_gone : (ops : List Operation) (count turn : ℕ) (fs : List FrameUnderWay) (old new : List ProcessView) → AllGoOn ops count turn fs old new → (script : Script) (ranks size : ℕ) (begun : Moment) (frames : List FrameView) → count ≤ ranks
     → IsUnderWay ops script ranks size begun Alone (all_taken zero turn fs old) frames → IsUnderWay ops script ranks size begun Alone new frames
 run_gone ops count turn fs old new all script ranks size begun frames few run =
     one_by_one (λ ps. IsUnderWay ops script ranks size begun Alone ps frames) (GoesOn ops count)
     (λ place ps v w goes at h. goes script ranks size begun ps frames few at h)
-    (all_taken zero turn fs old) new (all.0 ∙ sym (length_taken ops script ranks size begun begun.schedule frames zero turn fs old))
+    (all_taken zero turn fs old) new (all.0 ∙ sym (length_taken zero turn fs old))
     (λ place v w a b.
-    let found = taken_at ops script ranks size begun begun.schedule frames zero turn fs old place v a in
+    let found = taken_at zero turn fs old place v a in
     let there : zero + place ≡ place = omega arith in
     let same : v ≡ taken place turn fs found.0 = subst (λ n. v ≡ taken n turn fs found.0) there found.2 in
     subst (λ x. GoesOn ops count place x w) (sym same) (all.1 place found.0 w found.1 b))
@@ -136,16 +203,21 @@ ready_same old new same ahead h =
     subst (λ a. IfSome a (λ (made : NewFrames). LackFrames 1048576 (process_of new).node made.said made.frames.items)) (sym ahead)
     (subst (λ (v : ProcessView). IfSome old.notes.ahead (λ (made : NewFrames). LackFrames 1048576 v.node made.said made.frames.items)) (sym same) h)
 
-pub run_made : (turn : ℕ) (old new : List Process) → AllMake turn old new → (ops : List Operation) (script : Script) (ranks size : ℕ) (begun : Moment) (t : ScheduleView) (frames : List Look) → IsUnderWay ops script ranks size begun (Going t) (map process_of old) frames
-    → IsUnderWay ops script ranks size begun (Going t) (map process_of new) frames
-run_made turn old new all ops script ranks size begun t frames run =
-    one_by_one (λ ps. IsUnderWay ops script ranks size begun (Going t) (map process_of ps) frames) (λ place. Makes turn)
+pub run_made : (count turn : ℕ) (old new : List Process) → AllMake count turn old new → (ops : List Operation) (script : Script) (ranks size : ℕ) (begun : Moment) (frames : List FrameView) → IsUnderWay ops script ranks size begun Saying (map process_of old) frames
+    → IsUnderWay ops script ranks size begun Saying (map process_of new) frames
+run_made count turn old new all ops script ranks size begun frames run =
+    one_by_one (λ ps. IsUnderWay ops script ranks size begun Saying (map process_of ps) frames) (λ place. Makes count turn)
     (λ place ps p q makes at h.
-    subst (λ rs. IsUnderWay ops script ranks size begun (Going t) rs frames) (written process_of ps place q)
-    (makes.says t ops script ranks size begun (map process_of ps) frames place (slice_get-map process_of ps place ∙ ap (option_map process_of) at) h))
+    subst (λ rs. IsUnderWay ops script ranks size begun Saying rs frames) (written process_of ps place q)
+    (makes.says ops script ranks size begun (map process_of ps) frames place (slice_get-map process_of ps place ∙ ap (option_map process_of) at) h))
     old new all.0 all.1 run
 
-pub all_have : (turn : ℕ) (old new : List Process) → AllMake turn old new → All HasToSend new
-all_have turn old new all i d l =
-    let before = some_at old i (omega (arith, l, all.0)) in
-    (all.1 i before.0 (get_or new i d) before.1 (slice_get-get_or new i d l)).facts
+-- each has made a list
+pub all_lists : (count turn : ℕ) (old new : List Process) → AllMake count turn old new → (p : ℕ) (list : List FrameView) → slice_get (map to_send new) p ≡ Some list → (v : ProcessView) → slice_get (map process_of new) p ≡ Some v → IsListOf count turn v.rank.me v.node list
+all_lists count turn old new all p list made v at =
+    let q = mapped_at to_send new p list made in
+    let u = mapped_at process_of new p v at in
+    let before = some_at old p (omega (arith, slice_get_within new p q.0 q.1, all.0)) in
+    let same : u.0 ≡ q.0 = same_Some u.0 q.0 (sym u.1 ∙ q.1) in
+    let is : process_of q.0 ≡ v = ap process_of (sym same) ∙ u.2 in
+    subst (λ (w : ProcessView). IsListOf count turn w.rank.me w.node list) is (subst (λ fs. IsListOf count turn (process_of q.0).rank.me (process_of q.0).node fs) q.2 (all.1 p before.0 q.0 before.1 q.1).list)

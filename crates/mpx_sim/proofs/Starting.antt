@@ -3,7 +3,7 @@ use Rattle.std.proofs.Common.{◌≡◌, ℕ, Bool, true, false, cond, List, [],
 use Rattle.std.specs.Prelude.{slice_get, bytes_eq, unwrap_or, if◌then◌else◌}
 use Rattle.std.specs.Option.{option_map}
 use Rattle.mpx_num.specs.declared.own.Operation.{Operation}
-use Rattle.mpx_comm.specs.declared.comm.Comm.{Comm}
+use Rattle.mpx_name.specs.Name.{Name}
 use Rattle.mpx_meaning.specs.Ranks.{Communicator, doing}
 use Rattle.mpx_meaning.specs.Evaluation.{Script, bound_at_start, start_state, world_of}
 use Rattle.mpx_meaning.specs.Standing.{todo_of}
@@ -16,14 +16,14 @@ use Rattle.mpx_world.proofs.Lists.{slice_get-push_cases}
 use Rattle.mpx_sim.specs.Draws.{ScheduleView}
 use Rattle.mpx_sim.specs.Turns.{Alone}
 use Rattle.mpx_sim.proofs.Phases.{begins}
-use Rattle.mpx_sim.specs.Running.{IsAt, IsUnderWay, ProcessView, StandsBy, name_in, name_of}
+use Rattle.mpx_sim.specs.Running.{IsAt, IsUnderWay, ProcessView, StandsBy, name_of}
 
 -- the world, by its name
-names_first : (world : Option Comm) → name_in world ≡ Some [] → (other : Option CommunicatorView) → name_of other ≡ Some [] → (word : List ℕ) → option_map name_in (bound_first world word) ≡ option_map name_of (bound_first other word)
+names_first : (world : Option Name) → world ≡ Some [] → (other : Option CommunicatorView) → name_of other ≡ Some [] → (word : List ℕ) → bound_first world word ≡ option_map name_of (bound_first other word)
 names_first None e other f word = cc e
 names_first (Some w) e None f word = cc f
 names_first (Some w) e (Some o) f word = by_test (bytes_eq word (codes "world")) where
-  by_test : (b : Bool) → option_map name_in (cond b (Some (Some w)) None) ≡ option_map name_of (cond b (Some (Some o)) None)
+  by_test : (b : Bool) → cond b (Some (Some w)) None ≡ option_map name_of (cond b (Some (Some o)) None)
   by_test true = ap Some (e ∙ sym f)
   by_test false = refl
 
@@ -34,11 +34,11 @@ bound_there ranks word = by_test (bytes_eq word (codes "world")) where
   by_test false = refl
 
 -- a rank before its statements stands at the start of its script
-pub stands_first : (script : Script) (ranks p : ℕ) (r : RankView Comm) (world : Option Comm) → name_in world ≡ Some [] → ((word : List ℕ) → r.bound word ≡ bound_first world word) → ((word : List ℕ) → r.requests word ≡ None)
+pub stands_first : (script : Script) (ranks p : ℕ) (r : RankView Name) (world : Option Name) → world ≡ Some [] → ((word : List ℕ) → r.bound word ≡ bound_first world word) → ((word : List ℕ) → r.requests word ≡ None)
     → slice_get script p ≡ Some r.todo → r.waits ≡ None → r.lines ≡ [] → r.origins ≡ [] → StandsBy r (start_state script ranks p)
 stands_first script ranks p r world named_so bound requests todo waits lines origins = record {
   bound = bound_first (Some ([], world_of ranks));
-  names = λ word. ap (option_map name_in) (bound word) ∙ names_first world named_so (Some ([], world_of ranks)) refl word;
+  names = λ word. bound word ∙ names_first world named_so (Some ([], world_of ranks)) refl word;
   stands = record {
     bound = bound_there ranks;
     requests = requests;
@@ -55,11 +55,11 @@ one_more ops script ranks size processes v n count at each p x e =
     let s = start_system ops script ranks size in
     slice_get-push_cases (λ y j. IsAt ranks s j y) processes v p x e (each p x) (λ same last. subst (IsAt ranks s p) same (subst (λ j. IsAt ranks s j v) (sym (last ∙ count)) at))
 
-pub run_starts : (ops : List Operation) (script : Script) (ranks size : ℕ) (first : ScheduleView) (processes : List ProcessView) → length processes ≡ size → ((p : ℕ) (v : ProcessView) → slice_get processes p ≡ Some v → IsAt ranks (start_system ops script ranks size) p v) → IsUnderWay ops script ranks size (record { system = start_system ops script ranks size; schedule = first }) Alone processes []
+pub run_starts : (ops : List Operation) (script : Script) (ranks size : ℕ) (first : ScheduleView) (processes : List ProcessView) → length processes ≡ size → ((p : ℕ) (v : ProcessView) → slice_get processes p ≡ Some v → IsAt ranks (start_system ops script ranks size) p v) → IsUnderWay ops script ranks size (record { system = start_system ops script ranks size; frames = []; schedule = first }) Alone processes []
 run_starts ops script ranks size first processes count each = record {
   system = start_system ops script ranks size;
   led = leads_nowhere ranks (start_system ops script ranks size);
-  since = begins ranks (record { system = start_system ops script ranks size; schedule = first });
+  since = begins ranks size (record { system = start_system ops script ranks size; frames = []; schedule = first });
   count = count;
   each = each;
   sent = λ k d l. absurd (omega (arith, l));

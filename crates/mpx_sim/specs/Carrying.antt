@@ -1,6 +1,6 @@
 -- What a run's desk says as the carrier of a rank's posts.
-use Rattle.std.specs.Prelude.{◌≡◌, ℕ, List, Option, Some, None, Result, Ok, Err}
-use Rattle.std.proofs.Common.{refl, ap, ◌∙◌}
+use Rattle.std.specs.Prelude.{◌≡◌, ℕ, List, Option, Some, None, Result, Ok, Err, slice_get}
+use Rattle.std.proofs.Common.{refl}
 use Rattle.std.specs.Option.{option_map}
 use Rattle.mpx_num.specs.declared.own.Operation.{Operation}
 use Rattle.mpx_name.specs.Name.{Name}
@@ -12,20 +12,17 @@ use Rattle.mpx_post.specs.declared.draft.PostError.{PostError}
 use Rattle.mpx_post.specs.declared.draft.PostError.TheVariants.{NotMember, OutOfMemory}
 use Rattle.mpx_board.specs.Boards.{told}
 use Rattle.mpx_value.specs.declared.outcomes.Outcome.{Outcome}
-use Rattle.mpx_comm.specs.Comms.{comm_of}
-use Rattle.mpx_comm.specs.Harvested.{Harvested}
-use Rattle.mpx_comm.specs.Later.{Later, result_at}
-use Rattle.mpx_comm.specs.declared.comm.Comm.{Comm}
-use Rattle.mpx_comm.proofs.Harvesting.{harvested_none, harvested_then}
-use Rattle.mpx_comm.proofs.Steps.{later_more, later_none}
+use Rattle.mpx_value.specs.declared.outcomes.Outcome.TheVariants.{Nothing, Absent, Items, NewComm, Null, Fault}
 use Rattle.mpx_node.specs.declared.finished.Finished.{Finished}
-use Rattle.mpx_node.specs.Nodes.{NodeView, checked_on, freed_on, gathering_name, gathers_on, open_gathering_node, with_post, posted_on}
+use Rattle.mpx_node.specs.Nodes.{NodeView, Opens, checked_on, freed_on, gathering_name, gathers_on, open_gathering_node, posted_on, results_on, with_post}
 use Rattle.mpx_node.specs.Shown.{node_of}
 use Rattle.mpx_statement.specs.declared.statement.Posting.{Posting}
 use Rattle.mpx_statement.specs.Statements.{Gathers, draft_of, gathers_of}
 use Rattle.mpx_rank.specs.Carriers.{AtOnce, IsToldWithin, Outcomes, Terms}
 use Rattle.mpx_sim.specs.declared.desk.RunDesk.{RunDesk}
-use Rattle.mpx_sim.specs.Running.{name_in}
+use Rattle.mpx_sim.specs.Running.{KeepsNode}
+use Rattle.mpx_sim.specs.Turns.{Alone}
+use Rattle.mpx_sim.specs.Keeping.{keeps_node_itself, keeps_node_then}
 
 -- POSTS
 
@@ -55,7 +52,22 @@ abbrev pub Tries : Tried → Result (Name × ℕ) PostError → NodeView → Typ
 Tries t (Ok call) new = (t.answer ≡ Ok call) × (new ≡ t.node)
 Tries t (Err refusal) new = (refusal ≡ OutOfMemory → ⊥) → (t.answer ≡ Err refusal) × (new ≡ t.node)
 
+-- the call of this number on a context, where it was posted
+abbrev pub call_on : Name → Result ℕ PostError → Result (Name × ℕ) PostError
+call_on name (Ok call) = Ok (name, call)
+call_on name (Err refusal) = Err refusal
+
+-- the context on which a statement posts is that of its communicator, or the gathering that it opens there, or that is refused
+abbrev pub IsContext : (on : Name) → Option Gathers → Result Name PostError → NodeView → NodeView → Type 0
+IsContext on None (Ok name) old new = (name ≡ on) × (new ≡ old)
+IsContext on None (Err refusal) old new = refusal ≡ OutOfMemory
+IsContext on (Some asked) result old new = Opens on (gathers_on old on asked.tag asked.ranks) result old new
+
 -- WHAT IT SAYS
+
+-- the stored result of a call
+abbrev pub stored_at : NodeView → Name → (call : ℕ) → Option Finished
+stored_at node name call = slice_get (results_on node name) call
 
 -- the outcome of a result
 abbrev pub outcome_in : Option Finished → Option Outcome
@@ -63,38 +75,51 @@ outcome_in o = option_map (λ (f : Finished). f.outcome) o
 
 -- the outcomes that a node holds
 abbrev pub outcomes_on : NodeView → Outcomes
-outcomes_on node name call = outcome_in (result_at node name call)
+outcomes_on node name call = outcome_in (stored_at node name call)
+
+-- the name of the new communicator that a call gave the process, where it gave one
+abbrev pub new_name : Outcome → Option Name
+new_name (NewComm name size rank) = Some name
+new_name Nothing = None
+new_name Absent = None
+new_name (Items items) = None
+new_name Null = None
+new_name (Fault fault) = None
 
 -- a communicator by its name, and how it came to be, where the node's board tells that
 abbrev pub known_to : NodeView → Name → Option (Name × BirthView)
 known_to node name = option_map (λ birth. (name, birth)) (told (node.board.contexts name).birth)
 
+-- a node may have harvested meanwhile, and what it held it holds
+abbrev pub Harvests : List Operation → (old new : NodeView) → Type 0
+Harvests ops old new = KeepsNode Alone ops old new × IsToldWithin (outcomes_on old) (outcomes_on new)
+
 -- the outcomes that its node holds, and the communicators that these give; of a communicator is known how it came to be as its
 -- board tells, and it is closed where its node has posted a free; a post is tried on its node, and it harvests, by the job's own
 -- operations
-abbrev pub desk_terms : List Operation → Terms RunDesk Comm
+abbrev pub desk_terms : List Operation → Terms RunDesk Name
 desk_terms ops = record {
-  tells = λ d me. outcomes_on (node_of d.desk.host);
-  gives = λ d me name call to. (f : Finished) × (result_at (node_of d.desk.host) name call ≡ Some f) × (to ≡ comm_of f.outcome);
-  knows = λ d comm. known_to (node_of d.desk.host) comm.name;
-  closes = λ d me comm. freed_on (node_of d.desk.host) comm.name;
+  tells = λ d me. outcomes_on (node_of d.node);
+  gives = λ d me name call to. (f : Finished) × (stored_at (node_of d.node) name call ≡ Some f) × (to ≡ new_name f.outcome);
+  knows = λ d name. known_to (node_of d.node) name;
+  closes = λ d me name. freed_on (node_of d.node) name;
   may = λ d me posting on. Unit {0};
-  tries = λ d me posting on result e. AtOnce (λ answer. Tries (tried_on ops posting (name_in on) (node_of d.desk.host)) answer (node_of e.desk.host)) result;
-  hears = λ d e. Harvested ops (node_of d.desk.host) (node_of e.desk.host) × Later (node_of d.desk.host) (node_of e.desk.host);
+  tries = λ d me posting on result e. AtOnce (λ answer. Tries (tried_on ops posting on (node_of d.node)) answer (node_of e.node)) result;
+  hears = λ d e. Harvests ops (node_of d.node) (node_of e.node);
 }
 
+pub harvests_none : (ops : List Operation) (a : NodeView) → Harvests ops a a
+harvests_none ops a = (keeps_node_itself Alone ops a a refl, λ name call outcome e. e)
+
+pub harvests_then : (ops : List Operation) (a b c : NodeView) → Harvests ops a b → Harvests ops b c → Harvests ops a c
+harvests_then ops a b c h k = (keeps_node_then Alone ops a b c h.0 k.0, λ name call outcome e. k.1 name call outcome (h.1 name call outcome e))
+
 pub hears_nothing : (ops : List Operation) (d : RunDesk) → (desk_terms ops).hears d d
-hears_nothing ops d = (harvested_none ops (node_of d.desk.host), later_none (node_of d.desk.host))
+hears_nothing ops d = harvests_none ops (node_of d.node)
 
 pub hears_more : (ops : List Operation) (a b c : RunDesk) → (desk_terms ops).hears a b → (desk_terms ops).hears b c → (desk_terms ops).hears a c
-hears_more ops a b c h k = (harvested_then ops (node_of a.desk.host) (node_of b.desk.host) (node_of c.desk.host) h.0 k.0, later_more (node_of a.desk.host) (node_of b.desk.host) (node_of c.desk.host) h.1 k.1)
-
-result_told : (o : Option Finished) (outcome : Outcome) → outcome_in o ≡ Some outcome → (f : Finished) × (o ≡ Some f) × (Some f.outcome ≡ Some outcome)
-result_told None outcome e = cc e
-result_told (Some f) outcome e = (f, refl, e)
+hears_more ops a b c h k = harvests_then ops (node_of a.node) (node_of b.node) (node_of c.node) h k
 
 -- a result that is stored stays
 pub stays_told : (ops : List Operation) (a b : RunDesk) → (desk_terms ops).hears a b → (me : ℕ) → IsToldWithin ((desk_terms ops).tells a me) ((desk_terms ops).tells b me)
-stays_told ops a b h me name call outcome e =
-    let found = result_told (result_at (node_of a.desk.host) name call) outcome e in
-    ap outcome_in (h.1.stored name call found.0 found.1) ∙ found.2
+stays_told ops a b h me = h.1

@@ -1,8 +1,7 @@
 -- When a run ends before its last turn.
 use Rattle.std.specs.Prelude.{◌≡◌, ◌⊎◌, ℕ, ◌<◌, ◌≤◌, true, false, List, [], ◌∷◌, map, Option, None, Some, slice_get}
 use Rattle.mpx_name.specs.Name.{Name}
-use Rattle.mpx_comm.specs.Later.{IsPending}
-use Rattle.mpx_node.specs.Nodes.{NodeView}
+use Rattle.mpx_node.specs.Nodes.{NodeView, has_next, results_on}
 use Rattle.mpx_statement.specs.declared.statement.Statement.{Statement}
 use Rattle.mpx_statement.specs.declared.statement.Statement.TheVariants.{Wait}
 use Rattle.mpx_meaning.specs.Standing.{WaitView}
@@ -22,6 +21,11 @@ pub record OneWaits (count : ℕ) (processes : List ProcessView) : Type 0 where
   pub among : place < count
   pub waits : is_waiting_at (slice_get processes place) ≡ true
 
+-- the call has no result, and the next one on its context can't be had
+pub record IsOpen (node : NodeView) (name : Name) (call : ℕ) : Type 0 where
+  pub none : slice_get (results_on node name) call ≡ None
+  pub next : has_next node name ≡ false
+
 -- the call of one of these words' requests isn't done, and the next one on its context can't be had
 pub record OneIsOpen (node : NodeView) (requests : List ℕ → Option (Name × ℕ)) (words : List (List ℕ)) : Type 0 where
   pub place : ℕ
@@ -30,12 +34,12 @@ pub record OneIsOpen (node : NodeView) (requests : List ℕ → Option (Name × 
   pub call : ℕ
   pub at : slice_get words place ≡ Some word
   pub stands_for : requests word ≡ Some (name, call)
-  pub pending : IsPending node name call
+  pub is_open : IsOpen node name call
 
 -- a rank has nothing left; or a call that it waits for, itself or by a wait for requests, isn't done, and the next one on its context can't be had
 pub data Lacks (v : ProcessView) : Type 0 where
   has_ended : v.rank.waits ≡ None → v.rank.todo ≡ [] → Lacks v
-  awaits : (w : WaitView) → v.rank.waits ≡ Some w → IsPending v.node w.name w.call → Lacks v
+  awaits : (w : WaitView) → v.rank.waits ≡ Some w → IsOpen v.node w.name w.call → Lacks v
   waits_for : (words : List (List ℕ)) (rest : List Statement) → v.rank.waits ≡ None → v.rank.todo ≡ Wait words ∷ rest → OneIsOpen v.node v.rank.requests words → Lacks v
 
 abbrev pub AllLack : (count : ℕ) → List ProcessView → Type 0

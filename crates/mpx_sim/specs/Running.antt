@@ -1,12 +1,11 @@
 -- The processes and frames of a run, and which system they show.
-use Rattle.std.specs.Prelude.{◌≡◌, ℕ, ◌<◌, ◌+◌, Bool, false, List, length, slice_get, Option, Some, None}
+use Rattle.std.specs.Prelude.{◌≡◌, ℕ, ◌<◌, ◌+◌, Bool, false, List, [], length, slice_get, Option, Some, None}
 use Rattle.std.proofs.Common.{set}
 use Rattle.std.specs.List.{All}
 use Rattle.std.specs.Option.{option_map}
 use Rattle.mpx_num.specs.declared.own.Operation.{Operation}
 use Rattle.mpx_name.specs.Name.{Name}
-use Rattle.mpx_board.specs.Boards.{Look}
-use Rattle.mpx_comm.specs.declared.comm.Comm.{Comm}
+use Rattle.mpx_board.specs.Boards.{IsBoardBelow, Look}
 use Rattle.mpx_node.specs.Nodes.{NodeView}
 use Rattle.mpx_script.specs.ScriptView.{ScriptView}
 use Rattle.mpx_meaning.specs.Ranks.{Local}
@@ -15,11 +14,11 @@ use Rattle.mpx_rank.specs.Moves.{RankView, is_waiting}
 use Rattle.mpx_rank.specs.Places.{CommunicatorView, StandsInScript}
 use Rattle.mpx_system.specs.Systems.{System, Leads, start_system}
 use Rattle.mpx_sim.specs.Draws.{IsLater, ScheduleView, generator}
-use Rattle.mpx_sim.specs.Turns.{Alone, AreTurns, IsTurn, Moment, Phase, Since}
+use Rattle.mpx_sim.specs.Turns.{Alone, AreTurns, FrameView, IsTurn, Moment, Phase, Since}
 
 -- a process: its rank, and its node
 pub record ProcessView : Type 0 where
-  pub rank : RankView Comm
+  pub rank : RankView Name
   pub node : NodeView
 
 -- whether there is one whose rank waits for an outcome, or has statements left
@@ -28,20 +27,17 @@ is_waiting_at None = false
 is_waiting_at (Some v) = is_waiting v.rank
 
 -- the name of a communicator, where it is one
-abbrev pub name_in : Option Comm → Option Name
-name_in o = option_map (λ (comm : Comm). comm.name) o
-
 abbrev pub name_of : Option CommunicatorView → Option Name
 name_of o = option_map (λ (c : CommunicatorView). c.0) o
 
 -- the rank, whose words are bound to this
-abbrev pub with_births : (List ℕ → Option (Option CommunicatorView)) → RankView Comm → RankView CommunicatorView
+abbrev pub with_births : (List ℕ → Option (Option CommunicatorView)) → RankView Name → RankView CommunicatorView
 with_births bound r = record { me = r.me; bound = bound; requests = r.requests; todo = r.todo; waits = r.waits; lines = r.lines; origins = r.origins }
 
 -- it stands there in its script, where its words are bound to communicators that came to be somehow, of which it has the names
-pub record StandsBy (r : RankView Comm) (s : Local) : Type 0 where
+pub record StandsBy (r : RankView Name) (s : Local) : Type 0 where
   pub bound : List ℕ → Option (Option CommunicatorView)
-  pub names : (word : List ℕ) → option_map name_in (r.bound word) ≡ option_map name_of (bound word)
+  pub names : (word : List ℕ) → r.bound word ≡ option_map name_of (bound word)
   pub stands : StandsInScript (with_births bound r) s
 
 -- the process is the one of this number in the system
@@ -55,13 +51,24 @@ IsAmong parts b = (place : ℕ) × (slice_get parts place ≡ Some b)
 
 -- the processes and frames under way of a run of the script, in a phase of a turn: the processes of a system to which doings lead from the start, and
 -- which is in this phase of the turn that began there; and frames of which each was sent there
-pub record IsUnderWay (ops : List Operation) (script : Script) (ranks size : ℕ) (begun : Moment) (phase : Phase) (processes : List ProcessView) (frames : List Look) : Type 0 where
+pub record IsUnderWay (ops : List Operation) (script : Script) (ranks size : ℕ) (begun : Moment) (phase : Phase) (processes : List ProcessView) (frames : List FrameView) : Type 0 where
   pub system : System
   pub led : Leads ranks (start_system ops script ranks size) system
-  pub since : Since ranks begun phase system
+  pub since : Since ranks size begun phase frames system
   pub count : length processes ≡ size
   pub each : (p : ℕ) (v : ProcessView) → slice_get processes p ≡ Some v → IsAt ranks system p v
-  pub sent : All (IsAmong system.world.parts) frames
+  pub sent : All (λ (f : FrameView). IsAmong system.world.parts f.part) frames
+
+-- where a frame is one of this turn, what it says stands on its process's board
+abbrev pub HasCome : (turn : ℕ) → List ProcessView → FrameView → Type 0
+HasCome turn processes f = f.turn ≡ turn → (v : ProcessView) → slice_get processes f.to ≡ Some v → IsBoardBelow f.part v.node.board
+
+abbrev pub HaveCome : (turn : ℕ) → List FrameView → List ProcessView → Type 0
+HaveCome turn frames processes = All (HasCome turn processes) frames
+
+-- what stands on a process's board stands on that of the other in its place
+abbrev pub HaveGrown : (old new : List ProcessView) → Type 0
+HaveGrown old new = (place : ℕ) (v w : ProcessView) → slice_get old place ≡ Some v → slice_get new place ≡ Some w → IsBoardBelow v.node.board w.node.board
 
 -- these are the processes of a run of the script with so many relays after so many turns of a schedule with this seed and loss, before frames go out once
 -- more, whatever its frames are
@@ -69,26 +76,26 @@ pub record AreOfRun (ops : List Operation) (script : ScriptView) (relays seed lo
   pub first : ScheduleView
   pub seeded : IsLater (record { loss = loss; draws = generator seed }) first
   pub begun : Moment
-  pub made : AreTurns turns script.ranks (record { system = start_system ops script.statements script.ranks (script.ranks + relays); schedule = first }) begun
-  pub frames : List Look
+  pub made : AreTurns turns script.ranks (script.ranks + relays) (record { system = start_system ops script.statements script.ranks (script.ranks + relays); frames = []; schedule = first }) begun
+  pub frames : List FrameView
   pub run : IsUnderWay ops script.statements script.ranks (script.ranks + relays) begun Alone processes frames
 
 -- the turn that began there is made, with this schedule behind it, and what is under way is that of the next one
-pub record HasTurned (ops : List Operation) (script : Script) (ranks size : ℕ) (begun : Moment) (schedule : ScheduleView) (processes : List ProcessView) (frames : List Look) : Type 0 where
+pub record HasTurned (ops : List Operation) (script : Script) (ranks size turn : ℕ) (begun : Moment) (schedule : ScheduleView) (processes : List ProcessView) (frames : List FrameView) : Type 0 where
   pub next : System
-  pub turn : IsTurn ranks begun (record { system = next; schedule = schedule })
-  pub run : IsUnderWay ops script ranks size (record { system = next; schedule = schedule }) Alone processes frames
+  pub turn_is : IsTurn ranks size turn begun (record { system = next; frames = frames; schedule = schedule })
+  pub run : IsUnderWay ops script ranks size (record { system = next; frames = frames; schedule = schedule }) Alone processes frames
 
 -- in place of the one in a run stands the other, in this phase of a turn
 abbrev pub Keeps : Phase → List Operation → (old new : ProcessView) → Type 0
-Keeps phase ops old new = (script : Script) (ranks size : ℕ) (begun : Moment) (processes : List ProcessView) (frames : List Look) (p : ℕ) → slice_get processes p ≡ Some old
+Keeps phase ops old new = (script : Script) (ranks size : ℕ) (begun : Moment) (processes : List ProcessView) (frames : List FrameView) (p : ℕ) → slice_get processes p ≡ Some old
     → IsUnderWay ops script ranks size begun phase processes frames → IsUnderWay ops script ranks size begun phase (set processes p new) frames
 
 -- the same of a process whose node alone changes
 abbrev pub KeepsNode : Phase → List Operation → (old new : NodeView) → Type 0
-KeepsNode phase ops old new = (r : RankView Comm) → Keeps phase ops (record { rank = r; node = old }) (record { rank = r; node = new })
+KeepsNode phase ops old new = (r : RankView Name) → Keeps phase ops (record { rank = r; node = old }) (record { rank = r; node = new })
 
 -- the same of a process that is a rank, and goes on by itself
 abbrev pub Moves : List Operation → (old new : ProcessView) → Type 0
-Moves ops old new = (script : Script) (ranks size : ℕ) (begun : Moment) (processes : List ProcessView) (frames : List Look) (p : ℕ) → p < ranks → slice_get processes p ≡ Some old
+Moves ops old new = (script : Script) (ranks size : ℕ) (begun : Moment) (processes : List ProcessView) (frames : List FrameView) (p : ℕ) → p < ranks → slice_get processes p ≡ Some old
     → IsUnderWay ops script ranks size begun Alone processes frames → IsUnderWay ops script ranks size begun Alone (set processes p new) frames

@@ -3,17 +3,15 @@ use Rattle.std.specs.Prelude.{◌≡◌, ◌&&◌, ℕ, suc, ◌<◌, ◌≤◌,
 use Rattle.std.proofs.Common.{set}
 use Rattle.std.specs.List.{All}
 use Rattle.mpx_num.specs.declared.own.Operation.{Operation}
-use Rattle.mpx_board.specs.Boards.{Look, join_all}
-use Rattle.mpx_delta.specs.Facts.{OnlyFactsOf}
+use Rattle.mpx_board.specs.Boards.{join_all}
 use Rattle.mpx_node.specs.Deltas.{LackFrames, lacking_on}
 use Rattle.mpx_node.specs.Nodes.{learn}
 use Rattle.mpx_meaning.specs.Evaluation.{Script}
 use Rattle.mpx_sim.specs.declared.frame_under_way.FrameUnderWay.{FrameUnderWay}
 use Rattle.mpx_sim.specs.declared.process.Process.{Process}
-use Rattle.mpx_sim.specs.Draws.{ScheduleView}
 use Rattle.mpx_sim.specs.Running.{IsUnderWay, Keeps, ProcessView}
-use Rattle.mpx_sim.specs.Shown.{part_of, process_of}
-use Rattle.mpx_sim.specs.Turns.{Alone, Going, Moment}
+use Rattle.mpx_sim.specs.Shown.{frame_of, part_of, process_of}
+use Rattle.mpx_sim.specs.Turns.{Alone, FrameView, IsListOf, Moment, Saying}
 
 -- FRAMES COME
 
@@ -43,7 +41,7 @@ StillToCome turn old new = (f : FrameUnderWay) (place : ℕ) → slice_get old p
 
 -- the process of this number goes on by itself, where so many are ranks: in its place in a run stands the other
 abbrev pub GoesOn : List Operation → (count place : ℕ) → (old new : ProcessView) → Type 0
-GoesOn ops count place old new = (script : Script) (ranks size : ℕ) (begun : Moment) (processes : List ProcessView) (frames : List Look) → count ≤ ranks → slice_get processes place ≡ Some old
+GoesOn ops count place old new = (script : Script) (ranks size : ℕ) (begun : Moment) (processes : List ProcessView) (frames : List FrameView) → count ≤ ranks → slice_get processes place ≡ Some old
     → IsUnderWay ops script ranks size begun Alone processes frames → IsUnderWay ops script ranks size begun Alone (set processes place new) frames
 
 -- each process takes the frames that come to it, and goes on by itself then
@@ -59,16 +57,16 @@ IsReady p = IfSome p.notes.ahead (λ made. LackFrames 1048576 (process_of p).nod
 abbrev pub AreReady : List Process → Type 0
 AreReady ps = (place : ℕ) (p : Process) → slice_get ps place ≡ Some p → IsReady p
 
--- a process has frames to send, which say only what its board has
-abbrev pub HasToSend : Process → Type 0
-HasToSend p = All (λ f. OnlyFactsOf (part_of f) (process_of p).node.board) p.notes.made.items
+-- the frames that a process has to send
+abbrev pub to_send : Process → List FrameView
+to_send p = map frame_of p.notes.made.items
 
--- a process whose last list is out before this turn says what it has, and makes frames of all that others may lack of its board
-pub record Makes (turn : ℕ) (old new : Process) : Type 0 where
-  pub says : (t : ScheduleView) (ops : List Operation) → Keeps (Going t) ops (process_of old) (process_of new)
-  pub facts : HasToSend new
+-- a process says what it has, and makes a list of frames, or none; one whose last list is out makes frames of all that others may lack of its board
+pub record Makes (size turn : ℕ) (old new : Process) : Type 0 where
+  pub says : (ops : List Operation) → Keeps Saying ops (process_of old) (process_of new)
+  pub list : IsListOf size turn (process_of new).rank.me (process_of new).node (to_send new)
   pub whole : old.sender.out ≤ turn → join_all (map part_of new.notes.made.items) ≡ lacking_on (process_of new).node
 
 -- each process does
-abbrev pub AllMake : (turn : ℕ) → (old new : List Process) → Type 0
-AllMake turn old new = (length new ≡ length old) × ((place : ℕ) (p q : Process) → slice_get old place ≡ Some p → slice_get new place ≡ Some q → Makes turn p q)
+abbrev pub AllMake : (size turn : ℕ) → (old new : List Process) → Type 0
+AllMake size turn old new = (length new ≡ length old) × ((place : ℕ) (p q : Process) → slice_get old place ≡ Some p → slice_get new place ≡ Some q → Makes size turn p q)

@@ -1,13 +1,15 @@
 -- What a turn of a run is.
-use Rattle.std.specs.Prelude.{◌≡◌, ℕ, zero, suc, ◌<◌, ◌≤◌, ◌+◌, true, List, [], ◌∷◌, Some, slice_get}
+use Rattle.std.specs.Prelude.{◌≡◌, ℕ, zero, suc, ◌<◌, ◌+◌, ◌++◌, All, true, nat_lt, List, [], ◌∷◌, length, map, Some, slice_get, if◌then◌else◌}
 use Rattle.mpx_num.specs.declared.own.Operation.{Operation}
-use Rattle.mpx_board.specs.Boards.{Look}
+use Rattle.mpx_board.specs.Boards.{IsBoardBelow, Look, join_all}
+use Rattle.mpx_delta.specs.Facts.{OnlyFactsOf}
+use Rattle.mpx_node.specs.Deltas.{lacking_on}
 use Rattle.mpx_node.specs.Nodes.{NodeView}
 use Rattle.mpx_script.specs.ScriptView.{ScriptView}
 use Rattle.mpx_world.specs.Worlds.{Posts, Harvests, Gathers, Prunes, Sends, Takes, TakesPartly, Acknowledges}
 use Rattle.mpx_meaning.specs.Evaluation.{State}
 use Rattle.mpx_meaning.specs.Reports.{is_left}
-use Rattle.mpx_system.specs.Systems.{System, Doing, Nets, Drives, MayDo, MayDoAll, does, does_all, start_system}
+use Rattle.mpx_system.specs.Systems.{System, Doing, Nets, Drives, MayDoAll, does_all, start_system}
 use Rattle.mpx_sim.specs.Draws.{IsLater, ScheduleView, draw, drawn_once, generator}
 
 -- what goes on in a process by itself: its rank moves, it stores a result, or it drops posts
@@ -50,7 +52,7 @@ abbrev pub AreAllSo : (Doing → Type 0) → List Doing → Type 0
 AreAllSo P [] = Unit {0}
 AreAllSo P (d ∷ ds) = P d × AreAllSo P ds
 
--- doings of this sort alone lead there
+-- doings of this sort alone lead there; there may be none
 pub record LeadsBy (P : Doing → Type 0) (ranks : ℕ) (from to : System) : Type 0 where
   pub doings : List Doing
   pub are : AreAllSo P doings
@@ -63,63 +65,115 @@ pub record IsLeft (ranks : ℕ) (s : State) : Type 0 where
   pub among : rank < ranks
   pub left : is_left (s rank).todo ≡ true
 
--- a system, and the schedule that drives it
+-- FRAMES
+
+-- a frame: from which process to which it goes, the turn in which it comes, and the board that its bytes spell
+pub record FrameView : Type 0 where
+  pub from : ℕ
+  pub to : ℕ
+  pub turn : ℕ
+  pub part : Look
+
+-- the frames of these parts: one comes in each turn, from this one on
+abbrev pub one_a_turn : (from to turn : ℕ) → List Look → List FrameView
+one_a_turn from to turn [] = []
+one_a_turn from to turn (part ∷ parts) = record { from = from; to = to; turn = turn; part = part } ∷ one_a_turn from to (suc turn) parts
+
+-- what a process makes in a turn: nothing, or the frames of a list, which say only what its board has, and together all that others may lack of it
+pub data IsListOf (size turn p : ℕ) (node : NodeView) : List FrameView → Type 0 where
+  no_list : IsListOf size turn p node []
+  a_list : (to : ℕ) (parts : List Look) → to < size → All (λ part. OnlyFactsOf part node.board) parts → join_all parts ≡ lacking_on node → IsListOf size turn p node (one_a_turn p to turn parts)
+
+-- the frames of all these lists, one behind the other
+abbrev pub joined : List (List FrameView) → List FrameView
+joined [] = []
+joined (list ∷ lists) = list ++ joined lists
+
+-- those of some frames that go out: for each a number below a hundred is drawn, once, and it goes out where that isn't below the loss, or else is lost
+abbrev pub those_out : ScheduleView → List FrameView → List FrameView
+those_out s [] = []
+those_out s (f ∷ made) = if nat_lt (draw 100 s.draws) s.loss then those_out (drawn_once s) made else (f ∷ those_out (drawn_once s) made)
+
+-- a number was drawn for each of them
+abbrev pub drawn_for : List FrameView → ScheduleView → ScheduleView
+drawn_for [] s = s
+drawn_for (f ∷ made) s = drawn_for made (drawn_once s)
+
+-- they are sent
+abbrev pub sends_each : List FrameView → List Doing
+sends_each frames = map (λ (f : FrameView). Nets (Sends f.from f.part)) frames
+
+abbrev pub IsUnder : List FrameView → FrameView → Type 0
+IsUnder frames f = (place : ℕ) × (slice_get frames place ≡ Some f)
+
+-- TURNS
+
+-- a system, the frames that are under way in it, and the schedule that drives it
 pub record Moment : Type 0 where
   pub system : System
+  pub frames : List FrameView
   pub schedule : ScheduleView
 
--- frames go out, one after the other: before its frames a process says what it has; for each frame a number below a hundred is drawn, and the frame goes
--- out where that isn't below the loss, or else is lost
-pub data Goes (ranks : ℕ) (from : Moment) : Moment → Type 0 where
-  none : Goes ranks from from
-  says : {m : Moment} (d : Doing) → Goes ranks from m → IsSaid d → MayDo ranks m.system d → Goes ranks from (record { system = does m.system d; schedule = m.schedule })
-  sends : {m : Moment} (p : ℕ) (part : Look) → Goes ranks from m → MayDo ranks m.system (Nets (Sends p part)) → m.schedule.loss ≤ draw 100 m.schedule.draws
-      → Goes ranks from (record { system = does m.system (Nets (Sends p part)); schedule = drawn_once m.schedule })
-  loses : {m : Moment} → Goes ranks from m → draw 100 m.schedule.draws < m.schedule.loss → Goes ranks from (record { system = m.system; schedule = drawn_once m.schedule })
-
--- each process has gone on by itself, some rank has something left then, and frames have gone out
-pub record HasSent (ranks : ℕ) (from to : Moment) : Type 0 where
+-- what goes on in each process by itself, if anything, has gone on; some rank has something left then; and processes, if any, have said what they have
+pub record HasSaid (ranks : ℕ) (from : System) (to : System) : Type 0 where
   pub alone : System
-  pub own : LeadsBy IsOwn ranks from.system alone
+  pub own : LeadsBy IsOwn ranks from alone
   pub left : IsLeft ranks alone.ranks
-  pub goes : Goes ranks (record { system = alone; schedule = from.schedule }) to
+  pub says : LeadsBy IsSaid ranks alone to
 
--- a turn: then frames come, in an order that is drawn
-pub record IsTurn (ranks : ℕ) (from to : Moment) : Type 0 where
+-- then each process has made a list of frames or none, and those that weren't lost are under way behind the others
+pub record HasSent (ranks size turn : ℕ) (from to : Moment) : Type 0 where
+  pub said : System
+  pub before : HasSaid ranks from.system said
+  pub lists : List (List FrameView)
+  pub count : length lists ≡ size
+  pub made : (p : ℕ) (list : List FrameView) → slice_get lists p ≡ Some list → IsListOf size turn p (said.world.each p).node list
+  pub system_is : to.system ≡ does_all said (sends_each (those_out from.schedule (joined lists)))
+  pub frames_are : to.frames ≡ from.frames ++ those_out from.schedule (joined lists)
+  pub schedule_is : to.schedule ≡ drawn_for (joined lists) from.schedule
+
+-- and then frames come, so far these, in an order that is drawn
+pub record IsComing (ranks size turn : ℕ) (from : Moment) (schedule : ScheduleView) (to : System) : Type 0 where
   pub sent : Moment
-  pub going : HasSent ranks from sent
-  pub comes : LeadsBy IsTaken ranks sent.system to.system
-  pub later : IsLater sent.schedule to.schedule
+  pub going : HasSent ranks size turn from sent
+  pub comes : LeadsBy IsTaken ranks sent.system to
+  pub later : IsLater sent.schedule schedule
 
--- so many turns, one after the other
-abbrev pub AreTurns : (turns ranks : ℕ) → Moment → Moment → Type 0
-AreTurns zero ranks from to = from ≡ to
-AreTurns (suc n) ranks from to = (mid : Moment) × AreTurns n ranks from mid × IsTurn ranks mid to
+-- the turn of this number: each frame of it has come, so that its process's board has what it says, and those of later turns are still under way
+pub record IsTurn (ranks size turn : ℕ) (from to : Moment) : Type 0 where
+  pub coming : IsComing ranks size turn from to.schedule to.system
+  pub came : All (λ (f : FrameView). f.turn ≡ turn → f.to < size → IsBoardBelow f.part (to.system.world.each f.to).node.board) coming.sent.frames
+  pub still : All (λ (f : FrameView). turn < f.turn → IsUnder to.frames f) coming.sent.frames
+
+-- so many turns, one after the other, from the first on
+abbrev pub AreTurns : (turns ranks size : ℕ) → Moment → Moment → Type 0
+AreTurns zero ranks size from to = from ≡ to
+AreTurns (suc n) ranks size from to = (mid : Moment) × AreTurns n ranks size from mid × IsTurn ranks size n mid to
 
 -- the phases of a turn
 pub data Phase : Type 0 where
   Alone : Phase
-  Going : ScheduleView → Phase
-  Coming : ScheduleView → Phase
+  Saying : Phase
+  Coming : (turn : ℕ) → ScheduleView → Phase
 
 abbrev pub IsIn : Phase → Doing → Type 0
 IsIn Alone d = IsOwn d
-IsIn (Going s) d = IsSaid d
-IsIn (Coming s) d = IsTaken d
+IsIn Saying d = IsSaid d
+IsIn (Coming turn s) d = IsTaken d
 
--- what has been done in a turn that is in this phase
-abbrev pub Since : (ranks : ℕ) (begun : Moment) → Phase → System → Type 0
-Since ranks begun Alone to = LeadsBy IsOwn ranks begun.system to
-Since ranks begun (Going s) to = HasSent ranks begun (record { system = to; schedule = s })
-Since ranks begun (Coming s) to = IsTurn ranks begun (record { system = to; schedule = s })
+-- what has been done in a turn that is in this phase, where these frames are under way
+abbrev pub Since : (ranks size : ℕ) (begun : Moment) → Phase → List FrameView → System → Type 0
+Since ranks size begun Alone frames to = LeadsBy IsOwn ranks begun.system to × (frames ≡ begun.frames)
+Since ranks size begun Saying frames to = HasSaid ranks begun.system to × (frames ≡ begun.frames)
+Since ranks size begun (Coming turn s) frames to = (coming : IsComing ranks size turn begun s to) × All (IsUnder frames) coming.sent.frames
 
 -- so many turns of a schedule with this loss and seed, and what goes on in each process by itself then, lead from the start of the script's run with so
--- many relays to processes with these nodes. Before the first turn is drawn how far on each process sends
+-- many relays to processes with these nodes. Before the first turn is drawn how far on each process sends, and no frame is under way
 pub record AreAfter (ops : List Operation) (script : ScriptView) (relays seed loss turns : ℕ) (nodes : List NodeView) : Type 0 where
   pub first : ScheduleView
   pub seeded : IsLater (record { loss = loss; draws = generator seed }) first
   pub begun : Moment
-  pub made : AreTurns turns script.ranks (record { system = start_system ops script.statements script.ranks (script.ranks + relays); schedule = first }) begun
+  pub made : AreTurns turns script.ranks (script.ranks + relays) (record { system = start_system ops script.statements script.ranks (script.ranks + relays); frames = []; schedule = first }) begun
   pub system : System
   pub own : LeadsBy IsOwn script.ranks begun.system system
   pub nodes_are : (p : ℕ) (node : NodeView) → slice_get nodes p ≡ Some node → node ≡ (system.world.each p).node

@@ -1,38 +1,43 @@
 //! The desk of a run's process: it carries the posts of the process's rank, and looks at contexts.
-ghost use Rattle.std.specs.Prelude.{◌≡◌, ◌<◌, ◌≤◌, IfOk, List, OnOk, Some, true};
+ghost use Rattle.std.specs.Prelude.{◌≡◌, ◌<◌, ◌≤◌, IfOk, List, OnOk, Some, false, true};
 ghost use Rattle.std.specs.Option.{option_copied};
 ghost use Rattle.mpx_num.specs.declared.own.Operation.{Operation};
-ghost use Rattle.mpx_comm.specs.Harvested.{Harvested};
-ghost use Rattle.mpx_comm.specs.Later.{IsPending};
-ghost use Rattle.mpx_comm.specs.declared.request.Request.{Request as Posted};
-ghost use Rattle.mpx_node.specs.Nodes.{gathers_on, start_node};
+ghost use Rattle.mpx_node.specs.Nodes.{has_next, start_node};
 ghost use Rattle.mpx_node.specs.Shown.{node_of};
-ghost use Rattle.mpx_statement.specs.Statements.{create_group_draft};
+ghost use Rattle.mpx_statement.specs.Statements.{gathers_of};
 ghost use Rattle.mpx_rank.specs.Shown.{requests_of};
-ghost use Rattle.mpx_sim.specs.Carrying.{Tries, tried_gathered, tried_on};
-ghost use Rattle.mpx_sim.specs.Ends.{OneIsOpen};
-ghost use Rattle.mpx_sim.specs.Running.{KeepsNode, name_in};
+ghost use Rattle.mpx_sim.specs.declared.desk.Posted.{Posted as PostedView};
+ghost use Rattle.mpx_sim.specs.Carrying.{Harvests, IsContext, Tries, call_on, new_name, tried_on};
+ghost use Rattle.mpx_sim.specs.Ends.{IsOpen, OneIsOpen};
+ghost use Rattle.mpx_sim.specs.Running.{KeepsNode};
 ghost use Rattle.mpx_sim.specs.Shown.{call_in, call_of};
 ghost use Rattle.mpx_sim.specs.Turns.{Alone};
 
 use join_core::{Exact, OutOfMemory};
 use mpx_birth::Birth;
-use mpx_comm::{Comm, Desk, Request, Tested};
 use mpx_group::Proc;
 use mpx_meaning::line;
 use mpx_name::Name;
 use mpx_node::{Harvest, Node};
-use mpx_num::{Listing, Numbers, Ops};
+use mpx_num::{Listing, Ops};
 use mpx_post::PostError;
 use mpx_rank::{Carrier, Heard};
 use mpx_statement::{Posting, Word};
+use mpx_value::Outcome;
 use std::alloc::Global;
 use std::collections::BTreeMap;
 
-/// A desk over a process's node, and the contexts that it looks at.
+/// A call that was posted: its context and its number.
+#[derive(Drop)]
+pub(crate) struct Posted {
+    pub(crate) name: Name,
+    pub(crate) call: u32,
+}
+
+/// A process's node, and the contexts that it looks at.
 #[derive(Drop)]
 pub(crate) struct RunDesk {
-    pub(crate) desk: Desk<Node>,
+    pub(crate) node: Node,
     contexts: Vec<Name>,
 }
 
@@ -48,14 +53,11 @@ impl RunDesk {
         requires ranks { ranks ≤ processes }
         requires few { processes ≤ 64 }
         requires me { me < processes }
-        ensures { IfOk result (λ desk. node_of desk.desk.host ≡ start_node me ranks processes) }
+        ensures { IfOk result (λ desk. node_of desk.node ≡ start_node me ranks processes) }
     {
         let contexts = contexts_at_start(alloc)?;
         match Node::new(alloc, me, ranks, processes) {
-            Ok(node) => Ok(RunDesk {
-                desk: Desk::new(alloc, node),
-                contexts,
-            }),
+            Ok(node) => Ok(RunDesk { node, contexts }),
             Err(e) => {
                 drop(contexts);
                 Err(e)
@@ -65,50 +67,54 @@ impl RunDesk {
 
     /// Its node.
     pub(crate) fn into_node(self) -> Node
-        ensures { result ≡ self.desk.host }
+        ensures { result ≡ self.node }
     {
-        let RunDesk { desk, contexts } = self;
+        let RunDesk { node, contexts } = self;
         drop(contexts);
-        desk.into_host()
+        node
     }
 
     /// Stores the results of each context that it looks at, until no further one can be had.
     pub(crate) fn harvest(&mut self, alloc: Global, ops: &Ops) -> Result<(), OutOfMemory>
-        ensures { OnOk result (Harvested (⟦<Ops as Listing>⟧.operations ops.now) (node_of self.old.desk.host) (node_of self.new.desk.host)) }
+        ensures { OnOk result (Harvests (⟦<Ops as Listing>⟧.operations ops.now) (node_of self.old.node) (node_of self.new.node)) }
     {
         for name in &self.contexts {
-            harvest_on(alloc, &mut self.desk, name, ops)?;
+            let posted = self.node.posted(name);
+            harvest_below(alloc, &mut self.node, name, posted, ops)?;
         }
         Ok(())
     }
 
-    /// Whether the call of a request isn't done, and can't be by what the board has.
+    /// Whether a call isn't done, and can't be by what the board has.
     pub(crate) fn is_open(
         &mut self,
         alloc: Global,
-        request: &Request,
+        call: &Posted,
         ops: &Ops,
     ) -> Result<bool, OutOfMemory>
-        ensures harvested { OnOk result (Harvested (⟦<Ops as Listing>⟧.operations ops.now) (node_of self.old.desk.host) (node_of self.new.desk.host)) }
-        ensures pending { IfOk result (λ pends. pends ≡ true → IsPending (node_of self.new.desk.host) request.now.name request.now.call) }
+        ensures harvested { OnOk result (Harvests (⟦<Ops as Listing>⟧.operations ops.now) (node_of self.old.node) (node_of self.new.node)) }
+        ensures pending { IfOk result (λ pends. pends ≡ true → IsOpen (node_of self.new.node) call.now.name call.now.call) }
     {
-        let done = self.desk.status(alloc, request, ops)?;
-        Ok(!done)
+        let all = harvest_to(alloc, &mut self.node, call, ops)?;
+        if all {
+            return Ok(false);
+        }
+        Ok(self.node.result(&call.name, call.call).is_none())
     }
 
-    // Whether that of a request is, where there is one.
+    // Whether a call is, where there is one.
     fn some_is_open(
         &mut self,
         alloc: Global,
-        request: Option<&Request>,
+        call: Option<&Posted>,
         ops: &Ops,
     ) -> Result<bool, OutOfMemory>
-        ensures harvested { OnOk result (Harvested (⟦<Ops as Listing>⟧.operations ops.now) (node_of self.old.desk.host) (node_of self.new.desk.host)) }
-        ensures pending { IfOk result (λ pends. pends ≡ true → (r : Posted) × (option_copied request.entry ≡ Some r) × IsPending (node_of self.new.desk.host) r.name r.call) }
+        ensures harvested { OnOk result (Harvests (⟦<Ops as Listing>⟧.operations ops.now) (node_of self.old.node) (node_of self.new.node)) }
+        ensures pending { IfOk result (λ pends. pends ≡ true → (c : PostedView) × (option_copied call.entry ≡ Some c) × IsOpen (node_of self.new.node) c.name c.call) }
     {
-        match request {
+        match call {
             None => Ok(false),
-            Some(request) => self.is_open(alloc, request, ops),
+            Some(call) => self.is_open(alloc, call, ops),
         }
     }
 
@@ -116,12 +122,12 @@ impl RunDesk {
     pub(crate) fn one_is_open(
         &mut self,
         alloc: Global,
-        requests: &BTreeMap<Word, Request>,
+        requests: &BTreeMap<Word, Posted>,
         words: &[Word],
         ops: &Ops,
     ) -> Result<bool, OutOfMemory>
-        ensures harvested { OnOk result (Harvested (⟦<Ops as Listing>⟧.operations ops.now) (node_of self.old.desk.host) (node_of self.new.desk.host)) }
-        ensures pending { IfOk result (λ pends. pends ≡ true → OneIsOpen (node_of self.new.desk.host) (requests_of call_of requests.now) words.now) }
+        ensures harvested { OnOk result (Harvests (⟦<Ops as Listing>⟧.operations ops.now) (node_of self.old.node) (node_of self.new.node)) }
+        ensures pending { IfOk result (λ pends. pends ≡ true → OneIsOpen (node_of self.new.node) (requests_of call_of requests.now) words.now) }
     {
         for word in words {
             let pends = self.some_is_open(alloc, requests.get(word), ops)?;
@@ -135,10 +141,10 @@ impl RunDesk {
     /// Drops the posts that every member has harvested, of each context that it looks at, by what its board knows of that. It
     /// answers whether there were any. Contexts that are dead then are looked at no more.
     pub(crate) fn prune(&mut self) -> bool
-        ensures { (operations : List Operation) → KeepsNode Alone operations (node_of self.old.desk.host) (node_of self.new.desk.host) }
+        ensures { (operations : List Operation) → KeepsNode Alone operations (node_of self.old.node) (node_of self.new.node) }
     {
-        let changed = prune_all(&mut self.desk, &self.contexts);
-        let board = self.desk.host().board();
+        let changed = prune_all(&mut self.node, &self.contexts);
+        let board = self.node.board();
         self.contexts.retain(|name| !board.is_dead(name));
         changed
     }
@@ -147,9 +153,9 @@ impl RunDesk {
 impl Carrier for RunDesk {
     ghost use Rattle.mpx_sim.specs.Carrying.{desk_terms, hears_more, hears_nothing, stays_told};
 
-    type Communicator = Comm;
+    type Communicator = Name;
 
-    type Call = Request;
+    type Call = Posted;
 
     ghost place = { call_of };
 
@@ -159,15 +165,15 @@ impl Carrier for RunDesk {
         &mut self,
         alloc: Global,
         _me: Proc,
-        on: Option<&Comm>,
+        on: Option<&Name>,
         posting: &Posting,
         ops: &Ops,
-    ) -> Result<Option<Request>, PostError> {
-        let request = attempt(alloc, &mut self.desk, on, posting, ops)?;
-        match look_at_gathering(alloc, &mut self.contexts, &request) {
-            Ok(()) => Ok(Some(request)),
+    ) -> Result<Option<Posted>, PostError> {
+        let posted = attempt(alloc, &mut self.node, on, posting, ops)?;
+        match look_at_gathering(alloc, &mut self.contexts, &posted) {
+            Ok(()) => Ok(Some(posted)),
             Err(_) => {
-                drop(request);
+                drop(posted);
                 Err(PostError::OutOfMemory)
             }
         }
@@ -177,39 +183,37 @@ impl Carrier for RunDesk {
         &mut self,
         alloc: Global,
         _me: Proc,
-        call: &Request,
+        call: &Posted,
         ops: &Ops,
     ) -> Result<bool, OutOfMemory> {
-        self.desk.status(alloc, call, ops)
+        harvest_to(alloc, &mut self.node, call, ops)?;
+        Ok(self.node.result(&call.name, call.call).is_some())
     }
 
     fn hear(
         &mut self,
         alloc: Global,
         _me: Proc,
-        call: Request,
+        call: Posted,
         ops: &Ops,
-    ) -> Result<Heard<Request, Comm>, OutOfMemory> {
-        match self.desk.test(alloc, call, ops) {
-            Err(_) => Err(OutOfMemory),
-            Ok(Tested::NotYet(request)) => Ok(Heard::NotYet(request)),
-            Ok(Tested::Done(finished)) => {
-                let text = line(alloc, &finished.outcome)?;
-                let given = Comm::of(alloc, &finished)?;
-                drop(finished);
-                look_at_given(alloc, &mut self.contexts, &given)?;
-                Ok(Heard::Told { text, given })
-            }
-        }
+    ) -> Result<Heard<Posted, Name>, OutOfMemory> {
+        harvest_to(alloc, &mut self.node, &call, ops)?;
+        let Some(finished) = self.node.result(&call.name, call.call) else {
+            return Ok(Heard::NotYet(call));
+        };
+        let text = line(alloc, &finished.outcome)?;
+        let given = new_name(alloc, &finished.outcome)?;
+        look_at_given(alloc, &mut self.contexts, &given)?;
+        Ok(Heard::Told { text, given })
     }
 
-    fn known<'m>(&'m self, communicator: &'m Comm, _ops: &Ops) -> Option<(&'m Name, &'m Birth)> {
-        let birth = self.desk.host().board().birth(communicator.name())?;
-        Some((communicator.name(), birth))
+    fn known<'m>(&'m self, communicator: &'m Name, _ops: &Ops) -> Option<(&'m Name, &'m Birth)> {
+        let birth = self.node.board().birth(communicator)?;
+        Some((communicator, birth))
     }
 
-    fn is_closed(&mut self, _me: Proc, communicator: &Comm, _ops: &Ops) -> bool {
-        self.desk.host().has_freed(communicator.name())
+    fn is_closed(&mut self, _me: Proc, communicator: &Name, _ops: &Ops) -> bool {
+        self.node.has_freed(communicator)
     }
 
     ghost hears_nothing = { hears_nothing };
@@ -219,14 +223,28 @@ impl Carrier for RunDesk {
     ghost stays_told = { stays_told };
 }
 
-// The communicator that a call gave, where it gave one, is looked at from now on.
+// The name of the communicator that a call gave, where it gave one.
+fn new_name(alloc: Global, outcome: &Outcome) -> Result<Option<Name>, OutOfMemory>
+    ensures { IfOk result (λ name. name ≡ new_name outcome.now) }
+{
+    match outcome {
+        Outcome::NewComm { name, .. } => Ok(Some(name.copy(alloc)?)),
+        Outcome::Nothing => Ok(None),
+        Outcome::Absent => Ok(None),
+        Outcome::Items(_) => Ok(None),
+        Outcome::Null => Ok(None),
+        Outcome::Fault(_) => Ok(None),
+    }
+}
+
+// It is looked at from now on.
 fn look_at_given(
     alloc: Global,
     contexts: &mut Vec<Name>,
-    given: &Option<Comm>,
+    given: &Option<Name>,
 ) -> Result<(), OutOfMemory> {
-    if let Some(comm) = given {
-        contexts.push(comm.name().copy(alloc)?)?;
+    if let Some(name) = given {
+        contexts.push(name.copy(alloc)?)?;
     }
     Ok(())
 }
@@ -235,51 +253,66 @@ fn look_at_given(
 fn look_at_gathering(
     alloc: Global,
     contexts: &mut Vec<Name>,
-    request: &Request,
+    posted: &Posted,
 ) -> Result<(), OutOfMemory> {
-    if request.call() == 0 && request.name().is_gathering() {
-        contexts.push(request.name().copy(alloc)?)?;
+    if posted.call == 0 && posted.name.is_gathering() {
+        contexts.push(posted.name.copy(alloc)?)?;
     }
     Ok(())
 }
 
-// The request of a statement that posts, on what its word is bound to, or the refusal.
+// The call of a statement that posts, on what its word is bound to, or the refusal.
 fn attempt(
     alloc: Global,
-    desk: &mut Desk<Node>,
-    on: Option<&Comm>,
+    node: &mut Node,
+    on: Option<&Name>,
     posting: &Posting,
     ops: &Ops,
-) -> Result<Request, PostError>
-    ensures { Tries (tried_on (⟦<Ops as Listing>⟧.operations ops.now) posting.now (name_in (option_copied on.entry)) (node_of desk.old.host)) (call_in result) (node_of desk.new.host) }
+) -> Result<Posted, PostError>
+    ensures { Tries (tried_on (⟦<Ops as Listing>⟧.operations ops.now) posting.now (option_copied on.entry) (node_of node.old)) (call_in result) (node_of node.new) }
 {
     let Some(on) = on else {
         return Err(PostError::NotMember);
     };
-    match posting {
-        Posting::CreateGroup { tag, ranks, .. } => {
-            start_create_group(alloc, desk, on, tag, ranks, ops)
-        }
-        _ => {
-            let Ok(draft) = posting.draft() else {
-                return Err(PostError::OutOfMemory);
-            };
-            desk.post(alloc, on, draft, ops)
+    let name = context_of(alloc, node, on, posting)?;
+    let Ok(draft) = posting.draft() else {
+        return Err(PostError::OutOfMemory);
+    };
+    let call = node.post(alloc, &name, draft, ops);
+    call_on(name, call)
+}
+
+// The call of this number on a context, where it was posted.
+fn call_on(name: Name, call: Result<u32, PostError>) -> Result<Posted, PostError>
+    ensures { call_in result ≡ call_on name call }
+{
+    match call {
+        Ok(call) => Ok(Posted { name, call }),
+        Err(refusal) => {
+            drop(name);
+            Err(refusal)
         }
     }
 }
 
-fn start_create_group(
+// The context on which a statement posts: the communicator's, or the gathering that it opens below that.
+fn context_of(
     alloc: Global,
-    desk: &mut Desk<Node>,
-    parent: &Comm,
-    tag: &i128,
-    ranks: &Numbers,
-    ops: &Ops,
-) -> Result<Request, PostError>
-    ensures { Tries (tried_gathered (⟦<Ops as Listing>⟧.operations ops.now) parent.now.name create_group_draft (gathers_on (node_of desk.old.host) parent.now.name tag.now ranks.now) (node_of desk.old.host)) (call_in result) (node_of desk.new.host) }
+    node: &mut Node,
+    on: &Name,
+    posting: &Posting,
+) -> Result<Name, PostError>
+    ensures { IsContext on.now (gathers_of posting.now) result (node_of node.old) (node_of node.new) }
 {
-    desk.start_create_group(alloc, parent, *tag, ranks.as_slice(), ops)
+    match posting {
+        Posting::CreateGroup { tag, ranks, .. } => {
+            node.open_gathering(alloc, on, *tag, ranks.as_slice())
+        }
+        _ => match on.copy(alloc) {
+            Ok(name) => Ok(name),
+            Err(_) => Err(PostError::OutOfMemory),
+        },
+    }
 }
 
 // Every process looks at the world.
@@ -289,31 +322,42 @@ fn contexts_at_start(alloc: Global) -> Result<Vec<Name>, OutOfMemory> {
     Ok(contexts)
 }
 
-// Stores the results of a context, until no further one can be had: each of its posted calls is harvested at most once.
-fn harvest_on(
-    alloc: Global,
-    desk: &mut Desk<Node>,
-    name: &Name,
-    ops: &Ops,
-) -> Result<(), OutOfMemory>
-    ensures { OnOk result (Harvested (⟦<Ops as Listing>⟧.operations ops.now) (node_of desk.old.host) (node_of desk.new.host)) }
+// Stores the results of a call and of those before it on its context, as far as they can be had. It answers whether all are stored.
+fn harvest_to(alloc: Global, node: &mut Node, call: &Posted, ops: &Ops) -> Result<bool, OutOfMemory>
+    ensures harvested { OnOk result (Harvests (⟦<Ops as Listing>⟧.operations ops.now) (node_of node.old) (node_of node.new)) }
+    ensures last { IfOk result (λ all. all ≡ false → has_next (node_of node.new) call.now.name ≡ false) }
 {
-    for _call in desk.host().front(name)..desk.host().posted(name) {
-        match desk.harvest(alloc, name, ops)? {
+    harvest_below(alloc, node, &call.name, call.call.saturating_add(1), ops)
+}
+
+// Stores the results of a context's calls below this number, until no further one can be had: each is harvested at most once. It answers
+// whether all are stored.
+fn harvest_below(
+    alloc: Global,
+    node: &mut Node,
+    name: &Name,
+    number: u32,
+    ops: &Ops,
+) -> Result<bool, OutOfMemory>
+    ensures harvested { OnOk result (Harvests (⟦<Ops as Listing>⟧.operations ops.now) (node_of node.old) (node_of node.new)) }
+    ensures last { IfOk result (λ all. all ≡ false → has_next (node_of node.new) name.now ≡ false) }
+{
+    for _call in node.front(name)..number {
+        match node.harvest(alloc, name, ops)? {
             Harvest::Done(_) => {}
-            _ => return Ok(()),
+            _ => return Ok(false),
         }
     }
-    Ok(())
+    Ok(true)
 }
 
 // Drops on each context what all members have harvested. It answers whether there was anything.
-fn prune_all(desk: &mut Desk<Node>, contexts: &[Name]) -> bool
-    ensures { (operations : List Operation) → KeepsNode Alone operations (node_of desk.old.host) (node_of desk.new.host) }
+fn prune_all(node: &mut Node, contexts: &[Name]) -> bool
+    ensures { (operations : List Operation) → KeepsNode Alone operations (node_of node.old) (node_of node.new) }
 {
     let mut changed = false;
     for name in contexts {
-        let pruned = prune_on(desk, name);
+        let pruned = prune_on(node, name);
         changed |= pruned;
     }
     changed
@@ -326,18 +370,18 @@ fn has_none_to_drop(node: &Node, name: &Name, dropped: u32) -> bool {
 
 // Drops what every member has harvested, where that is more than is dropped. Where it is past a free, the context is dead then, whatever
 // others had dropped before.
-fn prune_on(desk: &mut Desk<Node>, name: &Name) -> bool
-    ensures { (operations : List Operation) → KeepsNode Alone operations (node_of desk.old.host) (node_of desk.new.host) }
+fn prune_on(node: &mut Node, name: &Name) -> bool
+    ensures { (operations : List Operation) → KeepsNode Alone operations (node_of node.old) (node_of node.new) }
 {
-    let dropped = desk.host().board().dropped(name);
-    if has_none_to_drop(desk.host(), name, dropped) {
+    let dropped = node.board().dropped(name);
+    if has_none_to_drop(node, name, dropped) {
         return false;
     }
-    let Some(floor) = desk.host().board().floor(name) else {
+    let Some(floor) = node.board().floor(name) else {
         return false;
     };
-    if floor <= dropped && !desk.host().is_past_free(name, floor) {
+    if floor <= dropped && !node.is_past_free(name, floor) {
         return false;
     }
-    desk.prune(name, floor).is_ok()
+    node.prune(name, floor).is_ok()
 }

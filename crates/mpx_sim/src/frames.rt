@@ -1,8 +1,9 @@
 //! Frames, by the bytes of boards.
-ghost use Rattle.std.specs.Prelude.{◌≡◌, All, IfOk, map};
+ghost use Rattle.std.specs.Prelude.{◌≡◌, ◌<◌, All, IfOk, map};
 ghost use Rattle.mpx_format.specs.Decoding.{decoded, shown};
 ghost use Rattle.mpx_sim.specs.Frames.{IsFrame};
-ghost use Rattle.mpx_sim.specs.Shown.{part_of};
+ghost use Rattle.mpx_sim.specs.Shown.{frame_of};
+ghost use Rattle.mpx_sim.specs.Turns.{one_a_turn};
 
 use crate::frame_under_way::FrameUnderWay;
 use join_core::OutOfMemory;
@@ -20,21 +21,20 @@ pub(crate) fn frames_with(
     to: usize,
     turn: u64,
 ) -> Result<Vec<FrameUnderWay>, OutOfMemory>
-    requires { All IsFrame lists.items }
-    ensures { IfOk result (λ made. map part_of made.items ≡ map (λ bytes. shown (decoded bytes)) lists.items) }
+    requires turn { turn < 4294967296 }
+    requires frames { All IsFrame lists.items }
+    ensures { IfOk result (λ made. map frame_of made.items ≡ one_a_turn from to turn (map (λ bytes. shown (decoded bytes)) lists.items)) }
 {
     let mut made = Vec::new(alloc);
-    let mut turn = turn;
     for bytes in lists {
         let frame = FrameUnderWay {
             from,
             to,
-            turn,
+            turn: turn + made.len() as u64,
             again: false,
             bytes,
         };
         made.push(frame)?;
-        turn = turn.saturating_add(1);
     }
     Ok(made)
 }

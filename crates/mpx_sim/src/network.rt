@@ -1,16 +1,14 @@
 //! What goes from process to process in a run.
-ghost use Rattle.std.specs.Prelude.{◌≡◌, ◌<◌, ◌↔◌, ◌≤◌, ◌++◌, ◌∷◌, [], ◌⊎◌, All, IfOk, IsFalse, IsTrue, List, OnOk, Some, map, slice_get, ℕ};
-ghost use Rattle.std.proofs.Common.{set};
+ghost use Rattle.std.specs.Prelude.{◌≡◌, ◌<◌, ◌↔◌, ◌≤◌, ◌++◌, ◌∷◌, [], ◌⊎◌, All, IfOk, IsFalse, IsTrue, List, OnOk, Some, map, slice_get, true, ℕ};
 ghost use Rattle.std.specs.List.Sorted.{IsPermutation};
 ghost use Rattle.mpx_num.specs.declared.own.Operation.{Operation};
-ghost use Rattle.mpx_board.specs.Boards.{Look};
-ghost use Rattle.mpx_delta.specs.Facts.{OnlyFactsOf};
+ghost use Rattle.mpx_board.specs.Boards.{IsBoardBelow};
 ghost use Rattle.mpx_meaning.specs.Evaluation.{Script as Statements};
-ghost use Rattle.mpx_sim.specs.Draws.{AreDrawn, ScheduleView, generator};
-ghost use Rattle.mpx_sim.specs.Running.{IsUnderWay, ProcessView};
-ghost use Rattle.mpx_sim.specs.Shown.{part_of, process_of, schedule_of};
-ghost use Rattle.mpx_sim.specs.SideBySide.{AreReady, HasToSend, StillToCome};
-ghost use Rattle.mpx_sim.specs.Turns.{Coming, Going, Moment};
+ghost use Rattle.mpx_sim.specs.Draws.{AreDrawn, IsLater, ScheduleView, drawn_once, generator};
+ghost use Rattle.mpx_sim.specs.Running.{HaveCome, HaveGrown, IsAmong, IsUnderWay, ProcessView};
+ghost use Rattle.mpx_sim.specs.Shown.{frame_of, frames_of, part_of, process_of, schedule_of};
+ghost use Rattle.mpx_sim.specs.SideBySide.{AreReady, StillToCome, to_send};
+ghost use Rattle.mpx_sim.specs.Turns.{Coming, FrameView, Moment, drawn_for, joined, those_out};
 
 use crate::frame_under_way::FrameUnderWay;
 use crate::observer::Observer;
@@ -57,7 +55,7 @@ impl Network {
 
     /// The frames that are still to come: none, where those of this turn have come one after the other.
     pub(crate) fn coming(&self, in_order: bool) -> &[FrameUnderWay]
-        ensures some { (result.now ≡ []) ⊎ (result.now ≡ self.now.frames.items) }
+        ensures some { ((result.now ≡ []) × (in_order ≡ true)) ⊎ (result.now ≡ self.now.frames.items) }
         ensures all { IsFalse in_order → result.now ≡ self.now.frames.items }
     {
         if in_order { &[] } else { &self.frames }
@@ -103,11 +101,9 @@ pub(crate) fn send_all(
     network: &mut Network,
     observer: &mut dyn Observer,
 ) -> Result<(), OutOfMemory>
-    requires { All HasToSend processes.old }
-    ensures run { OnOk result ((operations : List Operation) (script : Statements) (ranks size : ℕ) (begun : Moment) → IsUnderWay operations script ranks size begun (Going (schedule_of network.old.schedule)) (map process_of processes.old) (map part_of network.old.frames.items)
-        → IsUnderWay operations script ranks size begun (Going (schedule_of network.new.schedule)) (map process_of processes.new) (map part_of network.new.frames.items)) }
+    ensures frames { OnOk result (frames_of network.new ≡ frames_of network.old ++ those_out (schedule_of network.old.schedule) (joined (map to_send processes.old))) }
+    ensures schedule { OnOk result (schedule_of network.new.schedule ≡ drawn_for (joined (map to_send processes.old)) (schedule_of network.old.schedule)) }
     ensures same { OnOk result (map process_of processes.new ≡ map process_of processes.old) }
-    ensures loss { OnOk result (network.new.schedule.loss ≡ network.old.schedule.loss) }
 {
     for p in 0..processes.len() {
         send_from(alloc, &mut processes[p], network, observer)?;
@@ -122,27 +118,22 @@ fn send_from(
     network: &mut Network,
     observer: &mut dyn Observer,
 ) -> Result<(), OutOfMemory>
-    requires { HasToSend process.old }
-    ensures run { OnOk result ((operations : List Operation) (script : Statements) (ranks size : ℕ) (begun : Moment) (processes : List ProcessView) (p : ℕ) → slice_get processes p ≡ Some (process_of process.old) → IsUnderWay operations script ranks size begun (Going (schedule_of network.old.schedule)) processes (map part_of network.old.frames.items)
-        → IsUnderWay operations script ranks size begun (Going (schedule_of network.new.schedule)) processes (map part_of network.new.frames.items)) }
+    ensures frames { OnOk result (frames_of network.new ≡ frames_of network.old ++ those_out (schedule_of network.old.schedule) (to_send process.old)) }
+    ensures schedule { OnOk result (schedule_of network.new.schedule ≡ drawn_for (to_send process.old) (schedule_of network.old.schedule)) }
     ensures same { process_of process.new ≡ process_of process.old }
-    ensures loss { OnOk result (network.new.schedule.loss ≡ network.old.schedule.loss) }
 {
     let made = mem::replace(&mut process.notes.made, Vec::new(alloc));
     send_each(made, network, observer)
 }
 
-// Frames with facts of a process's board go out, where they aren't lost.
+// Frames go out, one after the other, where they aren't lost.
 fn send_each(
     made: Vec<FrameUnderWay>,
     network: &mut Network,
     observer: &mut dyn Observer,
 ) -> Result<(), OutOfMemory>
-    ensures all { OnOk result (network.old.schedule.loss ≡ 0 → network.new.frames.items ≡ network.old.frames.items ++ made.items) }
-    ensures loss { network.new.schedule.loss ≡ network.old.schedule.loss }
-    ensures run { OnOk result ((operations : List Operation) (script : Statements) (ranks size : ℕ) (begun : Moment) (processes : List ProcessView) (p : ℕ) (v : ProcessView) → slice_get processes p ≡ Some v
-        → All (λ frame. OnlyFactsOf (part_of frame) v.node.board) made.items → IsUnderWay operations script ranks size begun (Going (schedule_of network.old.schedule)) processes (map part_of network.old.frames.items)
-        → IsUnderWay operations script ranks size begun (Going (schedule_of network.new.schedule)) processes (map part_of network.new.frames.items)) }
+    ensures frames { OnOk result (frames_of network.new ≡ frames_of network.old ++ those_out (schedule_of network.old.schedule) (map frame_of made.items)) }
+    ensures schedule { OnOk result (schedule_of network.new.schedule ≡ drawn_for (map frame_of made.items) (schedule_of network.old.schedule)) }
 {
     for frame in made {
         send(frame, network, observer)?;
@@ -156,11 +147,8 @@ fn send(
     network: &mut Network,
     observer: &mut dyn Observer,
 ) -> Result<(), OutOfMemory>
-    ensures all { OnOk result (network.old.schedule.loss ≡ 0 → network.new.frames.items ≡ network.old.frames.items ++ frame ∷ []) }
-    ensures loss { network.new.schedule.loss ≡ network.old.schedule.loss }
-    ensures run { OnOk result ((operations : List Operation) (script : Statements) (ranks size : ℕ) (begun : Moment) (processes : List ProcessView) (p : ℕ) (v : ProcessView) → slice_get processes p ≡ Some v
-        → OnlyFactsOf (part_of frame) v.node.board → IsUnderWay operations script ranks size begun (Going (schedule_of network.old.schedule)) processes (map part_of network.old.frames.items)
-        → IsUnderWay operations script ranks size begun (Going (schedule_of network.new.schedule)) processes (map part_of network.new.frames.items)) }
+    ensures frames { OnOk result (frames_of network.new ≡ frames_of network.old ++ those_out (schedule_of network.old.schedule) (frame_of frame ∷ [])) }
+    ensures schedule { schedule_of network.new.schedule ≡ drawn_once (schedule_of network.old.schedule) }
 {
     let lost = network.schedule.is_lost();
     observer.sent(frame.seen(), lost);
@@ -180,8 +168,9 @@ pub(crate) fn deliver(
     in_order: bool,
     observer: &mut dyn Observer,
 ) -> Result<(), OutOfMemory>
-    ensures { OnOk result ((operations : List Operation) (script : Statements) (ranks size : ℕ) (begun : Moment) → IsUnderWay operations script ranks size begun (Coming (schedule_of network.now.schedule)) (map process_of processes.old) (map part_of network.now.frames.items)
-        → IsUnderWay operations script ranks size begun (Coming (schedule_of network.now.schedule)) (map process_of processes.new) (map part_of network.now.frames.items)) }
+    ensures run { OnOk result ((operations : List Operation) (script : Statements) (ranks size : ℕ) (begun : Moment) (t : ScheduleView) → IsUnderWay operations script ranks size begun (Coming turn t) (map process_of processes.old) (frames_of network.now)
+        → IsUnderWay operations script ranks size begun (Coming turn t) (map process_of processes.new) (frames_of network.now)) }
+    ensures came { OnOk result (in_order ≡ true → HaveCome turn (frames_of network.now) (map process_of processes.new)) }
 {
     if !in_order {
         return Ok(());
@@ -200,10 +189,15 @@ fn arrive(
     turn: u64,
     observer: &mut dyn Observer,
 ) -> Result<(), OutOfMemory>
-    ensures { OnOk result ((operations : List Operation) (script : Statements) (ranks size : ℕ) (begun : Moment) (t : ScheduleView) (frames : List Look) (i : ℕ) → slice_get frames i ≡ Some (part_of frame.now) → IsUnderWay operations script ranks size begun (Coming t) (map process_of processes.old) frames
-        → IsUnderWay operations script ranks size begun (Coming t) (map process_of processes.new) frames) }
+    ensures run { OnOk result ((operations : List Operation) (script : Statements) (ranks size : ℕ) (begun : Moment) (t : ScheduleView) (frames : List FrameView) (i : ℕ) → slice_get frames i ≡ Some (frame_of frame.now) → IsUnderWay operations script ranks size begun (Coming turn t) (map process_of processes.old) frames
+        → IsUnderWay operations script ranks size begun (Coming turn t) (map process_of processes.new) frames) }
+    ensures came { OnOk result (frame.now.turn ≡ turn → (v : ProcessView) → slice_get (map process_of processes.new) frame.now.to ≡ Some v → IsBoardBelow (part_of frame.now) v.node.board) }
+    ensures grown { OnOk result (HaveGrown (map process_of processes.old) (map process_of processes.new)) }
 {
-    if frame.turn != turn || frame.to >= processes.len() {
+    if frame.turn != turn {
+        return Ok(());
+    }
+    if frame.to >= processes.len() {
         return Ok(());
     }
     processes[frame.to].receive(alloc, frame)?;
@@ -215,9 +209,8 @@ fn arrive(
 /// are still to come.
 pub(crate) fn keep_some(network: &mut Network, turn: u64)
     requires { turn < 4294967296 }
-    ensures run { (operations : List Operation) (script : Statements) (ranks size : ℕ) (begun : Moment) (processes : List ProcessView) → IsUnderWay operations script ranks size begun (Coming (schedule_of network.old.schedule)) processes (map part_of network.old.frames.items)
-        → IsUnderWay operations script ranks size begun (Coming (schedule_of network.new.schedule)) processes (map part_of network.new.frames.items) }
-    ensures loss { network.new.schedule.loss ≡ network.old.schedule.loss }
+    ensures parts { All (IsAmong (map part_of network.old.frames.items)) (map part_of network.new.frames.items) }
+    ensures later { IsLater (schedule_of network.old.schedule) (schedule_of network.new.schedule) }
     ensures kept { StillToCome turn network.old.frames.items network.new.frames.items }
 {
     delay_some(network, turn);
@@ -230,9 +223,8 @@ pub(crate) fn keep_some(network: &mut Network, turn: u64)
 // Lets the frame at the place go, where it comes no more, and tells the place of the next one. Its items go, and its room serves another frame.
 // Where memory for one more is refused, its room goes too.
 fn let_go(network: &mut Network, i: usize, turn: u64) -> usize
-    ensures run { (operations : List Operation) (script : Statements) (ranks size : ℕ) (begun : Moment) (processes : List ProcessView) → IsUnderWay operations script ranks size begun (Coming (schedule_of network.old.schedule)) processes (map part_of network.old.frames.items)
-        → IsUnderWay operations script ranks size begun (Coming (schedule_of network.new.schedule)) processes (map part_of network.new.frames.items) }
-    ensures loss { network.new.schedule.loss ≡ network.old.schedule.loss }
+    ensures parts { All (IsAmong (map part_of network.old.frames.items)) (map part_of network.new.frames.items) }
+    ensures schedule { network.new.schedule ≡ network.old.schedule }
     ensures kept { StillToCome turn network.old.frames.items network.new.frames.items }
 {
     if i >= network.frames.len() || network.frames[i].turn > turn {

@@ -1,14 +1,13 @@
 //! A process of a run: a rank, which goes on with its statements, or a relay, which has none.
-ghost use Rattle.std.specs.Prelude.{◌≡◌, ◌<◌, ◌≤◌, [], All, List, IfOk, IfSome, OnOk, Some, false, map, slice_get, string_bytes, true};
+ghost use Rattle.std.specs.Prelude.{◌≡◌, ◌<◌, ◌≤◌, [], List, IfOk, IfSome, OnOk, Some, false, map, slice_get, string_bytes, true, ℕ};
 ghost use Rattle.mpx_num.specs.declared.own.Operation.{Operation};
 ghost use Rattle.mpx_board.specs.Boards.{join_all};
-ghost use Rattle.mpx_delta.specs.Facts.{OnlyFactsOf};
 ghost use Rattle.mpx_node.specs.Deltas.{AreLacked, LackFrames, lacking_on};
 ghost use Rattle.mpx_node.specs.Nodes.{learn};
 ghost use Rattle.mpx_node.specs.Shown.{node_of};
 ghost use Rattle.mpx_meaning.specs.Evaluation.{Script as Statements, start_state};
-ghost use Rattle.mpx_sim.specs.Running.{StandsBy, name_in};
-ghost use Rattle.mpx_sim.specs.Shown.{part_of};
+ghost use Rattle.mpx_sim.specs.Running.{StandsBy};
+ghost use Rattle.mpx_sim.specs.Shown.{frame_of, part_of};
 
 use crate::desk::RunDesk;
 use crate::frame_under_way::FrameUnderWay;
@@ -18,9 +17,9 @@ use crate::schedule::Schedule;
 use crate::sender::Sender;
 use join_core::OutOfMemory;
 use mpx_board::Board;
-use mpx_comm::Comm;
 use mpx_delta::NewFrames;
 use mpx_group::Proc;
+use mpx_name::Name;
 use mpx_node::Node;
 use mpx_num::{Listing, Ops};
 use mpx_rank::Interpreter;
@@ -46,8 +45,7 @@ impl<'a> Process<'a> {
     ghost use Rattle.mpx_sim.specs.Running.{Keeps, Moves};
     ghost use Rattle.mpx_sim.specs.SideBySide.{GoesOn, IsReady, Makes, taken, took};
     ghost use Rattle.mpx_sim.specs.Shown.{process_of};
-    ghost use Rattle.mpx_sim.specs.Draws.{ScheduleView};
-    ghost use Rattle.mpx_sim.specs.Turns.{Alone, Going};
+    ghost use Rattle.mpx_sim.specs.Turns.{Alone, IsListOf, Saying};
 
     /// Process `me` of so many, of which the first are ranks, before its statements.
     pub(crate) fn new(
@@ -155,17 +153,18 @@ impl<'a> Process<'a> {
         turn: u64,
     ) -> Result<Vec<Rope>, OutOfMemory>
         requires { IfSome ahead (λ made. LackFrames 1048576 (process_of self.old).node made.said made.frames.items) }
-        ensures keeps { OnOk result ((t : ScheduleView) (operations : List Operation) → Keeps (Going t) operations (process_of self.old) (process_of self.new)) }
+        ensures keeps { OnOk result ((operations : List Operation) → Keeps Saying operations (process_of self.old) (process_of self.new)) }
         ensures frames { IfOk result (λ made. AreLacked 1048576 (process_of self.new).node made.items) }
     {
         if let Some(made) = ahead {
-            let frames = self.carrier.desk.say(made);
+            let NewFrames { said, frames } = made;
+            self.carrier.node.acknowledge(said);
             self.sender.sends(turn, frames.len());
             return Ok(frames);
         }
         let made = self
             .carrier
-            .desk
+            .node
             .framed_deltas(alloc, MOST_BYTES, &mut self.notes.spare)?;
         self.sender.sends(turn, made.len());
         Ok(made)
@@ -179,9 +178,10 @@ impl<'a> Process<'a> {
         to: usize,
         turn: u64,
     ) -> Result<Vec<FrameUnderWay>, OutOfMemory>
-        requires { IfSome ahead (λ made. LackFrames 1048576 (process_of self.old).node made.said made.frames.items) }
-        ensures keeps { OnOk result ((t : ScheduleView) (operations : List Operation) → Keeps (Going t) operations (process_of self.old) (process_of self.new)) }
-        ensures facts { IfOk result (λ made. All (λ frame. OnlyFactsOf (part_of frame) (process_of self.new).node.board) made.items) }
+        requires turn { turn < 4294967296 }
+        requires made { IfSome ahead (λ made. LackFrames 1048576 (process_of self.old).node made.said made.frames.items) }
+        ensures keeps { OnOk result ((operations : List Operation) → Keeps Saying operations (process_of self.old) (process_of self.new)) }
+        ensures list { IfOk result (λ made. (size : ℕ) → to < size → IsListOf size turn (process_of self.new).rank.me (process_of self.new).node (map frame_of made.items)) }
         ensures join { IfOk result (λ made. join_all (map part_of made.items) ≡ lacking_on (process_of self.new).node) }
     {
         let list = self.make_list(alloc, ahead, turn)?;
@@ -199,8 +199,9 @@ impl<'a> Process<'a> {
         turn: u64,
     ) -> Result<(), OutOfMemory>
         requires place { place < processes }
+        requires turn { turn < 4294967296 }
         requires ready { IsReady self.old }
-        ensures { OnOk result (Makes turn self.old self.new) }
+        ensures { OnOk result (Makes processes turn self.old self.new) }
     {
         let ahead = self.notes.ahead.take();
         if !self.sender.has_sent(turn) {
@@ -228,7 +229,7 @@ impl<'a> Process<'a> {
         }
         let made = self
             .carrier
-            .desk
+            .node
             .lacking_frames(alloc, MOST_BYTES, &mut self.notes.spare);
         if let Ok(made) = made {
             self.notes.ahead = Some(made);
@@ -318,17 +319,19 @@ impl<'a> Process<'a> {
     ) -> Result<(), OutOfMemory>
         ensures { OnOk result (process_of self.new ≡ record { rank = (process_of self.old).rank; node = learn (part_of frame.now) (process_of self.old).node }) }
     {
-        self.carrier.desk.take_rope(alloc, &frame.bytes.lent())
+        self.carrier.node.take_rope(alloc, &frame.bytes.lent())
     }
 
     /// Its number.
-    pub(crate) fn me(&self) -> u8 {
+    pub(crate) fn me(&self) -> u8
+        ensures { result ≡ (process_of self.now).rank.me }
+    {
         self.rank.me().number()
     }
 
     /// Its node.
     pub(crate) fn node(&self) -> &Node {
-        self.carrier.desk.host()
+        &self.carrier.node
     }
 
     /// Its lines so far.
@@ -345,7 +348,7 @@ impl<'a> Process<'a> {
     pub(crate) fn board(&self) -> &Board
         ensures { look result.now ≡ (process_of self.now).node.board }
     {
-        self.carrier.desk.host().board()
+        self.carrier.node.board()
     }
 
     /// Whether it waits for an outcome, or has statements left.
@@ -366,12 +369,11 @@ impl<'a> Process<'a> {
 }
 
 // The world as a rank has it. A relay has none.
-fn world_of(alloc: Global, me: u8, ranks: u8) -> Option<Comm>
-    requires { ranks ≤ 64 }
-    ensures { me < ranks → name_in result ≡ Some [] }
+fn world_of(alloc: Global, me: u8, ranks: u8) -> Option<Name>
+    ensures { me < ranks → result ≡ Some [] }
 {
     if me >= ranks {
         return None;
     }
-    Some(Comm::world(alloc, ranks, me))
+    Some(Name::world(alloc))
 }

@@ -1,5 +1,5 @@
 //! What the processes of a run do side by side, each by itself, in threads.
-ghost use Rattle.std.specs.Prelude.{◌≡◌, All, OnOk, false, map};
+ghost use Rattle.std.specs.Prelude.{◌≡◌, ◌<◌, All, OnOk, false, length, map};
 ghost use Rattle.mpx_num.specs.Own.{operation_of};
 ghost use Rattle.mpx_sim.specs.Shown.{process_of};
 ghost use Rattle.mpx_sim.specs.SideBySide.{AllGoOn, AllMake, AreReady, GoesOn, IsReady, taken};
@@ -52,8 +52,9 @@ pub(crate) fn say_all(
     schedule: &Schedule,
     turn: u64,
 ) -> Result<(), OutOfMemory>
-    requires { AreReady processes.old }
-    ensures { OnOk result (AllMake turn processes.old processes.new) }
+    requires turn { turn < 4294967296 }
+    requires ready { AreReady processes.old }
+    ensures { OnOk result (AllMake (length processes.old) turn processes.old processes.new) }
 {
     let count = processes.len();
     for place in 0..count {

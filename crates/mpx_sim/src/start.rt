@@ -39,7 +39,7 @@ pub(crate) fn start<'a>(
 ) -> Result<Vec<Process<'a>>, OutOfMemory>
     requires { script.now.ranks + relays ≤ 64 }
     ensures { IfOk result (λ processes. (operations : List Operation) (first : ScheduleView)
-        → IsUnderWay operations script.now.statements script.now.ranks (script.now.ranks + relays) (record { system = start_system operations script.now.statements script.now.ranks (script.now.ranks + relays); schedule = first }) Alone (map process_of processes.items) []) }
+        → IsUnderWay operations script.now.statements script.now.ranks (script.now.ranks + relays) (record { system = start_system operations script.now.statements script.now.ranks (script.now.ranks + relays); frames = []; schedule = first }) Alone (map process_of processes.items) []) }
 {
     let mut processes = Vec::new(alloc);
     let ranks = script.ranks();

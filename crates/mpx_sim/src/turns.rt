@@ -1,15 +1,14 @@
 //! The turns of a run, and when it ends.
-ghost use Rattle.std.specs.Prelude.{◌≡◌, ◌<◌, ◌≤◌, ◌+◌, [], IfOk, OnOk, false, length, map, true, List, ℕ};
+ghost use Rattle.std.specs.Prelude.{◌≡◌, ◌<◌, ◌≤◌, ◌+◌, ◌⊎◌, [], IfOk, OnOk, false, length, map, true, List, ℕ};
 ghost use Rattle.mpx_num.specs.declared.own.Operation.{Operation};
-ghost use Rattle.mpx_board.specs.Boards.{Look};
 ghost use Rattle.mpx_meaning.specs.Evaluation.{Script as Statements};
 ghost use Rattle.mpx_system.specs.Runs.{HaveOneBoard};
 ghost use Rattle.mpx_system.specs.Systems.{System};
 ghost use Rattle.mpx_sim.specs.Ends.{AllLack, AllMadeOr, HaveFinished, OneWaits, RestsBy, nodes_of};
-ghost use Rattle.mpx_sim.specs.Running.{AreOfRun, HasTurned, IsUnderWay};
-ghost use Rattle.mpx_sim.specs.Shown.{moment_of, part_of, process_of, schedule_of};
+ghost use Rattle.mpx_sim.specs.Running.{AreOfRun, HasTurned, HaveCome, IsUnderWay};
+ghost use Rattle.mpx_sim.specs.Shown.{frames_of, moment_of, process_of, schedule_of};
 ghost use Rattle.mpx_sim.specs.SideBySide.{AreReady};
-ghost use Rattle.mpx_sim.specs.Turns.{Alone, Coming, Moment};
+ghost use Rattle.mpx_sim.specs.Turns.{Alone, Coming, FrameView, Moment};
 
 use crate::network::{Network, deliver, hand_out, keep_some, send_all};
 use crate::observer::{Observer, Progress};
@@ -88,7 +87,8 @@ struct Plan {
 impl Plan {
     // Whether the turn of this number is the last that may be made.
     fn is_last(&self, number: u32) -> bool
-        ensures { result ≡ true → self.now.turns ≤ number + 1 }
+        ensures last { result ≡ true → self.now.turns ≤ number + 1 }
+        ensures further { result ≡ false → number + 1 < self.now.turns }
     {
         number >= self.turns.saturating_sub(1)
     }
@@ -128,7 +128,7 @@ fn first<R: Threads + Sync>(
     ops: &Ops,
 ) -> Result<bool, OutOfMemory>
     requires count { plan.now.ranks ≤ length processes.old }
-    ensures run { OnOk result ((script : Statements) (ranks size : ℕ) (begun : Moment) (frames : List Look) → plan.now.ranks ≤ ranks → IsUnderWay (⟦<Ops as Listing>⟧.operations ops.now) script ranks size begun Alone (map process_of processes.old) frames
+    ensures run { OnOk result ((script : Statements) (ranks size : ℕ) (begun : Moment) (frames : List FrameView) → plan.now.ranks ≤ ranks → IsUnderWay (⟦<Ops as Listing>⟧.operations ops.now) script ranks size begun Alone (map process_of processes.old) frames
         → IsUnderWay (⟦<Ops as Listing>⟧.operations ops.now) script ranks size begun Alone (map process_of processes.new) frames) }
     ensures ready { OnOk result (0 < plan.now.turns → AreReady processes.new) }
 {
@@ -153,8 +153,9 @@ fn exchange(
 ) -> Result<(), OutOfMemory>
     requires { AreReady processes.old }
     ensures run { OnOk result ((operations : List Operation) (script : Statements) (ranks size : ℕ) (begun : System) → plan.now.ranks ≤ ranks → OneWaits plan.now.ranks (map process_of processes.old)
-        → IsUnderWay operations script ranks size (moment_of begun network.old.schedule) Alone (map process_of processes.old) (map part_of network.old.frames.items)
-        → IsUnderWay operations script ranks size (moment_of begun network.old.schedule) (Coming (schedule_of network.new.schedule)) (map process_of processes.new) (map part_of network.new.frames.items)) }
+        → IsUnderWay operations script ranks size (moment_of begun network.old) Alone (map process_of processes.old) (frames_of network.old)
+        → IsUnderWay operations script ranks size (moment_of begun network.old) (Coming number (schedule_of network.new.schedule)) (map process_of processes.new) (frames_of network.new)) }
+    ensures came { OnOk result ((plan.now.in_order ≡ true) ⊎ (plan.now.turns ≤ number + 1) → HaveCome number (frames_of network.new) (map process_of processes.new)) }
     ensures loss { OnOk result (network.new.schedule.loss ≡ network.old.schedule.loss) }
 {
     let turn = u64::from(number);
@@ -178,9 +179,10 @@ fn go_further<R: Threads + Sync>(
     ops: &Ops,
 ) -> Result<bool, OutOfMemory>
     requires count { plan.now.ranks ≤ length processes.old }
+    requires came { (plan.now.in_order ≡ true) ⊎ (plan.now.turns ≤ number + 1) → HaveCome number (frames_of network.old) (map process_of processes.old) }
     ensures run { OnOk result ((script : Statements) (ranks size : ℕ) (begun : Moment) → plan.now.ranks ≤ ranks
-        → IsUnderWay (⟦<Ops as Listing>⟧.operations ops.now) script ranks size begun (Coming (schedule_of network.old.schedule)) (map process_of processes.old) (map part_of network.old.frames.items)
-        → HasTurned (⟦<Ops as Listing>⟧.operations ops.now) script ranks size begun (schedule_of network.new.schedule) (map process_of processes.new) (map part_of network.new.frames.items)) }
+        → IsUnderWay (⟦<Ops as Listing>⟧.operations ops.now) script ranks size begun (Coming number (schedule_of network.old.schedule)) (map process_of processes.old) (frames_of network.old)
+        → HasTurned (⟦<Ops as Listing>⟧.operations ops.now) script ranks size number begun (schedule_of network.new.schedule) (map process_of processes.new) (frames_of network.new)) }
     ensures loss { OnOk result (network.new.schedule.loss ≡ network.old.schedule.loss) }
     ensures ready { OnOk result (number + 1 < plan.now.turns → AreReady processes.new) }
 {
@@ -224,7 +226,7 @@ fn is_over(
     ops: &Ops,
 ) -> Result<bool, OutOfMemory>
     requires { count ≤ length processes.old }
-    ensures run { OnOk result ((script : Statements) (ranks size : ℕ) (begun : Moment) (frames : List Look) → IsUnderWay (⟦<Ops as Listing>⟧.operations ops.now) script ranks size begun Alone (map process_of processes.old) frames
+    ensures run { OnOk result ((script : Statements) (ranks size : ℕ) (begun : Moment) (frames : List FrameView) → IsUnderWay (⟦<Ops as Listing>⟧.operations ops.now) script ranks size begun Alone (map process_of processes.old) frames
         → IsUnderWay (⟦<Ops as Listing>⟧.operations ops.now) script ranks size begun Alone (map process_of processes.new) frames) }
     ensures over { IfOk result (λ over. over ≡ true → RestsBy network.now.schedule.loss count (map process_of processes.new)) }
     ensures further { IfOk result (λ over. over ≡ false → OneWaits count (map process_of processes.new)) }
@@ -248,7 +250,7 @@ fn is_at_rest(
     ops: &Ops,
 ) -> Result<bool, OutOfMemory>
     requires { count ≤ length processes.old }
-    ensures run { OnOk result ((script : Statements) (ranks size : ℕ) (begun : Moment) (frames : List Look) → IsUnderWay (⟦<Ops as Listing>⟧.operations ops.now) script ranks size begun Alone (map process_of processes.old) frames
+    ensures run { OnOk result ((script : Statements) (ranks size : ℕ) (begun : Moment) (frames : List FrameView) → IsUnderWay (⟦<Ops as Listing>⟧.operations ops.now) script ranks size begun Alone (map process_of processes.old) frames
         → IsUnderWay (⟦<Ops as Listing>⟧.operations ops.now) script ranks size begun Alone (map process_of processes.new) frames) }
     ensures rests { IfOk result (λ rests. rests ≡ true → RestsBy network.now.schedule.loss count (map process_of processes.new)) }
     ensures ready { OnOk result (AreReady processes.old → AreReady processes.new) }
@@ -278,7 +280,7 @@ fn all_lack(
     ops: &Ops,
 ) -> Result<bool, OutOfMemory>
     requires { count ≤ length processes.old }
-    ensures run { OnOk result ((script : Statements) (ranks size : ℕ) (begun : Moment) (frames : List Look) → IsUnderWay (⟦<Ops as Listing>⟧.operations ops.now) script ranks size begun Alone (map process_of processes.old) frames
+    ensures run { OnOk result ((script : Statements) (ranks size : ℕ) (begun : Moment) (frames : List FrameView) → IsUnderWay (⟦<Ops as Listing>⟧.operations ops.now) script ranks size begun Alone (map process_of processes.old) frames
         → IsUnderWay (⟦<Ops as Listing>⟧.operations ops.now) script ranks size begun Alone (map process_of processes.new) frames) }
     ensures lack { IfOk result (λ lack. lack ≡ true → AllLack count (map process_of processes.new)) }
     ensures ready { OnOk result (AreReady processes.old → AreReady processes.new) }

@@ -2,17 +2,19 @@ use Rattle.std.proofs.Common.{◌≡◌, ◌<◌, ℕ, Some, arith, map, subst, 
 use Rattle.std.specs.Prelude.{slice_get}
 use Rattle.std.specs.List.{All}
 use Rattle.mpx_sim.specs.declared.frame_under_way.FrameUnderWay.{FrameUnderWay}
-use Rattle.mpx_sim.specs.Shown.{part_of, schedule_of}
-use Rattle.mpx_sim.proofs.Running.{run_fewer}
+use Rattle.mpx_sim.specs.Shown.{part_of}
+use Rattle.mpx_sim.specs.Running.{IsAmong}
+use Rattle.mpx_sim.proofs.Running.{among_itself}
 use Rattle.mpx_sim.proofs.Sending.{all_without, stays_without}
-use Rattle.mpx_sim.specs.Turns.{Coming}
 use Rattle.mpx_sim.proofs.network.let_go.Goals as goal
 
-pub returns-clause-run : goal.returns-clause-run
-returns-clause-run c ops script ranks size begun processes run =
-    let frames = c.args.network.now.frames.items in
-    run_fewer ops script ranks size begun (Coming (schedule_of c.args.network.now.schedule)) processes (map part_of frames) run (map part_of c.remove-frame.new.self.items)
-    (λ P h. subst (λ fs. All P (map part_of fs)) (sym c.remove-frame.ensures.items) (all_without part_of P c.args.i frames h))
+pub returns-clause-parts : goal.returns-clause-parts
+returns-clause-parts c =
+    let old = map part_of c.args.network.now.frames.items in
+    subst (λ fs. All (IsAmong old) (map part_of fs)) (sym c.remove-frame.ensures.items) (all_without part_of (IsAmong old) c.args.i c.args.network.now.frames.items (among_itself old))
+
+pub returns-then-i-len-clause-parts : goal.returns-then-i-len-clause-parts
+returns-then-i-len-clause-parts c = among_itself (map part_of c.args.network.now.frames.items)
 
 pub returns-clause-kept : goal.returns-clause-kept
 returns-clause-kept c f place at later =

@@ -1,28 +1,62 @@
-use Rattle.std.proofs.Common.{◌<◌, map, arith}
+use Rattle.std.proofs.Common.{◌≡◌, ◌<◌, ◌∙◌, ◌⊎◌, Bool, false, inl, inr, length, map, true, refl, sym, ap, subst, arith}
+use Rattle.std.specs.Prelude.{slice_get, ◌||◌}
+use Rattle.std.proofs.lemmas.List.{length-map}
+use Rattle.std.proofs.lemmas.List.Sorted.{IsPermutation-sym}
 use Rattle.std.proofs.lemmas.Map.Views.{All-map-IsPermutation}
-use Rattle.mpx_sim.specs.Shown.{moment_of, part_of, process_of, schedule_of}
-use Rattle.mpx_sim.specs.Turns.{Coming, Going}
+use Rattle.mpx_sim.specs.Shown.{frame_of, frames_of, moment_of, process_of, schedule_of}
+use Rattle.mpx_sim.specs.SideBySide.{to_send}
+use Rattle.mpx_sim.specs.Turns.{Coming, IsListOf, joined}
+use Rattle.mpx_sim.specs.Draws.{ScheduleView}
+use Rattle.mpx_sim.specs.Running.{HaveCome, IsUnderWay}
 use Rattle.mpx_sim.proofs.Results.{left_at}
-use Rattle.mpx_sim.proofs.Running.{run_comes, run_draws, run_fewer, run_goes}
-use Rattle.mpx_sim.proofs.SideBySide.{all_have, run_made}
+use Rattle.mpx_sim.proofs.Running.{run_draws, run_mixed, run_same, run_says, run_scheduled}
+use Rattle.mpx_sim.proofs.Sending.{run_out, same_loss}
+use Rattle.mpx_sim.proofs.SideBySide.{all_lists, run_made}
 use Rattle.mpx_sim.proofs.Tried.{on_each_ok}
 use Rattle.mpx_sim.proofs.turns.exchange.Goals as goal
-
-pub send_all-requires : goal.send_all-requires
-send_all-requires g c = all_have c.from-turn.result c.args.processes.now c.say_all.new.processes c.in_ok-say_all.ensures
 
 pub returns-clause-run : goal.returns-clause-run
 returns-clause-run g c =
     on_each_ok c.deliver.result (λ delivers ops script ranks size from few one run.
-    let begun = moment_of from c.args.network.now.schedule in
-    let before = map part_of c.args.network.now.frames.items in
+    let turn = c.from-turn.result in
+    let begun = moment_of from c.args.network.now in
+    let before = frames_of c.args.network.now in
     let old = map process_of c.args.processes.now in
+    let qs = c.say_all.new.processes in
+    let said = map process_of qs in
+    let count = length c.args.processes.now in
+    let many : count ≡ size = sym (length-map c.args.processes.now process_of) ∙ run.count in
     let among : one.place < ranks = omega (arith, one.among, few) in
-    let going = run_goes ops script ranks size begun old before run (left_at ops script ranks size begun old before run one.place among one.waits) in
-    let made = run_made c.from-turn.result c.args.processes.now c.say_all.new.processes c.in_ok-say_all.ensures ops script ranks size begun (schedule_of c.args.network.now.schedule) before going in
-    let out = map process_of c.send_all.new.processes in
-    let frames = c.send_all.new.network.frames.items in
-    let sent = run_comes ops script ranks size begun (schedule_of c.send_all.new.network.schedule) out (map part_of frames) (c.in_ok-send_all.ensures.run ops script ranks size begun made) in
-    let mixed = run_fewer ops script ranks size begun (Coming (schedule_of c.send_all.new.network.schedule)) out (map part_of frames) sent (map part_of c.mix.new.self.frames.items) (λ P. All-map-IsPermutation part_of P frames c.mix.new.self.frames.items c.mix.ensures.frames) in
-    delivers ops script ranks size begun (run_draws ops script ranks size begun (schedule_of c.send_all.new.network.schedule) (schedule_of c.mix.new.self.schedule) out (map part_of c.mix.new.self.frames.items) mixed (c.mix.ensures.loss, c.mix.ensures.words)))
-    c.deliver.ensures
+    let saying = run_says ops script ranks size begun old before run (left_at ops script ranks size begun old before run one.place among one.waits) in
+    let made = run_made count turn c.args.processes.now qs c.in_ok-say_all.ensures ops script ranks size begun before saying in
+    let lists = map to_send qs in
+    let out = run_out ops script ranks size begun turn said before made lists (length-map qs to_send ∙ sym (length-map qs process_of)) (λ p list e v at. subst (λ n. IsListOf n turn v.rank.me v.node list) many (all_lists count turn c.args.processes.now qs c.in_ok-say_all.ensures p list e v at)) in
+    let mid = c.send_all.new.network in
+    let sent = run_scheduled ops script ranks size begun turn _ (schedule_of mid.schedule) _ _ _ _ (sym c.in_ok-send_all.ensures.schedule) (sym c.in_ok-send_all.ensures.same) (sym c.in_ok-send_all.ensures.frames) out in
+    let all = map process_of c.send_all.new.processes in
+    let mixed = run_mixed ops script ranks size begun turn (schedule_of mid.schedule) all (frames_of mid) sent (frames_of c.mix.new.self) (λ P. All-map-IsPermutation frame_of P mid.frames.items c.mix.new.self.frames.items c.mix.ensures.frames)
+    (λ P. All-map-IsPermutation frame_of P c.mix.new.self.frames.items mid.frames.items (IsPermutation-sym mid.frames.items c.mix.new.self.frames.items c.mix.ensures.frames)) in
+    subst (λ n. IsUnderWay ops script ranks size begun (Coming n (schedule_of c.mix.new.self.schedule)) (map process_of c.deliver.new.processes) (frames_of c.mix.new.self)) c.from-turn.ensures
+    (delivers ops script ranks size begun _ (run_draws ops script ranks size begun turn (schedule_of mid.schedule) all (frames_of c.mix.new.self) mixed (schedule_of c.mix.new.self.schedule) (c.mix.ensures.loss, c.mix.ensures.words))))
+    c.deliver.ensures.run
+
+is_true : (b : Bool) → (b ≡ false → ⊥) → b ≡ true
+is_true true not = refl
+is_true false not = absurd (not refl)
+
+or_true : (a b : Bool) → (a ≡ true) ⊎ (b ≡ true) → (a || b) ≡ true
+or_true true b h = refl
+or_true false b (inl a) = cc a
+or_true false b (inr is) = is
+
+pub returns-clause-came : goal.returns-clause-came
+returns-clause-came g c =
+    on_each_ok c.deliver.result (λ came last.
+    subst (λ n. HaveCome n (frames_of c.mix.new.self) (map process_of c.deliver.new.processes)) c.from-turn.ensures
+    (came (or_true c.args.plan.now.in_order c.is_last.result (elim last [ inl order ↦ inl order | inr no_more ↦ inr (is_true c.is_last.result (λ not. omega (arith, no_more, c.is_last.ensures.further not))) ]))))
+    c.deliver.ensures.came
+
+pub returns-clause-loss : goal.returns-clause-loss
+returns-clause-loss g c =
+    let lists = joined (map to_send c.say_all.new.processes) in
+    on_each_ok c.deliver.result (λ came. c.mix.ensures.loss ∙ ap (λ (s : ScheduleView). s.loss) c.in_ok-send_all.ensures.schedule ∙ same_loss lists (schedule_of c.args.network.now.schedule)) c.deliver.ensures.came

@@ -2,11 +2,12 @@ use Rattle.std.proofs.Common.{◌≡◌, ◌+◌, ◌≤◌, [], List, map, leng
 use Rattle.std.proofs.lemmas.List.{length-map}
 use Rattle.mpx_sim.specs.declared.process.Process.{Process}
 use Rattle.mpx_sim.specs.Ends.{OneWaits, RestsBy}
-use Rattle.mpx_sim.specs.Shown.{moment_of, part_of, process_of, schedule_of}
+use Rattle.mpx_sim.specs.Shown.{frame_of, frames_of, moment_of, process_of, schedule_of}
 use Rattle.mpx_sim.specs.SideBySide.{AreReady}
 use Rattle.mpx_system.specs.Systems.{start_system}
-use Rattle.mpx_sim.specs.Turns.{Alone, Coming}
-use Rattle.mpx_sim.proofs.Running.{run_same}
+use Rattle.mpx_sim.specs.Turns.{Alone, Coming, Moment}
+use Rattle.mpx_sim.specs.Running.{HaveCome}
+use Rattle.mpx_sim.proofs.Running.{run_framed, run_same}
 use Rattle.mpx_sim.proofs.Phases.{turns_more}
 use Rattle.mpx_sim.proofs.Sending.{written_back}
 use Rattle.mpx_sim.proofs.turns.simulate.Goals as goal
@@ -25,25 +26,27 @@ loop-number-init g c =
     let size = script.ranks + c.args.options.now.relays in
     let xs = c.in_ok-processes.processes.items in
     let start = start_system _ script.statements script.ranks size in
-    let schedule = c.in_ok-network.network.schedule in
+    let network = c.in_ok-network.network in
     let few : c.from.result ≤ script.ranks = omega (arith, c.ranks.ensures.ranks, c.from.ensures) in
-    let before = run_same _ script.statements script.ranks size (moment_of start schedule) Alone (map process_of xs) (map process_of c.deref_mut.result.now) _ _ (ap (map process_of) (sym c.deref_mut.ensures.value)) (ap (map part_of) (sym c.in_ok-network.ensures.frames)) (c.in_ok-processes.ensures _ (schedule_of schedule)) in
-    let gone = c.in_ok-changed.ensures.run script.statements script.ranks size (moment_of start schedule) (map part_of c.in_ok-network.network.frames.items) few before in
+    let none : [] ≡ frames_of network = ap (map frame_of) (sym c.in_ok-network.ensures.frames) in
+    let started = run_framed _ script.statements script.ranks size start (schedule_of network.schedule) (map process_of xs) [] (frames_of network) none (c.in_ok-processes.ensures _ (schedule_of network.schedule)) in
+    let before = run_same _ script.statements script.ranks size (moment_of start network) Alone (map process_of xs) (map process_of c.deref_mut.result.now) _ _ (ap (map process_of) (sym c.deref_mut.ensures.value)) refl started in
+    let gone = c.in_ok-changed.ensures.run script.statements script.ranks size (moment_of start network) (frames_of network) few before in
     let lent : length c.deref_mut.result.now ≡ length xs = ap length c.deref_mut.ensures.value in
     let kept = c.first.auto.processes ∙ lent in
     let same = written_back c.in_ok-processes.processes.len xs c.first.new.processes kept (sym lent ∙ c.deref_mut.ensures.len) in
-    let run = run_same _ script.statements script.ranks size (moment_of start schedule) Alone _ _ _ _ (ap (map process_of) (sym same)) refl gone in
-    let first = c.in_ok-processes.ensures [] (schedule_of schedule) in
+    let run = run_same _ script.statements script.ranks size (moment_of start network) Alone _ _ _ _ (ap (map process_of) (sym same)) refl gone in
+    let first = c.in_ok-processes.ensures [] (schedule_of network.schedule) in
     let many : length xs ≡ size = sym (length-map xs process_of) ∙ first.count in
-    record { count = omega (arith, ap length same, kept, many); loss = c.in_ok-network.ensures.loss; ready = λ less. subst AreReady (sym same) (c.in_ok-changed.ensures.ready less); run = (schedule_of schedule, start, (c.in_ok-network.ensures.loss, c.in_ok-network.ensures.seed), refl, run) }
+    record { count = omega (arith, ap length same, kept, many); loss = c.in_ok-network.ensures.loss; ready = λ less. subst AreReady (sym same) (c.in_ok-changed.ensures.ready less); run = (schedule_of network.schedule, start, (c.in_ok-network.ensures.loss, c.in_ok-network.ensures.seed), (λ i. let m : Moment = record { system = start; frames = none i; schedule = schedule_of network.schedule } in m), run) }
 
 pub returns-then-over-clause-run : goal.returns-then-over-clause-run
 returns-then-over-clause-run g c =
     let script = c.args.script.now in
     let size = script.ranks + c.args.options.now.relays in
-    let frames = map part_of c.loop-number.network.frames.items in
+    let frames = frames_of c.loop-number.network in
     let before = c.loop-number.invariant.run in
-    let begun = moment_of before.1 c.loop-number.network.schedule in
+    let begun = moment_of before.1 c.loop-number.network in
     let lent = c.deref_mut-in-loop-number.ensures in
     let ran = c.in_ok-over.ensures.run script.statements script.ranks size begun frames (run_same _ script.statements script.ranks size begun Alone _ _ _ _ (ap (map process_of) (sym lent.value)) refl before.4) in
     let same = written_back c.loop-number.processes.len c.loop-number.processes.items c.is_over.new.processes (c.is_over.auto.processes ∙ ap length lent.value) (sym (ap length lent.value) ∙ lent.len) in
@@ -67,9 +70,9 @@ loop-number-preserved g c =
     let size = script.ranks + c.args.options.now.relays in
     let len = c.loop-number.processes.len in
     let few : c.from.result ≤ script.ranks = omega (arith, c.ranks.ensures.ranks, c.from.ensures) in
-    let frames = map part_of c.loop-number.network.frames.items in
+    let frames = frames_of c.loop-number.network in
     let before = c.loop-number.invariant.run in
-    let begun = moment_of before.1 c.loop-number.network.schedule in
+    let begun = moment_of before.1 c.loop-number.network in
     let lent = c.deref_mut-in-loop-number.ensures in
     let alone = c.in_ok-over.ensures.run script.statements script.ranks size begun frames (run_same _ script.statements script.ranks size begun Alone _ _ _ _ (ap (map process_of) (sym lent.value)) refl before.4) in
     let same = written_back len c.loop-number.processes.items c.is_over.new.processes (c.is_over.auto.processes ∙ ap length lent.value) (sym (ap length lent.value) ∙ lent.len) in
@@ -79,17 +82,17 @@ loop-number-preserved g c =
     let came = c.in_ok-exchange.ensures.run _ script.statements script.ranks size before.1 few one (run_same _ script.statements script.ranks size begun Alone _ _ _ _ there refl alone) in
     let same-2 = written_back len _ c.exchange.new.processes (c.exchange.auto.processes ∙ ap length lent-2.value) (sym (ap length lent-2.value) ∙ lent-2.len) in
     let lent-3 = c.deref_mut-in-loop-number-3.ensures in
-    let come = run_same _ script.statements script.ranks size begun (Coming (schedule_of c.exchange.new.network.schedule)) _ _ _ _ (ap (map process_of) (sym same-2 ∙ sym lent-3.value)) refl came in
+    let come = run_same _ script.statements script.ranks size begun (Coming c.loop-number.number (schedule_of c.exchange.new.network.schedule)) _ _ _ _ (ap (map process_of) (sym same-2 ∙ sym lent-3.value)) refl came in
     let turned = c.in_ok-changed-2.ensures.run script.statements script.ranks size begun few come in
     let same-3 = written_back len _ c.go_further.new.processes (c.go_further.auto.processes ∙ ap length lent-3.value) (sym (ap length lent-3.value) ∙ lent-3.len) in
-    let next = moment_of turned.next c.go_further.new.network.schedule in
+    let next = moment_of turned.next c.go_further.new.network in
     let run = run_same _ script.statements script.ranks size next Alone _ _ _ _ (ap (map process_of) (sym same-3)) refl turned.run in
     let many = sym (length-map _ process_of) ∙ run.count in
     record {
       count = omega (arith, many);
       loss = c.in_ok-changed-2.ensures.loss ∙ c.in_ok-exchange.ensures.loss ∙ c.loop-number.invariant.loss;
       ready = λ less. subst AreReady (sym same-3) (c.in_ok-changed-2.ensures.ready (omega (arith, less)));
-      run = (before.0, turned.next, before.2, turns_more c.loop-number.number script.ranks _ begun next before.3 turned.turn, run);
+      run = (before.0, turned.next, before.2, turns_more c.loop-number.number script.ranks size _ begun next before.3 turned.turn_is, run);
     }
 
 pub exchange-requires : goal.exchange-requires
@@ -98,3 +101,11 @@ exchange-requires g c =
     let before = c.in_ok-over.ensures.ready (subst AreReady (sym lent.value) (c.loop-number.invariant.ready (omega (arith, c.loop-number-test.true)))) in
     let same = written_back c.loop-number.processes.len c.loop-number.processes.items c.is_over.new.processes (c.is_over.auto.processes ∙ ap length lent.value) (sym (ap length lent.value) ∙ lent.len) in
     subst AreReady (sym same ∙ sym c.deref_mut-in-loop-number-2.ensures.value) before
+
+pub go_further-requires-clause-came : goal.go_further-requires-clause-came
+go_further-requires-clause-came g c κs within last =
+    let len = c.loop-number.processes.len in
+    let lent-2 = c.deref_mut-in-loop-number-2.ensures in
+    let lent-3 = c.deref_mut-in-loop-number-3.ensures in
+    let same-2 = written_back len _ c.exchange.new.processes (c.exchange.auto.processes ∙ ap length lent-2.value) (sym (ap length lent-2.value) ∙ lent-2.len) in
+    subst (HaveCome c.loop-number.number (frames_of c.exchange.new.network)) (ap (map process_of) (sym same-2 ∙ sym lent-3.value)) (c.in_ok-exchange.ensures.came last)

@@ -1,3 +1,8 @@
+use Rattle.std.proofs.Common.{Option, sym, subst}
+use Rattle.std.specs.Prelude.{IfSome}
+use Rattle.mpx_delta.specs.declared.framed.NewFrames.{NewFrames}
+use Rattle.mpx_node.specs.Deltas.{AreLacked, LackFrames, SaysWhatItHas}
+use Rattle.mpx_node.specs.Nodes.{NodeView}
 use Rattle.mpx_node.specs.Shown.{node_of}
 use Rattle.mpx_rank.specs.Shown.{rank_of}
 use Rattle.mpx_world.proofs.Covering.{digest_had}
@@ -5,14 +10,32 @@ use Rattle.mpx_sim.specs.Shown.{call_of}
 use Rattle.mpx_sim.proofs.Running.{keeps_node_acknowledge}
 use Rattle.mpx_sim.proofs.process.Process.make_list.Goals as goal
 
+abbrev AreAhead : NodeView → Option NewFrames → Type 0
+AreAhead node o = IfSome o (λ (made : NewFrames). LackFrames 1048576 node made.said made.frames.items)
+
 pub returns-clause-keeps : goal.returns-clause-keeps
-returns-clause-keeps c t ops =
-    let old = node_of c.args.self.now.carrier.desk.host in
+returns-clause-keeps c ops =
+    let old = node_of c.args.self.now.carrier.node in
     let says = c.in_ok-made.ensures.own in
-    keeps_node_acknowledge t ops says.numbers old (node_of c.framed_deltas.new.self.host) (digest_had says.numbers old.board says.digest) says.learnt (rank_of call_of c.args.self.now.rank)
+    keeps_node_acknowledge ops says.numbers old (node_of c.framed_deltas.new.self) (digest_had says.numbers old.board says.digest) says.learnt (rank_of call_of c.args.self.now.rank)
+
+pub acknowledge-requires : goal.acknowledge-requires
+acknowledge-requires c =
+    let made : LackFrames 1048576 (node_of c.args.self.now.carrier.node) c.in-Some.made.said c.in-Some.made.frames.items = subst (AreAhead (node_of c.args.self.now.carrier.node)) c.in-Some.is c.requires in
+    let lacks = made.lacks in
+    record { made = (lacks.after, lacks.stores) }
 
 pub returns-in-Some-clause-keeps : goal.returns-in-Some-clause-keeps
-returns-in-Some-clause-keeps c t ops =
-    let old = node_of c.args.self.now.carrier.desk.host in
-    let says = c.say-frames.ensures.own in
-    keeps_node_acknowledge t ops says.numbers old (node_of c.say-frames.new.self.host) (digest_had says.numbers old.board says.digest) says.learnt (rank_of call_of c.args.self.now.rank)
+returns-in-Some-clause-keeps c ops =
+    let old = node_of c.args.self.now.carrier.node in
+    let made : LackFrames 1048576 old c.in-Some.made.said c.in-Some.made.frames.items = subst (AreAhead old) c.in-Some.is c.requires in
+    let lacks = made.lacks in
+    let says = subst (SaysWhatItHas old) (sym (c.acknowledge.ensures.gives lacks.after lacks.stores)) lacks.own in
+    keeps_node_acknowledge ops says.numbers old (node_of c.acknowledge.new.self) (digest_had says.numbers old.board says.digest) says.learnt (rank_of call_of c.args.self.now.rank)
+
+pub returns-in-Some-clause-frames : goal.returns-in-Some-clause-frames
+returns-in-Some-clause-frames c =
+    let made : LackFrames 1048576 (node_of c.args.self.now.carrier.node) c.in-Some.made.said c.in-Some.made.frames.items = subst (AreAhead (node_of c.args.self.now.carrier.node)) c.in-Some.is c.requires in
+    let lacks = made.lacks in
+    subst (λ n. AreLacked 1048576 n c.in-Some.made.frames.items) (sym (c.acknowledge.ensures.gives lacks.after lacks.stores))
+    (record { parts = made.parts; facts = lacks.facts; fit = lacks.fit; join = lacks.join; few = lacks.few; spelled = made.spelled })

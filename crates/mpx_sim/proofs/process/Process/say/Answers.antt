@@ -1,18 +1,22 @@
-use Rattle.std.proofs.Common.{◌≡◌, ◌∙◌, false, true, refl, sym, subst}
-use Rattle.std.specs.List.{All}
-use Rattle.std.proofs.lemmas.List.Elements.{All-nil}
-use Rattle.mpx_delta.specs.Facts.{OnlyFactsOf}
-use Rattle.mpx_sim.specs.declared.frame_under_way.FrameUnderWay.{FrameUnderWay}
-use Rattle.mpx_sim.specs.Shown.{part_of, process_of}
-use Rattle.mpx_sim.specs.Turns.{Going}
-use Rattle.mpx_sim.proofs.Running.{keeps_node_itself}
+use Rattle.std.proofs.Common.{◌≡◌, ◌∙◌, [], false, map, true, ap, refl, sym, subst}
+use Rattle.mpx_sim.specs.Shown.{frame_of, process_of}
+use Rattle.mpx_sim.specs.Turns.{IsListOf, Saying, no_list}
+use Rattle.mpx_sim.specs.Keeping.{keeps_node_itself}
 use Rattle.mpx_sim.proofs.process.Process.say.Goals as goal
 
 pub returns-then-not-has_sent : goal.returns-then-not-has_sent
 returns-then-not-has_sent c =
     let v = process_of c.args.self.now in
     record {
-      says = λ t ops. keeps_node_itself (Going t) ops v.node v.node refl v.rank;
-      facts = subst (All (λ (f : FrameUnderWay). OnlyFactsOf (part_of f) v.node.board)) (sym c.new.ensures.items) (All-nil (λ (f : FrameUnderWay). OnlyFactsOf (part_of f) v.node.board));
+      says = λ ops. keeps_node_itself Saying ops v.node v.node refl v.rank;
+      list = subst (IsListOf c.args.processes c.args.turn v.rank.me v.node) (sym (ap (map frame_of) c.new.ensures.items)) no_list;
       whole = λ less. let out : true ≡ false = sym (c.has_sent.ensures.1 less) ∙ c.if-not-has_sent.true in cc out;
+    }
+
+pub returns : goal.returns
+returns c =
+    record {
+      says = c.in_ok-made.ensures.keeps;
+      list = c.in_ok-made.ensures.list c.args.processes c.receiver-to.ensures.below;
+      whole = λ less. c.in_ok-made.ensures.join;
     }
