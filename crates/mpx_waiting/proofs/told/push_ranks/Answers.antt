@@ -16,7 +16,7 @@ loop-waiting-preserved c =
     let most : ℕ = c.loop-waiting.most in
     let had = c.loop-waiting.told.items in
     let rest = map waiting_view (drop (i + 1) found) in
-    let left : c.saturating_sub-most.result ≡ most - length w.calls.items = c.saturating_sub-most.ensures ∙ ap (λ (n : ℕ). most - n) c.len.ensures in
+    let left : c.saturating_sub-most.result ≡ most - length w.calls.items = c.saturating_sub-most.ensures ∙ ap (λ (n : ℕ). most - n) (c.len.ensures ∙ w.calls.ok.0) in
     ap (λ xs. xs ++ ranks_text text statements places c.saturating_sub-most.result rest) c.in_ok-push_rank.ensures
     ∙ ap (λ (n : ℕ). (had ++ rank_text text statements places most (waiting_view w)) ++ ranks_text text statements places n rest) left
     ∙ append_assoc had (rank_text text statements places most (waiting_view w)) (ranks_text text statements places (most - length w.calls.items) rest)
