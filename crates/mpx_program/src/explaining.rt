@@ -6,17 +6,20 @@ use crate::prepared::Prepared;
 use join_core::OutOfMemory;
 use mpx_explain::{explain_calls, explain_refusals, explain_results};
 use mpx_num::Ops;
+use mpx_run::{End, Left, RunError};
 use mpx_waiting::push_waiting;
 use mpx_words::Invocation;
 use std::alloc::Global;
 
 /// Further lines, where `--explain` is asked for: for whose posts ranks wait, calls that are refused or are faults, and results that are past
-/// their types. `_transcripts` are the lines that each rank has at the job's end, where it came to one. Where memory is wanting, fewer lines.
+/// their types. All is of the script's evaluation; a run is known by its answer, and by what is left of it where it
+/// came to an end. Where memory is wanting, fewer lines.
 pub(crate) fn explained(
     alloc: Global,
     call: &Invocation,
     prepared: &Prepared,
-    _transcripts: &[Vec<String>],
+    _answer: &Result<End, RunError>,
+    _left: Option<&Left>,
 ) -> Vec<u8>
     ensures { call.now.flags.explain ≡ false → result.items ≡ [] }
 {

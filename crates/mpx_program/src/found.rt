@@ -78,11 +78,7 @@ fn found_in(
 }
 
 // It complains where some line of the evaluation says that a call was refused or is a fault, or one of a request is a fault that no line tells.
-fn found_in_evaluation(
-    alloc: Global,
-    script: &Script,
-    ops: &Ops,
-) -> Result<Examined, OutOfMemory>
+fn found_in_evaluation(alloc: Global, script: &Script, ops: &Ops) -> Result<Examined, OutOfMemory>
     ensures { IfOk result (λ examined. ComplainsIn (⟦<Ops as Listing>⟧.operations ops.now) script.now examined.complains) }
 {
     let found = examine(alloc, script, ops)?;
@@ -94,11 +90,7 @@ fn found_in_evaluation(
 }
 
 // It complains where some call on `world` is refused for certain.
-fn found_for_certain(
-    alloc: Global,
-    script: &Script,
-    ops: &Ops,
-) -> Result<Examined, OutOfMemory>
+fn found_for_certain(alloc: Global, script: &Script, ops: &Ops) -> Result<Examined, OutOfMemory>
     ensures { IfOk result (λ examined. Complains (⟦<Ops as Listing>⟧.operations ops.now) Command.Check script.now examined.complains) }
 {
     let found = certain_refusals(alloc, script, ops)?;

@@ -144,8 +144,7 @@ fn do_call_in_threads<T: Threads + Wait + Sync, R: Read, W: Write, E: Write>(
     match prepared(alloc, call, reader, ops) {
         Ok(prepared) => {
             let (job, script) = (&call.job, &prepared.script);
-            let printed =
-                print_job_in_threads(rt, alloc, job, script, observer, &OpenGate, ops);
+            let printed = print_job_in_threads(rt, alloc, job, script, observer, &OpenGate, ops);
             answer(alloc, call, &prepared, printed, out, err, ops)
         }
         Err(failed) => exit_of(
@@ -176,13 +175,15 @@ fn answer<W: Write, E: Write>(
 {
     match printed {
         Ok(printed) => {
-            let answer = write_printed(printed.text.as_bytes(), printed.end, out);
-            let more = explained(alloc, call, prepared, printed.transcripts.as_slice());
+            let Printed { text, end, left } = printed;
+            let answer = write_printed(text.as_bytes(), end, out);
+            let more = explained(alloc, call, prepared, &answer, Some(&left));
             exit_of(&answer, prepared.complains, call.flags.explain, &more, err)
         }
         Err(error) => {
-            let more = explained(alloc, call, prepared, &[]);
-            exit_of(&Err(error), prepared.complains, call.flags.explain, &more, err)
+            let answer = Err(error);
+            let more = explained(alloc, call, prepared, &answer, None);
+            exit_of(&answer, prepared.complains, call.flags.explain, &more, err)
         }
     }
 }

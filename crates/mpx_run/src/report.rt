@@ -9,8 +9,10 @@ ghost use Rattle.mpx_run.specs.Reports.{EndsSo, IsBy, IsEvaluatedText, lines_at}
 use crate::end::{Cause, End};
 use crate::follows::Follows;
 use join_core::OutOfMemory;
+use mpx_bus::Port;
 use mpx_eval::eval;
 use mpx_meaning::Report;
+use mpx_node::Node;
 use mpx_num::{Listing, Ops, push_number};
 use mpx_script::Script;
 use mpx_sim::{Observer, run_sim_observed};
@@ -26,8 +28,29 @@ pub struct Printed {
     /// What is to be written.
     pub text: String,
     pub end: End,
-    /// The lines of each rank, of which the text is made; none of a script that is read alone. No clause says it.
+    pub left: Left,
+}
+
+/// What is left of a job that has ended: to explain it by. No clause says what it is.
+#[derive(Drop)]
+pub struct Left {
+    /// The lines of each rank, of which the text is made; none of a script that is read alone.
     pub transcripts: Vec<Vec<String>>,
+    /// Of a simulated run the node of each process, by its number.
+    pub nodes: Vec<Node>,
+    /// Of a run in threads the port of each process.
+    pub ports: Vec<Port>,
+}
+
+impl Left {
+    /// Of a script that is read alone.
+    pub(crate) fn nothing(alloc: Global) -> Left {
+        Left {
+            transcripts: Vec::new(alloc),
+            nodes: Vec::new(alloc),
+            ports: Vec::new(alloc),
+        }
+    }
 }
 
 /// The lines of all ranks of a simulated run, each as `RANK: LINE`, rank by rank, and who waits, and why.
@@ -45,7 +68,8 @@ pub(crate) fn print<T: Threads + Sync>(
 {
     let run = run_sim_observed(rt, alloc, script, options, observer, ops)?;
     let cause = cause_of(run.turns, options);
-    print_report(alloc, run.report, script.ranks(), cause)
+    let ports = Vec::new(alloc);
+    print_report(alloc, run.report, run.nodes, ports, script.ranks(), cause)
 }
 
 // Why ranks wait where so many turns of a simulated run were made.
@@ -80,7 +104,8 @@ pub(crate) fn print_threads<T: Threads + Wait + Sync, G: Gate + Sync>(
     let follows = Follows { observer, looks };
     let run = run_threads(rt, alloc, script, options, gate, follows, ops)?;
     let cause = cause_in_threads(run.rests);
-    match print_report(alloc, run.report, script.ranks(), cause) {
+    let nodes = Vec::new(alloc);
+    match print_report(alloc, run.report, nodes, run.ports, script.ranks(), cause) {
         Ok(printed) => Ok(printed),
         Err(_) => Err(ThreadsError::OutOfMemory),
     }
@@ -106,13 +131,18 @@ pub(crate) fn print_evaluation(
     ensures { IfOk result (λ printed. IsEvaluatedText (⟦<Ops as Listing>⟧.operations ops.now) script.now printed.end (string_bytes printed.text)) }
 {
     let report = eval(alloc, script, ops)?;
-    print_report(alloc, report, script.ranks(), Cause::InEveryRun)
+    let nodes = Vec::new(alloc);
+    let ports = Vec::new(alloc);
+    let cause = Cause::InEveryRun;
+    print_report(alloc, report, nodes, ports, script.ranks(), cause)
 }
 
 // The lines of all ranks, and who waits for this cause.
 fn print_report(
     alloc: Global,
     report: Report,
+    nodes: Vec<Node>,
+    ports: Vec<Port>,
     ranks: u8,
     cause: Cause,
 ) -> Result<Printed, OutOfMemory>
@@ -126,7 +156,11 @@ fn print_report(
     Ok(Printed {
         text,
         end,
-        transcripts: report.transcripts,
+        left: Left {
+            transcripts: report.transcripts,
+            nodes,
+            ports,
+        },
     })
 }
 
