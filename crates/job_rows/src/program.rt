@@ -36,7 +36,16 @@ pub fn refused<T: Threads + Wait + Sync>(
     let words = Err(why);
     let mut reader = b"".as_slice();
     let mut out = Vec::new(alloc);
-    let code = exit_code(rt, alloc, &clock, &words, &mut reader, &mut out, said, shown);
+    let code = exit_code(
+        rt,
+        alloc,
+        &clock,
+        &words,
+        &mut reader,
+        &mut out,
+        said,
+        shown,
+    );
     drop(out);
     drop(words);
     number_of(code)

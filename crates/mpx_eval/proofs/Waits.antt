@@ -188,15 +188,21 @@ closed-push : (olds : List (List ℕ)) (old : List ℕ) (f : List ℕ → Option
 closed-push [] old f = refl
 closed-push (x ∷ olds) old f = closed-push olds old (closed x f)
 
--- a word that was closed before, or none of these
-pub closed_any : (olds : List (List ℕ)) (f : List ℕ → Option (Name × ℕ)) (word : List ℕ) → cond (list_any (λ old. is_eq (slice_cmp nat_cmp old word)) olds) None (f word) ≡ closed_all olds f word
-closed_any [] f word = refl
-closed_any (old ∷ olds) f word = by_tests (is_eq (slice_cmp nat_cmp old word)) (list_any (λ x. is_eq (slice_cmp nat_cmp x word)) olds) ∙ ap (λ o. cond (list_any (λ x. is_eq (slice_cmp nat_cmp x word)) olds) None o) (closed_word f old word) ∙ closed_any olds (closed old f) word where
-  by_tests : (t u : Bool) → cond (t || u) None (f word) ≡ cond u None (cond t None (f word))
-  by_tests true true = refl
-  by_tests true false = refl
-  by_tests false true = refl
-  by_tests false false = refl
+-- one word more is closed
+one_fewer : (f : List ℕ → Option (Name × ℕ)) (words : List (List ℕ)) (i : ℕ) (w : List ℕ) → i < length words → w ≡ get_or words i w → closed_all (take (i + 1) words) f ≡ closed w (closed_all (take i words) f)
+one_fewer f words i w l is = ap (λ xs. closed_all xs f) (take_more words i w l) ∙ ap (λ x. closed_all (take i words ++ x ∷ []) f) (sym is) ∙ closed-push (take i words) w f
+
+-- a word more is seen: open are the requests of the others
+pub seen_more : (f : List ℕ → Option (Name × ℕ)) (words : List (List ℕ)) (i : ℕ) (w : List ℕ) → i < length words → w ≡ get_or words i w → (seen now : List ℕ → Option Bool) (v : List ℕ)
+    → closed_all (take i words) f v ≡ cond (is_some (seen v)) None (f v) → now v ≡ cond (is_eq (slice_cmp nat_cmp w v)) (Some true) (seen v)
+    → closed_all (take (i + 1) words) f v ≡ cond (is_some (now v)) None (f v)
+seen_more f words i w l is seen now v e n =
+    let g = closed_all (take i words) f in
+    (λ j. one_fewer f words i w l is j v) ∙ sym (closed_word g w v) ∙ ap (λ o. cond (is_eq (slice_cmp nat_cmp w v)) None o) e
+    ∙ by_test (is_eq (slice_cmp nat_cmp w v)) ∙ ap (λ o. cond (is_some o) None (f v)) (sym n) where
+      by_test : (t : Bool) → cond t None (cond (is_some (seen v)) None (f v)) ≡ cond (is_some (cond t (Some true) (seen v))) None (f v)
+      by_test true = refl
+      by_test false = refl
 
 -- one request more
 pub requested_more : (t : Table) (me : ℕ) (f : List ℕ → Option (Name × ℕ)) (words : List (List ℕ)) (i : ℕ) (w : List ℕ) → i < length words → w ≡ get_or words i w → (had new : List MissingCallView)
@@ -207,7 +213,7 @@ requested_more t me f words i w l is had new e =
     let k : suc i ≡ i + 1 = omega arith in
     let rest = asked_by (closed w g) (drop (i + 1) words) in
     let cut : drop i words ≡ w ∷ drop (i + 1) words = drop-cons words i w l ∙ (λ j. sym is j ∷ drop (k j) words) in
-    let fewer : closed_all (take (i + 1) words) f ≡ closed w g = ap (λ xs. closed_all xs f) (take_more words i w l) ∙ ap (λ x. closed_all (take i words ++ x ∷ []) f) (sym is) ∙ closed-push (take i words) w f in
+    let fewer = one_fewer f words i w l is in
     (λ j. e j ++ found_calls t me (asked_by (fewer j) (drop (i + 1) words)))
     ∙ append_assoc had (found_calls t me (asked_then w (g w) [])) (found_calls t me rest)
     ∙ ap (λ xs. had ++ xs) (sym (found-append t me (asked_then w (g w) []) rest) ∙ ap (found_calls t me) (sym (then_parts w (g w) rest)))

@@ -1,9 +1,11 @@
 //! Calls whose answers are missing, and the members of their contexts that have not posted to them.
-ghost use Rattle.std.specs.Prelude.{◌≡◌, ◌++◌, ◌∷◌, [], IfOk, List, Option, ℕ, OnOk, map};
+ghost use Rattle.std.specs.Prelude.{◌≡◌, ◌++◌, ◌∷◌, [], IfOk, List, None, Option, Some, ℕ, OnOk, cond, is_some, map, true};
+ghost use Rattle.std.specs.Cmp.Lexicographic.{slice_cmp};
+ghost use Rattle.std.specs.Ordering.{is_eq, nat_cmp};
 ghost use Rattle.std.specs.Option.{option_copied};
 ghost use Rattle.mpx_name.specs.Name.{Name as NameView};
 ghost use Rattle.mpx_meaning.specs.Ranks.{doing};
-ghost use Rattle.mpx_meaning.specs.Standing.{closed_all, looked_up};
+ghost use Rattle.mpx_meaning.specs.Standing.{looked_up};
 ghost use Rattle.mpx_eval.specs.Carrying.{shown};
 ghost use Rattle.mpx_eval.specs.Tables.{table_of};
 ghost use Rattle.mpx_eval.specs.Waiting.{asked_by, asked_of, asked_then};
@@ -100,11 +102,21 @@ fn push_requested(
     ensures { OnOk result (map missing_view calls.new.items ≡ map missing_view calls.old.items
         ++ found_calls (table_of table.now) me (asked_by (looked_up requests.now) words.now)) }
 {
+    let mut seen: BTreeMap<Word, bool> = BTreeMap::new(alloc);
     for i in 0..words.len() {
         let word = &words[i];
-        let place = open_request(requests, &words[..i], word);
+        let place = open_request(requests, &seen, word);
         push_request(alloc, calls, table, me, word, place)?;
+        see(alloc, &mut seen, word)?;
     }
+    Ok(())
+}
+
+// A word more is seen.
+fn see(alloc: Global, seen: &mut BTreeMap<Word, bool>, word: &Word) -> Result<(), OutOfMemory>
+    ensures { OnOk result ((other : List ℕ) → looked_up seen.new other ≡ cond (is_eq (slice_cmp nat_cmp word.now other)) (Some true) (looked_up seen.old other)) }
+{
+    seen.insert(word.copy(alloc)?, true)?;
     Ok(())
 }
 
@@ -126,15 +138,15 @@ fn push_request(
     }
 }
 
-// The call of a request, unless it is closed by a word before.
+// The call of a request, unless its word was seen before.
 fn open_request<'m>(
     requests: &'m BTreeMap<Word, (Name, u32)>,
-    before: &[Word],
+    seen: &BTreeMap<Word, bool>,
     word: &Word,
 ) -> Option<&'m (Name, u32)>
-    ensures { option_copied result ≡ closed_all before.now (looked_up requests.now) word.now }
+    ensures { option_copied result ≡ cond (is_some (looked_up seen.now word.now)) None (looked_up requests.now word.now) }
 {
-    if before.contains(word) {
+    if seen.contains_key(word) {
         return None;
     }
     requests.get(word)

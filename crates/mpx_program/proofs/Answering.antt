@@ -5,14 +5,17 @@ use Rattle.std.specs.Io.KnownBytes.{Keeps}
 use Rattle.mpx_num.specs.declared.own.Operation.{Operation}
 use Rattle.mpx_threads.specs.Gates.{nowhere}
 use Rattle.mpx_statement.specs.declared.job.Job.{Job}
+use Rattle.mpx_script.specs.Answer.{AnswersReading}
 use Rattle.mpx_script.specs.Reading.{reading}
 use Rattle.mpx_script.specs.ScriptView.{ScriptView}
-use Rattle.mpx_run.specs.Texts.{ComesTo, IsRefusedFor, IsWritten, Prints, PrintsUngated, RunsUngated, TakesInput, TakesPart, told}
+use Rattle.mpx_script.specs.declared.faults.ReadScriptError.{ReadScriptError}
+use Rattle.mpx_script.specs.declared.faults.ReadScriptError.TheVariants as S
+use Rattle.mpx_run.specs.Texts.{ComesTo, IsRefusedFor, IsWritten, Prints, PrintsUngated, RunsUngated, TakesInput, TakesPart, script_told, told}
 use Rattle.mpx_run.specs.declared.streams.ReadFault.{ReadFault}
 use Rattle.mpx_run.specs.declared.streams.ReadFault.TheVariants as F
 use Rattle.mpx_run.specs.declared.end.End.{End}
 use Rattle.mpx_run.specs.declared.texts.RunError.{RunError}
-use Rattle.mpx_run.specs.declared.texts.RunError.TheVariants.{GateGaveUp}
+use Rattle.mpx_run.specs.declared.texts.RunError.TheVariants.{GateGaveUp, Memory}
 use Rattle.mpx_run.specs.Founded.{IsFounded}
 use Rattle.mpx_run.specs.Reports.{IsPrinted}
 use Rattle.mpx_run.proofs.Less.{runs_printed}
@@ -27,12 +30,21 @@ kept (Some xs) = refl
 
 -- a reader that fails gives no script
 pub fails_unread : (ops : List Operation) (job : Job) (there left : Option (List ℕ)) (fault : ReadFault) (why : RunError) → TakesPart there left → why ≡ told fault → FailsBefore ops job there left why
-fails_unread ops job there left F.OutOfMemory why part is old = subst (λ e. RunsUngated IsFounded ops job there left old old (Err e)) (sym is) (part, kept old)
-fails_unread ops job there left F.Reader why part is old = subst (λ e. RunsUngated IsFounded ops job there left old old (Err e)) (sym is) (part, kept old)
+fails_unread ops job there left F.OutOfMemory why part is = λ old. subst (λ e. RunsUngated IsFounded ops job there left old old (Err e)) (sym is) (part, kept old)
+fails_unread ops job there left F.Reader why part is = λ old. subst (λ e. RunsUngated IsFounded ops job there left old old (Err e)) (sym is) (part, kept old)
 
 -- and so does a text that gives none
 pub fails_text : (ops : List Operation) (job : Job) (there left : Option (List ℕ)) (text now : List ℕ) (why : RunError) → TakesInput there left text → now ≡ text → ((old : Option (List ℕ)) → PrintsUngated IsFounded ops job now old old (Err why)) → FailsBefore ops job there left why
-fails_text ops job there left text now why taken same fails old = runs_ungated IsFounded ops job there left old old text (Err why) taken (subst (λ xs. PrintsUngated IsFounded ops job xs old old (Err why)) same (fails old))
+fails_text ops job there left text now why taken same fails = λ old. runs_ungated IsFounded ops job there left old old text (Err why) taken (subst (λ xs. PrintsUngated IsFounded ops job xs old old (Err why)) same (fails old))
+
+-- a text that is refused prints nothing
+pub refuses_text : (ops : List Operation) (job : Job) (text : List ℕ) (refused : ReadScriptError) (why : RunError) → AnswersReading (Err refused) (reading ops text) → why ≡ script_told refused → (old : Option (List ℕ)) → PrintsUngated IsFounded ops job text old old (Err why)
+refuses_text ops job text S.OutOfMemory why read is old = subst (λ e. PrintsUngated IsFounded ops job text old old (Err e)) (sym is) (kept old)
+refuses_text ops job text (S.Refused refusal) why read is old = subst (λ e. PrintsUngated IsFounded ops job text old old (Err e)) (sym is) (read, kept old)
+
+-- nor does one for which memory is wanting
+pub starves_text : (ops : List Operation) (job : Job) (text : List ℕ) (why : RunError) → why ≡ Memory → (old : Option (List ℕ)) → PrintsUngated IsFounded ops job text old old (Err why)
+starves_text ops job text why is old = subst (λ e. PrintsUngated IsFounded ops job text old old (Err e)) (sym is) (kept old)
 
 -- then nothing is done
 pub does_nothing : (ops : List Operation) (call : Invocation) (there left old : Option (List ℕ)) (why : RunError) (more : List ℕ) (code : ℕ) (Says : List ℕ → Type 0) → FailsBefore ops call.job there left why → Exits (Err why) false call.flags.explain more code Says → DoesJobWith IsFounded ops call there left old old code Says

@@ -8,27 +8,30 @@ use mpx_eval::Findings;
 use mpx_explain::{
     explain_calls, explain_refusals, explain_results, explain_served, explain_unheard, run_end,
 };
+use mpx_node::Node;
 use mpx_num::Ops;
-use mpx_run::{Cause, End, Printed};
+use mpx_run::{Cause, End, Left, RunError};
 use mpx_waiting::push_waiting;
 use mpx_words::Invocation;
 use std::alloc::Global;
 
 /// Further lines, where `--explain` is asked for and the job came to an end: for whose posts ranks wait, calls that are refused or are faults,
 /// and results that are past their types. Where a run ended early, these lines are of the evaluation and stand behind a heading that says so;
-/// before it stands where ranks wait in this run, and whose posts they lack. Where memory is wanting, fewer lines.
+/// before it stands where ranks wait in this run, and whose posts they lack. So they do where the text couldn't be written. Where memory is
+/// wanting, fewer lines.
 pub(crate) fn explained(
     alloc: Global,
     call: &Invocation,
     prepared: &Prepared,
-    printed: Option<&Printed>,
+    answer: &Result<End, RunError>,
+    left: Option<&Left>,
 ) -> Vec<u8>
     ensures { call.now.flags.explain ≡ false → result.items ≡ [] }
 {
     let mut told = Vec::new(alloc);
     if call.flags.explain {
-        if let Some(printed) = printed {
-            let _ = push_found(alloc, prepared, printed, &mut told);
+        if let Some(left) = left {
+            let _ = push_found(alloc, prepared, answer, left, &mut told);
         }
     }
     told
@@ -53,19 +56,19 @@ pub(crate) fn explained_refusals(
 fn push_found(
     alloc: Global,
     prepared: &Prepared,
-    printed: &Printed,
+    answer: &Result<End, RunError>,
+    left: &Left,
     told: &mut Vec<u8>,
 ) -> Result<(), OutOfMemory> {
     let (text, script) = (prepared.text.as_slice(), &prepared.script);
     match &prepared.found {
         Found::Nothing => Ok(()),
         Found::Certain(found) => explain_calls(alloc, text, script, found, told),
-        Found::InEvaluation(found) => match &printed.end {
-            End::Waiting(ranks, Cause::TurnsUsedUp(_) | Cause::AllLost | Cause::Unknown) => {
-                push_early(alloc, prepared, printed, ranks, found, told)
-            }
-            End::Waiting(_, Cause::InEveryRun) => push_evaluation(alloc, prepared, found, told),
-            End::Finished => push_evaluation(alloc, prepared, found, told),
+        Found::InEvaluation(found) => match answer {
+            Ok(End::Waiting(_, Cause::InEveryRun)) => push_evaluation(alloc, prepared, found, told),
+            Ok(End::Waiting(ranks, _)) => push_early(alloc, prepared, left, ranks, found, told),
+            Ok(End::Finished) => push_evaluation(alloc, prepared, found, told),
+            Err(_) => push_early(alloc, prepared, left, &[], found, told),
         },
     }
 }
@@ -74,13 +77,13 @@ fn push_found(
 fn push_early(
     alloc: Global,
     prepared: &Prepared,
-    printed: &Printed,
+    left: &Left,
     ranks: &[u8],
     found: &Findings,
     told: &mut Vec<u8>,
 ) -> Result<(), OutOfMemory> {
     let mut here = Vec::new(alloc);
-    push_run_end(alloc, prepared, printed, ranks, found, &mut here)?;
+    push_run_end(alloc, prepared, left, ranks, found, &mut here)?;
     told.extend_from_slice(&here)?;
     let mut there = Vec::new(alloc);
     push_waits(alloc, prepared, found, &mut there)?;
@@ -113,22 +116,29 @@ fn push_behind(
 fn push_run_end(
     alloc: Global,
     prepared: &Prepared,
-    printed: &Printed,
+    left: &Left,
     ranks: &[u8],
     found: &Findings,
     told: &mut Vec<u8>,
 ) -> Result<(), OutOfMemory> {
     let (text, script) = (prepared.text.as_slice(), &prepared.script);
-    let mut nodes = Vec::new(alloc);
-    for rank in 0..script.ranks() {
-        if let Some(node) = printed.held.node(usize::from(rank)) {
-            nodes.push(node)?;
-        }
-    }
-    let lines = printed.transcripts.as_slice();
+    let nodes = nodes_of(alloc, left, script.ranks())?;
+    let lines = left.transcripts.as_slice();
     let end = run_end(alloc, script, &found.complaints, ranks, lines, &nodes)?;
     push_waiting(alloc, text, script, end.waiting.as_slice(), told)?;
     explain_served(alloc, text, end.served.as_slice(), told)
+}
+
+// The nodes of so many ranks at the end of a run.
+fn nodes_of(alloc: Global, left: &Left, ranks: u8) -> Result<Vec<&Node>, OutOfMemory> {
+    let mut nodes = Vec::new(alloc);
+    for node in left.nodes.iter().take(usize::from(ranks)) {
+        nodes.push(node)?;
+    }
+    for port in left.ports.iter().take(usize::from(ranks)) {
+        nodes.push(port.node())?;
+    }
+    Ok(nodes)
 }
 
 // What is found in the evaluation.

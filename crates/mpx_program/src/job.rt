@@ -175,19 +175,15 @@ fn answer<W: Write, E: Write>(
 {
     match printed {
         Ok(printed) => {
-            let more = explained(alloc, call, prepared, Some(&printed));
-            let answer = write_printed(printed.text.as_bytes(), printed.end, out);
+            let Printed { text, end, left } = printed;
+            let answer = write_printed(text.as_bytes(), end, out);
+            let more = explained(alloc, call, prepared, &answer, Some(&left));
             exit_of(&answer, prepared.complains, call.flags.explain, &more, err)
         }
         Err(error) => {
-            let more = explained(alloc, call, prepared, None);
-            exit_of(
-                &Err(error),
-                prepared.complains,
-                call.flags.explain,
-                &more,
-                err,
-            )
+            let answer = Err(error);
+            let more = explained(alloc, call, prepared, &answer, None);
+            exit_of(&answer, prepared.complains, call.flags.explain, &more, err)
         }
     }
 }

@@ -6,7 +6,7 @@ ghost use Rattle.mpx_run.specs.Texts.{ComesTo, IsEndedFor, IsRefusedFor, is_in_t
 
 use crate::check::check_text;
 use crate::end::End;
-use crate::report::{Held, Printed, print, print_evaluation, print_threads};
+use crate::report::{Left, Printed, print, print_evaluation, print_threads};
 use crate::texts::RunError;
 use mpx_num::{Listing, Ops};
 use mpx_script::Script;
@@ -56,8 +56,7 @@ pub fn print_job<T: Threads + Sync>(
         Command::Check => Ok(Printed {
             text: check_text(alloc, script)?,
             end: End::Finished,
-            transcripts: Vec::new(alloc),
-            held: Held::Nothing,
+            left: Left::nothing(alloc),
         }),
     }
 }

@@ -24,6 +24,6 @@ pub use mpx_threads::{
     BusStep, Gate, NobodyLooks, Onlooker, OpenGate, Pass, SoFar, ThreadRun, ThreadsError,
     run_threads,
 };
-pub use report::{Held, Printed};
+pub use report::{Left, Printed};
 pub use streams::{ReadFault, WriteFault, read_bytes, write_bytes};
 pub use texts::{RunError, run_text, run_text_observed, write_printed};

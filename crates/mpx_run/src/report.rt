@@ -28,32 +28,27 @@ pub struct Printed {
     /// What is to be written.
     pub text: String,
     pub end: End,
-    /// The lines of each rank, of which the text is made; none of a script that is read alone. No clause says it.
-    pub transcripts: Vec<Vec<String>>,
-    /// What each process holds at the end of a run, first the ranks, then the relays; nothing of another job. No clause says it.
-    pub held: Held,
+    pub left: Left,
 }
 
-/// What processes hold at the end of a run.
+/// What is left of a job that has ended: to explain it by. No clause says what it is.
 #[derive(Drop)]
-pub enum Held {
-    Nothing,
-    /// The nodes of a simulated run.
-    InNodes(Vec<Node>),
-    /// The ports of a run in threads.
-    InPorts(Vec<Port>),
+pub struct Left {
+    /// The lines of each rank, of which the text is made; none of a script that is read alone.
+    pub transcripts: Vec<Vec<String>>,
+    /// Of a simulated run the node of each process, by its number.
+    pub nodes: Vec<Node>,
+    /// Of a run in threads the port of each process.
+    pub ports: Vec<Port>,
 }
 
-impl Held {
-    /// The node of a process, by its number.
-    pub fn node(&self, process: usize) -> Option<&Node> {
-        match self {
-            Held::Nothing => None,
-            Held::InNodes(nodes) => nodes.get(process),
-            Held::InPorts(ports) => match ports.get(process) {
-                Some(port) => Some(port.node()),
-                None => None,
-            },
+impl Left {
+    /// Of a script that is read alone.
+    pub(crate) fn nothing(alloc: Global) -> Left {
+        Left {
+            transcripts: Vec::new(alloc),
+            nodes: Vec::new(alloc),
+            ports: Vec::new(alloc),
         }
     }
 }
@@ -73,8 +68,8 @@ pub(crate) fn print<T: Threads + Sync>(
 {
     let run = run_sim_observed(rt, alloc, script, options, observer, ops)?;
     let cause = cause_of(run.turns, options);
-    let held = Held::InNodes(run.nodes);
-    print_report(alloc, run.report, script.ranks(), cause, held)
+    let ports = Vec::new(alloc);
+    print_report(alloc, run.report, run.nodes, ports, script.ranks(), cause)
 }
 
 // Why ranks wait where so many turns of a simulated run were made.
@@ -109,8 +104,8 @@ pub(crate) fn print_threads<T: Threads + Wait + Sync, G: Gate + Sync>(
     let follows = Follows { observer, looks };
     let run = run_threads(rt, alloc, script, options, gate, follows, ops)?;
     let cause = cause_in_threads(run.rests);
-    let held = Held::InPorts(run.ports);
-    match print_report(alloc, run.report, script.ranks(), cause, held) {
+    let nodes = Vec::new(alloc);
+    match print_report(alloc, run.report, nodes, run.ports, script.ranks(), cause) {
         Ok(printed) => Ok(printed),
         Err(_) => Err(ThreadsError::OutOfMemory),
     }
@@ -136,17 +131,20 @@ pub(crate) fn print_evaluation(
     ensures { IfOk result (λ printed. IsEvaluatedText (⟦<Ops as Listing>⟧.operations ops.now) script.now printed.end (string_bytes printed.text)) }
 {
     let report = eval(alloc, script, ops)?;
-    let (cause, held) = (Cause::InEveryRun, Held::Nothing);
-    print_report(alloc, report, script.ranks(), cause, held)
+    let nodes = Vec::new(alloc);
+    let ports = Vec::new(alloc);
+    let cause = Cause::InEveryRun;
+    print_report(alloc, report, nodes, ports, script.ranks(), cause)
 }
 
 // The lines of all ranks, and who waits for this cause.
 fn print_report(
     alloc: Global,
     report: Report,
+    nodes: Vec<Node>,
+    ports: Vec<Port>,
     ranks: u8,
     cause: Cause,
-    held: Held,
 ) -> Result<Printed, OutOfMemory>
     requires { ranks ≤ length (transcripts_of report) }
     ensures text { IfOk result (λ printed. string_bytes printed.text ≡ text_upto (lines_at (transcripts_of report)) ranks) }
@@ -158,8 +156,11 @@ fn print_report(
     Ok(Printed {
         text,
         end,
-        transcripts: report.transcripts,
-        held,
+        left: Left {
+            transcripts: report.transcripts,
+            nodes,
+            ports,
+        },
     })
 }
 

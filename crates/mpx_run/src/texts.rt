@@ -160,7 +160,8 @@ fn run_bytes<T: Threads + Wait + Sync, W: Write, G: Gate + Sync>(
         Ok(printed) => printed,
         Err(error) => return Err(error),
     };
-    write_printed(printed.text.as_bytes(), printed.end, writer)
+    let (out, end) = (printed.text, printed.end);
+    write_printed(out.as_bytes(), end, writer)
 }
 
 /// Writes what a job comes to, and answers its end. The error is `Write`; a beginning of the text may then be out.

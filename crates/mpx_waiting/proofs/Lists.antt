@@ -1,16 +1,10 @@
--- Texts of the elements of a list, one after the other.
+-- The lines of ranks that wait, one after the other.
 use Rattle.std.proofs.Common.{◌≡◌, ℕ, suc, ◌+◌, ◌-◌, ◌<◌, ◌++◌, List, length, get_or, drop, drop-cons, map, ap, ◌∙◌, arith}
-use Rattle.std.specs.List.{flat_map}
 use Rattle.std.proofs.lemmas.List.{length-map}
 use Rattle.mpx_statement.specs.declared.statement.Statement.{Statement}
 use Rattle.mpx_eval.specs.declared.who_waits.WaitingRank.{WaitingRank}
 use Rattle.mpx_eval.specs.Found.{missing_view, waiting_view}
 use Rattle.mpx_waiting.specs.ToldLines.{rank_text, ranks_text}
-
-pub flat_more : {A B : Type 0} (f : B → List ℕ) (view : A → B) (xs : List A) (i : ℕ) (d : A) → i < length xs → flat_map f (map view (drop i xs)) ≡ f (view (get_or xs i d)) ++ flat_map f (map view (drop (i + 1) xs))
-flat_more f view xs i d l =
-    let k : suc i ≡ i + 1 = omega arith in
-    ap (λ ys. flat_map f (map view ys)) (drop-cons xs i d l) ∙ ap (λ n. f (view (get_or xs i d)) ++ flat_map f (map view (drop n xs))) k
 
 -- the lines of the ranks from one on are its own and those of the next
 pub ranks_more : (text : List ℕ) (statements : List (List Statement)) (places : List (ℕ × ℕ)) (most : ℕ) (found : List WaitingRank) (i : ℕ) (w : WaitingRank) → i < length found

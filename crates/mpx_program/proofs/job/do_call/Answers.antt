@@ -1,5 +1,11 @@
-use Rattle.mpx_program.proofs.Answering.{does_text}
+use Rattle.std.proofs.Common.{refl}
+use Rattle.mpx_program.proofs.Answering.{does_nothing, does_text}
 use Rattle.mpx_program.proofs.job.do_call.Goals as goal
 
 pub returns-in-Ok : goal.returns-in-Ok
-returns-in-Ok g c = does_text _ c.args.call.now (g.R.Read.remaining c.args.reader.now) (g.R.Read.remaining c.read_bytes.new.reader) (g.W.Write.contents c.args.out.now) (g.W.Write.contents c.do_text.new.out) c.in-Ok.text.items c.deref.result.now c.do_text.result.status _ c.in-Ok.ensures.input c.deref.ensures.value c.do_text.ensures
+returns-in-Ok g c =
+    let p = c.in-Ok.prepared in
+    does_text _ c.args.call.now (g.R.Read.remaining c.args.reader.now) (g.R.Read.remaining c.prepared.new.reader) (g.W.Write.contents c.args.out.now) (g.W.Write.contents c.answer.new.out) p.text.items p.text.items c.answer.result.status _ c.in-Ok.ensures.input refl c.answer.ensures
+
+pub returns-in-Err : goal.returns-in-Err
+returns-in-Err g c = does_nothing _ c.args.call.now (g.R.Read.remaining c.args.reader.now) (g.R.Read.remaining c.prepared.new.reader) (g.W.Write.contents c.args.out.now) c.in-Err.failed.error _ c.exit_of.result.status _ c.in-Err.ensures c.exit_of.ensures

@@ -4,11 +4,11 @@ use Rattle.mpx_shell.proofs.answering.answer.Goals as goal
 pub returns-clause-prints : goal.returns-clause-prints
 returns-clause-prints g c = inl (record {
   operations = _;
-  does = c.run_job_observed.ensures.prints;
+  does = c.run_job.ensures.prints;
 })
 
 pub returns-clause-founded : goal.returns-clause-founded
 returns-clause-founded g c = inl (record {
   operations = _;
-  does = c.run_job_observed.ensures.founded;
+  does = c.run_job.ensures.founded;
 })

@@ -1,6 +1,6 @@
 use Rattle.std.proofs.Common.{inl}
 use Rattle.mpx_program.proofs.Answering.{does_printed}
-use Rattle.mpx_program.proofs.job.run_job_observed.Goals as goal
+use Rattle.mpx_program.proofs.job.run_job.Goals as goal
 
 pub returns-in-Ok-clause-prints : goal.returns-in-Ok-clause-prints
 returns-in-Ok-clause-prints g c = inl (record {

@@ -1,0 +1,14 @@
+use Rattle.std.proofs.Common.{inl}
+use Rattle.mpx_shell.proofs.answering.answer_in_threads.Goals as goal
+
+pub returns-clause-prints : goal.returns-clause-prints
+returns-clause-prints g c = inl (record {
+  operations = _;
+  does = c.run_job_in_threads.ensures.prints;
+})
+
+pub returns-clause-founded : goal.returns-clause-founded
+returns-clause-founded g c = inl (record {
+  operations = _;
+  does = c.run_job_in_threads.ensures.founded;
+})
