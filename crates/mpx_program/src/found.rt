@@ -31,7 +31,7 @@ pub(crate) struct Examined {
 /// Examines a script once, where `--strict` or `--explain` is asked for. With `--strict` it complains where a call is refused or is a fault:
 /// where the script is run or evaluated, in its evaluation, be it of a request that nobody waits for; where it is checked, for certain. Want
 /// of memory is told only with `--strict`.
-pub(crate) fn examined(
+pub(crate) fn examine_script(
     alloc: Global,
     call: &Invocation,
     script: &Script,

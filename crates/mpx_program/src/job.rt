@@ -9,7 +9,7 @@ ghost use Rattle.mpx_program.specs.Jobs.{AnswersText, DoesJob, DoesJobWith, Exit
 ghost use Rattle.mpx_program.specs.Strict.{IsStrict};
 
 use crate::explaining::explained;
-use crate::prepared::{Prepared, prepared};
+use crate::prepared::{Prepared, prepare};
 use crate::status::{refusal_status, status_of, write_refusal, write_said};
 use mpx_num::{Listing, Ops};
 use mpx_run::{
@@ -112,7 +112,7 @@ fn do_call<T: Threads + Sync, R: Read, W: Write, E: Write>(
     requires alone { is_in_threads call.now.job ≡ false }
     ensures { DoesJobWith IsFounded (⟦<Ops as Listing>⟧.operations ops.now) call.now (R.remaining reader.old) (R.remaining reader.new) (W.contents out.old) (W.contents out.new) result.status (Tells (E.contents err.old) (E.contents err.new) result.told) }
 {
-    match prepared(alloc, call, reader, ops) {
+    match prepare(alloc, call, reader, ops) {
         Ok(prepared) => {
             let printed = print_job(rt, alloc, &call.job, &prepared.script, observer, ops);
             answer(alloc, call, &prepared, printed, out, err, ops)
@@ -141,7 +141,7 @@ fn do_call_in_threads<T: Threads + Wait + Sync, R: Read, W: Write, E: Write>(
     requires threads { is_in_threads call.now.job ≡ true }
     ensures { DoesJobWith IsFounded (⟦<Ops as Listing>⟧.operations ops.now) call.now (R.remaining reader.old) (R.remaining reader.new) (W.contents out.old) (W.contents out.new) result.status (Tells (E.contents err.old) (E.contents err.new) result.told) }
 {
-    match prepared(alloc, call, reader, ops) {
+    match prepare(alloc, call, reader, ops) {
         Ok(prepared) => {
             let (job, script) = (&call.job, &prepared.script);
             let printed = print_job_in_threads(rt, alloc, job, script, observer, &OpenGate, ops);

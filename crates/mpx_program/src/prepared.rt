@@ -7,7 +7,7 @@ ghost use Rattle.mpx_program.specs.Jobs.{FailsBefore, IsPrepared};
 ghost use Rattle.mpx_program.specs.Strict.{IsStrict};
 
 use crate::explaining::explained_refusals;
-use crate::found::{Examined, Found, examined};
+use crate::found::{Examined, Found, examine_script};
 use join_core::OutOfMemory;
 use mpx_num::{Listing, Ops};
 use mpx_run::{RunError, read_bytes};
@@ -34,7 +34,7 @@ pub(crate) struct Failed {
 }
 
 /// Reads the text of a call's script, and the script, and finds what `--strict` and `--explain` ask for.
-pub(crate) fn prepared<R: Read>(
+pub(crate) fn prepare<R: Read>(
     alloc: Global,
     call: &Invocation,
     reader: &mut R,
@@ -43,18 +43,12 @@ pub(crate) fn prepared<R: Read>(
     ensures ok { IfOk result (λ p. IsPrepared (⟦<Ops as Listing>⟧.operations ops.now) call.now (R.remaining reader.old) (R.remaining reader.new) p.text.items p.script p.complains) }
     ensures err { IfErr result (λ f. FailsBefore (⟦<Ops as Listing>⟧.operations ops.now) call.now.job (R.remaining reader.old) (R.remaining reader.new) f.error) }
 {
-    let text = match read_bytes(alloc, reader) {
-        Ok(text) => text,
-        Err(fault) => return Err(without_more(alloc, RunError::from(fault))),
-    };
-    match with_script(alloc, call, &text, ops) {
-        Ok(read) => Ok(Prepared {
-            text,
-            script: read.script,
-            found: read.examined.found,
-            complains: read.examined.complains,
-        }),
-        Err(failed) => Err(failed),
+    match read_bytes(alloc, reader) {
+        Ok(text) => match with_script(alloc, call, &text, ops) {
+            Ok(read) => Ok(prepared_of(text, read)),
+            Err(failed) => Err(failed),
+        },
+        Err(fault) => Err(without_more(alloc, RunError::from(fault))),
     }
 }
 
@@ -63,6 +57,22 @@ pub(crate) fn prepared<R: Read>(
 struct WithScript {
     script: Script,
     examined: Examined,
+}
+
+// The text and its script together.
+fn prepared_of(text: Vec<u8>, read: WithScript) -> Prepared
+    ensures text { result.text.items ≡ text.items }
+    ensures script { result.script ≡ read.script }
+    ensures complains { result.complains ≡ read.examined.complains }
+{
+    let WithScript { script, examined } = read;
+    let Examined { found, complains } = examined;
+    Prepared {
+        text,
+        script,
+        found,
+        complains,
+    }
 }
 
 // The script that a text is, and what is found in it.
@@ -77,7 +87,7 @@ fn with_script(
     ensures err { IfErr result (λ f. (old : Option (List ℕ)) → PrintsUngated IsFounded (⟦<Ops as Listing>⟧.operations ops.now) call.now.job text.now old old (Err f.error)) }
 {
     match read_script(alloc, text, ops) {
-        Ok(script) => match examined(alloc, call, &script, ops) {
+        Ok(script) => match examine_script(alloc, call, &script, ops) {
             Ok(examined) => Ok(WithScript { script, examined }),
             Err(OutOfMemory) => Err(without_more(alloc, RunError::Memory)),
         },
