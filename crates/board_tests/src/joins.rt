@@ -93,7 +93,7 @@ const BURIED: &[BoardStep] = &[
     BoardStep::Acknowledges(0, 1, 1),
 ];
 
-// A whole board that has heard of neither, with a second child.
+// A whole board that has heard of neither, with a child of that child.
 const UNAWARE: &[BoardStep] = &[
     BoardStep::Members(3),
     BoardStep::Front(0, 4),
@@ -111,7 +111,7 @@ const UNAWARE: &[BoardStep] = &[
 ];
 
 // The child is dead and says nothing but what is acknowledged, the world's early call is dropped, and its late one and the
-// second child are kept.
+// child's own child are kept.
 const BURIED_FOR_BOTH: &[BoardStep] = &[
     BoardStep::Members(3),
     BoardStep::Front(0, 5),
