@@ -92,14 +92,15 @@ fn push_early(
     push_behind(here.as_slice(), there.as_slice(), calls.as_slice(), told)
 }
 
-// Adds what is of the evaluation, of whose waits the text is there, and here that of the run's.
+// Adds what is of the evaluation, of whose waits the text is there, and here that of the run's. Of a text that was cut the rest isn't known.
 fn push_behind(
     here: &[u8],
     there: &[u8],
     calls: &[u8],
     told: &mut Vec<u8>,
 ) -> Result<(), OutOfMemory> {
-    if !there.is_empty() && here == there {
+    let is_cut = there.ends_with(b" more\n");
+    if !there.is_empty() && here == there && !is_cut {
         told.extend_from_slice(b"in the evaluation these ranks wait there too\n")?;
     } else if !there.is_empty() {
         told.extend_from_slice(b"in the evaluation ranks wait here:\n")?;
