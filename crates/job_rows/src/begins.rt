@@ -1,6 +1,6 @@
 //! Whether what a run prints begins the script's evaluation, however early it ends; and the status of a call alone.
 use crate::lines::{ended, word_at, words_of};
-use crate::program::exited;
+use crate::program::call_program;
 use std::alloc::Global;
 use std::io::{self, Write};
 use std::sync::Wait;
@@ -62,7 +62,7 @@ fn made<T: Threads + Wait + Sync>(
     let words = words_of(alloc, line, from)?;
     let mut said = Vec::new(alloc);
     let mut reader = script;
-    let exited = exited(rt, alloc, Ok(words), &mut reader, text, &mut said, false);
+    let exited = call_program(rt, alloc, Ok(words), &mut reader, text, &mut said, false);
     drop(said);
     Ok(exited.status)
 }

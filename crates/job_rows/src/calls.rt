@@ -3,7 +3,7 @@ use crate::begins::{begins, status};
 use crate::dead::dead;
 use crate::gated_runs::{both_asked, counted, strange_job, told_meanwhile};
 use crate::lines::{ended, joined, many_words, number_of, word_at, words_of};
-use crate::program::{Exited, exited};
+use crate::program::{Exited, call_program};
 use crate::statements::{Asked, told_of};
 use crate::streams::{Failing, Holding, Limited};
 use mpx_num::Ops;
@@ -119,7 +119,7 @@ fn shown_on<T: Threads + Wait + Sync, R: Read, W: Write>(
     is_terminal: bool,
 ) -> io::Result<Vec<u8>> {
     let mut said = Vec::new(alloc);
-    let exited = exited(rt, alloc, Ok(words), reader, out, &mut said, is_terminal);
+    let exited = call_program(rt, alloc, Ok(words), reader, out, &mut said, is_terminal);
     with_said(exited, said)
 }
 
@@ -223,7 +223,7 @@ fn no_text<T: Threads + Wait + Sync>(rt: &T, alloc: Global) -> io::Result<Vec<u8
     let mut out = Vec::new(alloc);
     let mut reader = b"".as_slice();
     let words = Err(not_text(alloc));
-    let exited = exited(rt, alloc, words, &mut reader, &mut out, &mut said, false);
+    let exited = call_program(rt, alloc, words, &mut reader, &mut out, &mut said, false);
     drop(out);
     with_said(exited, said)
 }

@@ -17,7 +17,7 @@ pub struct Exited {
 }
 
 /// Makes the call with these words, or with some that are no text, shown on what is a terminal or isn't.
-pub fn exited<T: Threads + Wait + Sync, R: Read, W: Write>(
+pub fn call_program<T: Threads + Wait + Sync, R: Read, W: Write>(
     rt: &T,
     alloc: Global,
     words: Result<Vec<String>, clap::Error>,
