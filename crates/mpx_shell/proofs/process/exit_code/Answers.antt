@@ -32,7 +32,7 @@ returns-else-ask_for_threads-clause-founded g c =
 pub returns-in-Err-clause-refused : goal.returns-in-Err-clause-refused
 returns-in-Err-clause-refused g c =
     if_err c.args.words.now c.in-Err.why _ c.in-Err.is (record {
-  exit = c.refuse.result;
-  does = c.refuse.ensures;
-  ends = c.from-in-Err.ensures;
-})
+      exit = c.refuse.result;
+      does = c.refuse.ensures;
+      ends = c.from-in-Err.ensures;
+    })
