@@ -2,20 +2,21 @@
 //! script's evaluation, or how much the script has.
 #![tactic(auto)]
 
-use mpx_shell::{exit_code, words_of};
+use mpx_shell::{exit_code, seen_by, words_of};
 use std::io;
 use std::process::ExitCode;
 
 /// Hands on the words of the call and the standard streams.
 fn main(rt: HostRuntime) -> ExitCode {
+    let words = words_of(&rt);
+    let mut seen = seen_by(&words, rt.alloc(), &rt, rt.stderr());
     exit_code(
         &rt,
         rt.alloc(),
-        &rt,
-        &words_of(&rt),
+        &words,
         &mut rt.reader(),
         &mut io::writer(&rt),
         &mut rt.stderr(),
-        rt.stderr(),
+        &mut seen,
     )
 }

@@ -1,7 +1,6 @@
 //! Whether what a run prints begins the script's evaluation, however early it ends; and the status of a call alone.
 use crate::lines::{ended, word_at, words_of};
 use crate::program::exited;
-use crate::terminals::Shown;
 use std::alloc::Global;
 use std::io::{self, Write};
 use std::sync::Wait;
@@ -62,16 +61,10 @@ fn made<T: Threads + Wait + Sync>(
 ) -> io::Result<u8> {
     let words = words_of(alloc, line, from)?;
     let mut said = Vec::new(alloc);
-    let mut seen = Vec::new(alloc);
     let mut reader = script;
-    let shown = Shown {
-        text: &mut seen,
-        is_terminal: false,
-    };
-    let status = exited(rt, alloc, words, &mut reader, text, &mut said, shown);
-    drop(seen);
+    let exited = exited(rt, alloc, Ok(words), &mut reader, text, &mut said, false);
     drop(said);
-    Ok(status)
+    Ok(exited.status)
 }
 
 /// `status WORDS`: the status alone, where what is printed beside it hangs on which thread comes first.

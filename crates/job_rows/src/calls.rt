@@ -3,10 +3,9 @@ use crate::begins::{begins, status};
 use crate::dead::dead;
 use crate::gated_runs::{both_asked, counted, strange_job, told_meanwhile};
 use crate::lines::{ended, joined, many_words, number_of, word_at, words_of};
-use crate::program::{exited, refused};
+use crate::program::{Exited, exited};
 use crate::statements::{Asked, told_of};
 use crate::streams::{Failing, Holding, Limited};
-use crate::terminals::Shown;
 use mpx_num::Ops;
 use mpx_script::ReadScriptError;
 use mpx_words::not_text;
@@ -119,13 +118,15 @@ fn shown_on<T: Threads + Wait + Sync, R: Read, W: Write>(
     out: &mut W,
     is_terminal: bool,
 ) -> io::Result<Vec<u8>> {
-    let mut text = Vec::new(alloc);
     let mut said = Vec::new(alloc);
-    let shown = Shown {
-        text: &mut text,
-        is_terminal,
-    };
-    let status = exited(rt, alloc, words, reader, out, &mut said, shown);
+    let exited = exited(rt, alloc, Ok(words), reader, out, &mut said, is_terminal);
+    with_said(exited, said)
+}
+
+// What a run was shown on, then what was said, and the status.
+fn with_said(exited: Exited, said: Vec<u8>) -> io::Result<Vec<u8>> {
+    let Exited { status, shown } = exited;
+    let mut text = shown;
     let pushed = push_said(&mut text, &said, status);
     drop(said);
     ended(text, pushed)
@@ -218,14 +219,11 @@ fn length<T: Threads + Wait + Sync>(
 
 // `no-text`: what is said where a word of the call isn't UTF-8.
 fn no_text<T: Threads + Wait + Sync>(rt: &T, alloc: Global) -> io::Result<Vec<u8>> {
-    let mut text = Vec::new(alloc);
     let mut said = Vec::new(alloc);
-    let shown = Shown {
-        text: &mut text,
-        is_terminal: false,
-    };
-    let status = refused(rt, alloc, not_text(alloc), &mut said, shown);
-    let pushed = push_said(&mut text, &said, status);
-    drop(said);
-    ended(text, pushed)
+    let mut out = Vec::new(alloc);
+    let mut reader = b"".as_slice();
+    let words = Err(not_text(alloc));
+    let exited = exited(rt, alloc, words, &mut reader, &mut out, &mut said, false);
+    drop(out);
+    with_said(exited, said)
 }

@@ -125,13 +125,11 @@ pub fn told_meanwhile<T: Threads + Wait + Sync>(
 ) -> io::Result<Vec<u8>> {
     let clock = Leaping::new();
     let gate = UntilTold::new();
-    let mut shown = Vec::new(alloc);
-    let mut begun = AllBegun::new(alloc, &clock, &gate, &mut shown);
+    let mut begun = AllBegun::new(alloc, &clock, &gate);
     let mut out = Vec::new(alloc);
     let answer = in_threads(rt, alloc, script, 0, &mut out, &mut begun, &gate, ops);
-    drop(begun);
     joined(
-        joined(Ok(out), Ok(shown)),
+        joined(Ok(out), Ok(begun.into_text())),
         with_answer(Vec::new(alloc), answer),
     )
 }

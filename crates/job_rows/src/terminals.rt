@@ -9,12 +9,12 @@ use std::time::{Clock, Duration};
 
 /// Keeps what is written, and is a terminal or not.
 #[derive(Drop)]
-pub struct Shown<'a> {
-    pub text: &'a mut Vec<u8>,
+pub struct Shown {
+    pub text: Vec<u8>,
     pub is_terminal: bool,
 }
 
-impl Write for Shown<'_> {
+impl Write for Shown {
     fn write(&mut self, buf: &[u8]) -> io::Result<usize> {
         self.text.extend_from_slice(buf)?;
         Ok(buf.len())
@@ -25,7 +25,7 @@ impl Write for Shown<'_> {
     }
 }
 
-impl IsTerminal for Shown<'_> {
+impl IsTerminal for Shown {
     fn is_terminal(&self) -> bool {
         self.is_terminal
     }
@@ -61,26 +61,26 @@ impl Clock for Leaping {
 /// Shows on a terminal, once, how far a run in threads is when all its calls have begun, and then tells its gate.
 #[derive(Drop)]
 pub struct AllBegun<'a> {
-    seen: Seen<'a, Leaping, Shown<'a>>,
+    seen: Seen<'a, Leaping, Shown>,
     gate: &'a UntilTold,
 }
 
 impl<'a> AllBegun<'a> {
     /// Nothing was shown.
-    pub fn new(
-        alloc: Global,
-        clock: &'a Leaping,
-        gate: &'a UntilTold,
-        text: &'a mut Vec<u8>,
-    ) -> AllBegun<'a> {
+    pub fn new(alloc: Global, clock: &'a Leaping, gate: &'a UntilTold) -> AllBegun<'a> {
         let shown = Shown {
-            text,
+            text: Vec::new(alloc),
             is_terminal: true,
         };
         AllBegun {
             seen: Seen::of(&[], alloc, clock, shown),
             gate,
         }
+    }
+
+    /// What was shown.
+    pub fn into_text(self) -> Vec<u8> {
+        self.seen.into_writer().text
     }
 }
 

@@ -1,5 +1,6 @@
 -- What a process ends with.
-use Rattle.std.proofs.Common.{◌≡◌, ℕ, List, Option, Result, Ok, IfOk, subst, sym}
+use Rattle.std.proofs.Common.{◌≡◌, ℕ, List, Option, Result, Ok, Err, IfOk, subst, sym}
+use Rattle.std.specs.Prelude.{IfErr}
 use Rattle.mpx_program.specs.Jobs.{Tells}
 use Rattle.mpx_program.specs.declared.job.Exit.{Exit}
 use Rattle.mpx_shell.specs.Answers.{EndsBy}
@@ -16,3 +17,6 @@ ends_by Does words now old new exit status same does ends = record {
 -- of a result that is the value
 pub if_ok : {T E : Type 0} (result : Result T E) (value : T) (Holds : T → Type 0) → result ≡ Ok value → Holds value → IfOk result Holds
 if_ok result value Holds is holds = subst (λ r. IfOk r Holds) (sym is) holds
+
+pub if_err : {T E : Type 0} (result : Result T E) (error : E) (Holds : E → Type 0) → result ≡ Err error → Holds error → IfErr result Holds
+if_err result error Holds is holds = subst (λ r. IfErr r Holds) (sym is) holds

@@ -10,6 +10,7 @@ ghost use Rattle.mpx_shell.specs.Answers.{Answers, EndsBy};
 use crate::answering::{answer, answer_in_threads};
 use crate::seen::Seen;
 use mpx_program::{ask_for_threads, refuse};
+use mpx_sim::Observer;
 use mpx_words::not_text;
 use std::alloc::{AllocError, Global};
 use std::io::{IsTerminal, Read, Write};
@@ -28,26 +29,30 @@ pub fn words_of(rt: &HostRuntime) -> Result<Vec<String>, clap::Error> {
     }
 }
 
-/// Answers a call with these words, and gives its status as the process's. What fails on the standard error is let go: the status stands. A run is
-/// shown on `shown` as it goes, by what the words ask for, with the times of `clock`.
+/// Who looks on, by what these words ask for.
+pub fn seen_by<'a, C: Clock, S: Write + IsTerminal>(
+    words: &Result<Vec<String>, clap::Error>,
+    alloc: Global,
+    clock: &'a C,
+    out: S,
+) -> Seen<'a, C, S> {
+    match words {
+        Ok(words) => Seen::of(words, alloc, clock, out),
+        Err(_) => Seen::of(&[], alloc, clock, out),
+    }
+}
+
+/// Answers a call with these words, and gives its status as the process's. What fails on the standard error is let go: the status stands.
 ///
 /// Only words that ask for a run in threads go by functions that may wait. It has their bound `Wait` itself, so it owes no return.
-pub fn exit_code<
-    T: Threads + Wait + Sync,
-    C: Clock,
-    R: Read,
-    W: Write,
-    E: Write,
-    S: Write + IsTerminal + Drop,
->(
+pub fn exit_code<T: Threads + Wait + Sync, R: Read, W: Write, E: Write>(
     rt: &T,
     alloc: Global,
-    clock: &C,
     words: &Result<Vec<String>, clap::Error>,
     reader: &mut R,
     out: &mut W,
     err: &mut E,
-    shown: S,
+    observer: &mut dyn Observer,
 ) -> ExitCode
     ensures answers { IfOk words.now (λ words. EndsBy (Answers IsPrinted (map string_bytes words.items) (R.remaining reader.old) (R.remaining reader.new) (W.contents out.old) (W.contents out.new)) (E.contents err.old) (E.contents err.new) (exit_status result)) }
     ensures founded { IfOk words.now (λ words. EndsBy (Answers IsFounded (map string_bytes words.items) (R.remaining reader.old) (R.remaining reader.new) (W.contents out.old) (W.contents out.new)) (E.contents err.old) (E.contents err.new) (exit_status result)) }
@@ -57,12 +62,11 @@ pub fn exit_code<
 {
     match words {
         Ok(words) => {
-            let mut seen = Seen::of(words, alloc, clock, shown);
             if ask_for_threads(words) {
-                let exit = answer_in_threads(rt, alloc, words, reader, out, err, &mut seen);
+                let exit = answer_in_threads(rt, alloc, words, reader, out, err, observer);
                 return ExitCode::from(exit.status);
             }
-            ExitCode::from(answer(rt, alloc, words, reader, out, err, &mut seen).status)
+            ExitCode::from(answer(rt, alloc, words, reader, out, err, observer).status)
         }
         Err(why) => ExitCode::from(refuse(why, err).status),
     }

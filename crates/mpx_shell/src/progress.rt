@@ -30,6 +30,11 @@ impl<'a, C: Clock, S: Write + IsTerminal> HowFar<'a, C, S> {
         }
     }
 
+    /// Gives the writer back.
+    pub(crate) fn into_writer(self) -> S {
+        self.out
+    }
+
     // Whether it is time to tell something: never where it tells nothing.
     fn is_due(&self) -> bool
         ensures { self.now.last ≡ None → result ≡ false }

@@ -30,6 +30,15 @@ impl<'a, C: Clock, S: Write + IsTerminal> Seen<'a, C, S> {
             Seen::Progress(HowFar::new(clock, out))
         }
     }
+
+    /// Gives the writer back.
+    pub fn into_writer(self) -> S {
+        match self {
+            Seen::Lines(trace) => trace.into_writer(),
+            Seen::Rows(table) => table.into_writer(),
+            Seen::Progress(far) => far.into_writer(),
+        }
+    }
 }
 
 impl<C: Clock, S: Write + IsTerminal + Drop> Observer for Seen<'_, C, S> {
