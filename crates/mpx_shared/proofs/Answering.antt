@@ -1,68 +1,23 @@
--- What a lawful port answers a ticket.
-use Rattle.std.proofs.Common.{◌≡◌, ℕ, List, true, false, Option, None, Some, slice_get, sym, ap, ◌∙◌, subst, true≢false}
-use Rattle.std.specs.Prelude.{Result, Ok, Err, OnErr}
-use Rattle.std.proofs.lemmas.Option.{same_Some}
+-- What a held port answers a ticket, at a moment of the call.
+use Rattle.std.proofs.Common.{◌≡◌, ℕ, List, sym, subst}
+use Rattle.std.specs.Prelude.{Result, Ok, Err, IfOk, OnErr}
 use Rattle.atomic_table.specs.Seated.{TableId}
-use Rattle.mpx_post.specs.Posts.{Given}
-use Rattle.mpx_post.specs.Equality.{same_given, given_equality}
-use Rattle.mpx_board.specs.Boards.{Look, told}
-use Rattle.mpx_node.specs.declared.finished.Finished.{Finished}
-use Rattle.mpx_node.specs.Nodes.{NodeView, results_on}
+use Rattle.join_core.specs.declared.memory.OutOfMemory.{OutOfMemory}
+use Rattle.mpx_name.specs.Name.{Name}
 use Rattle.mpx_bus.specs.declared.act.Act.{Act}
 use Rattle.mpx_bus.specs.declared.act.Setup.{Setup}
-use Rattle.mpx_bus.specs.Ports.{PortView, node_in}
-use Rattle.mpx_shared.specs.declared.ticket.Ticket.{Ticket}
-use Rattle.mpx_shared.specs.declared.ticket.TicketTested.{TicketTested}
-use Rattle.mpx_shared.specs.declared.ticket.TicketTested.TheVariants as T
+use Rattle.mpx_bus.specs.Ports.{PortView}
+use Rattle.mpx_ticket.specs.declared.ticket.Ticket.{Ticket}
+use Rattle.mpx_ticket.specs.declared.ticket.TicketTested.{TicketTested}
+use Rattle.mpx_ticket.specs.Tickets.{HoldsAnswer, IsAnswer}
 use Rattle.mpx_shared.specs.LawfulPorts.{HasGoneOn, IsLawful}
-use Rattle.mpx_shared.specs.Tickets.{AnswersTicket, HoldsAnswer, IsAnswer, own_post}
-use Rattle.mpx_shared.proofs.LawfulPorts.{lawful_mine}
-use Rattle.mpx_shared.proofs.Standing.{own_on_board}
+use Rattle.mpx_shared.specs.Tickets.{AnswersTicket, HeldAnswer}
 
--- two posts that differ
-not_same : (x y : Given) (o : Option Given) → o ≡ Some x → same_given x y ≡ false → o ≡ Some y → ⊥
-not_same x y o is differ e =
-    let same : x ≡ y = same_Some x y (sym is ∙ e) in
-    let t : same_given x y ≡ true = subst (λ (z : Given). same_given x z ≡ true) same (given_equality.reflexive x) in
-    true≢false (sym t ∙ differ)
+module _ {table : TableId} {setup : Setup} {me : ℕ} {opening : List Act} (port : PortView) (ticket : Ticket) (lawful : IsLawful table setup me port) (since : HasGoneOn setup me opening port) where
+  pub answers_then : (r : Result TicketTested OutOfMemory) → IfOk r (λ tested. IsAnswer port ticket tested) → IfOk r (λ tested. AnswersTicket table setup me opening ticket tested)
+  answers_then (Ok tested) answer = record { port = port; lawful = lawful; gone_on = since; answer = answer }
+  answers_then (Err e) answer = tt
 
-none_no : (x : Given) (o : Option Given) → o ≡ None → o ≡ Some x → ⊥
-none_no x o is e = let f : None ≡ Some x = sym is ∙ e in absurd (cc f)
-
-pub on_err : {A E : Type 0} {P : Type 0} (r : Result A E) → P → OnErr r P
-on_err (Ok x) p = tt
-on_err (Err e) p = p
-
--- so the port answers at a moment of the call
-pub answers_then : {table : TableId} {setup : Setup} {me : ℕ} {opening : List Act} (port : PortView) (ticket : Ticket) (tested : TicketTested) → IsLawful table setup me port → HasGoneOn setup me opening port → IsAnswer port ticket tested → AnswersTicket table setup me opening ticket tested
-answers_then port ticket tested lawful since answer = record { port = port; lawful = lawful; gone_on = since; answer = answer }
-
-module _ {table : TableId} {setup : Setup} {me : ℕ} (port : PortView) (ticket : Ticket) (n : NodeView) (d : IsLawful table setup me port) (here : n ≡ node_in port) where
-  held_in : (o : Option Finished) → slice_get (results_on n ticket.name) ticket.call ≡ o → slice_get (results_on (node_in port) ticket.name) ticket.call ≡ o
-  held_in o e = ap (λ (x : NodeView). slice_get (results_on x ticket.name) ticket.call) (sym here) ∙ e
-
-  pub answer_other : (f : Finished) → slice_get (results_on n ticket.name) ticket.call ≡ Some f → same_given f.mine ticket.post ≡ false → IsAnswer port ticket T.Strange
-  answer_other f held differ e = not_same f.mine ticket.post (own_post port ticket) (lawful_mine table setup me port ticket.name ticket.call f d (held_in (Some f) held)) differ e
-
-  pub answer_done : (f copy : Finished) → slice_get (results_on n ticket.name) ticket.call ≡ Some f → same_given f.mine ticket.post ≡ true → copy ≡ f → IsAnswer port ticket (T.Done copy)
-  answer_done f copy held same is = (held_in (Some f) held ∙ ap Some (sym is), ap (λ (x : Finished). x.mine) is ∙ given_equality.sound f.mine ticket.post same)
-
-  -- a result of which no copy was had
-  pub answer_held : (f : Finished) → slice_get (results_on n ticket.name) ticket.call ≡ Some f → same_given f.mine ticket.post ≡ true → HoldsAnswer port ticket
-  answer_held f held same = record { finished = f; held = held_in (Some f) held; mine = given_equality.sound f.mine ticket.post same }
-
-  module _ (b : Look) (who : ℕ) (none : slice_get (results_on n ticket.name) ticket.call ≡ None) (board : b ≡ n.board) (who_is : who ≡ me) where
-    own_is : (o : Option Given) → o ≡ told ((b.contexts ticket.name).posts ticket.call who) → own_post port ticket ≡ o
-    own_is o e =
-        own_on_board port.setup port.me port.journal d.stood ticket.name ticket.call (held_in None none)
-        ∙ ap (λ (x : Look × ℕ). told ((x.0.contexts ticket.name).posts ticket.call x.1)) (λ i. (sym (board ∙ ap (λ (x : NodeView). x.board) here) i, sym (who_is ∙ sym d.me_is) i))
-        ∙ sym e
-
-    pub answer_unknown : None ≡ told ((b.contexts ticket.name).posts ticket.call who) → IsAnswer port ticket T.Strange
-    answer_unknown e f = none_no ticket.post (own_post port ticket) (own_is None e) f
-
-    pub answer_kept : (x : Given) → Some x ≡ told ((b.contexts ticket.name).posts ticket.call who) → same_given x ticket.post ≡ false → IsAnswer port ticket T.Strange
-    answer_kept x e differ f = not_same x ticket.post (own_post port ticket) (own_is (Some x) e) differ f
-
-    pub answer_not_yet : (x : Given) → Some x ≡ told ((b.contexts ticket.name).posts ticket.call who) → same_given x ticket.post ≡ true → IsAnswer port ticket T.NotYet
-    answer_not_yet x e same = (own_is (Some x) e ∙ ap Some (given_equality.sound x ticket.post same), held_in None none)
+  pub answer_wanted : (r : Result TicketTested OutOfMemory) → OnErr r (HoldsAnswer port ticket) → OnErr r (HeldAnswer table setup me opening ticket)
+  answer_wanted (Ok tested) holds = tt
+  answer_wanted (Err e) holds = record { port = port; lawful = lawful; gone_on = since; holds = holds }

@@ -24,8 +24,8 @@ use Rattle.mpx_bus.specs.declared.port.Push.{Push}
 use Rattle.mpx_bus.specs.Answers.{HarvestsOne, PushesNext}
 use Rattle.mpx_bus.specs.Ports.{PortView, PortGoesOn, KeepsPlan, node_in}
 use Rattle.mpx_bus.specs.Rule.{Stood}
-use Rattle.mpx_shared.specs.declared.ticket.Pull.{Pull}
-use Rattle.mpx_shared.specs.declared.ticket.Pull.TheVariants as L
+use Rattle.mpx_shared.specs.declared.pull.Pull.{Pull}
+use Rattle.mpx_shared.specs.declared.pull.Pull.TheVariants as L
 use Rattle.mpx_shared.specs.LawfulPorts.{IsListedContext, IsHeldPort, MakesNoPost}
 use Rattle.mpx_shared.specs.Gossip.{HarvestsAndPrunes, PortHarvestsNext, IsHarvestOrPruning, Prunes, Pulls, Puts, Settles, SettlesAll, SettlesEach, WantsResult, frame_limit, has_next}
 use Rattle.mpx_shared.specs.Turns.{PullsThen, PutsThen, Sufficed}

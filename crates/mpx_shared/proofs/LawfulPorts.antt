@@ -39,10 +39,10 @@ use Rattle.mpx_bus.proofs.Goes.{NoPosts, goes_itself, goes_then, made_more, two_
 use Rattle.mpx_shared.specs.LawfulPorts.{AreAllSince, HasGoneOn, IsLawful, IsListedContext, IsHeldPort, IsNext, MakesNoPost, is_closed, living, made_at, made_in, next_call, planned_birth, with_context}
 use Rattle.mpx_shared.specs.Laws.{IsBirthByPlan, IsFinished}
 use Rattle.mpx_shared.specs.Tickets.{GathersOne, PostsThen}
-use Rattle.mpx_shared.specs.declared.ticket.Ticket.{Ticket}
+use Rattle.mpx_ticket.specs.declared.ticket.Ticket.{Ticket}
 use Rattle.mpx_shared.proofs.Dying.{gone_after, listed_living}
 use Rattle.mpx_shared.proofs.Plans.{operations_of, plan_births, prefix_itself, prefix_next, prefix_take, prefix_then, ranks_of}
-use Rattle.mpx_shared.proofs.Standing.{checked_parts, gone_stored, own_beside, own_stored, stood_birth, stood_good, stood_member, stood_value, within}
+use Rattle.mpx_ticket.proofs.Standing.{checked_parts, gone_stored, own_beside, own_stored, stood_birth, stood_good, stood_member, stood_value, within}
 
 -- NO POSTS
 

@@ -1,5 +1,4 @@
 pub mod Plans
-pub mod Standing
 pub mod Dying
 pub mod LawfulPorts
 pub mod Gossiping

@@ -21,7 +21,7 @@ use Rattle.mpx_bus.proofs.Journals.{after-append}
 use Rattle.mpx_shared.specs.Gossip.{HasDropped, Prunes, dropped_on, is_past}
 use Rattle.mpx_shared.proofs.LawfulPorts.{made_same}
 use Rattle.mpx_shared.proofs.Gossiping.{nothing_done, prunes_one}
-use Rattle.mpx_shared.proofs.Standing.{floor_low, stood_unfreed}
+use Rattle.mpx_ticket.proofs.Standing.{floor_low, stood_unfreed}
 
 -- where no floor passes what is dropped, and none is past a free
 pub prunes_none : (name : Name) (a : PortView) → HasDropped name a → Prunes name a a

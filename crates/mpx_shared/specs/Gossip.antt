@@ -11,8 +11,8 @@ use Rattle.mpx_bus.specs.declared.port.Pop.TheVariants as O
 use Rattle.mpx_bus.specs.declared.port.Push.{Push}
 use Rattle.mpx_bus.specs.Answers.{PopsOne, PushesNext, TakesIn}
 use Rattle.mpx_bus.specs.Ports.{PortView, node_in}
-use Rattle.mpx_shared.specs.declared.ticket.Pull.{Pull}
-use Rattle.mpx_shared.specs.declared.ticket.Pull.TheVariants as L
+use Rattle.mpx_shared.specs.declared.pull.Pull.{Pull}
+use Rattle.mpx_shared.specs.declared.pull.Pull.TheVariants as L
 use Rattle.mpx_shared.specs.LawfulPorts.{IsListedContext, MakesNoPost}
 
 -- HARVESTS AND PRUNINGS

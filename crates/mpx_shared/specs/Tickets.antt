@@ -15,9 +15,9 @@ use Rattle.mpx_bus.specs.declared.act.Setup.{Setup}
 use Rattle.mpx_bus.specs.declared.act.Act.{Act}
 use Rattle.mpx_bus.specs.declared.act.Act.TheVariants as A
 use Rattle.mpx_bus.specs.Ports.{PortView, PortGoes, node_in}
-use Rattle.mpx_shared.specs.declared.ticket.Ticket.{Ticket}
-use Rattle.mpx_shared.specs.declared.ticket.TicketTested.{TicketTested}
-use Rattle.mpx_shared.specs.declared.ticket.TicketTested.TheVariants as T
+use Rattle.mpx_ticket.specs.declared.ticket.Ticket.{Ticket}
+use Rattle.mpx_ticket.specs.declared.ticket.TicketTested.{TicketTested}
+use Rattle.mpx_ticket.specs.Tickets.{HoldsAnswer, IsAnswer}
 use Rattle.mpx_shared.specs.LawfulPorts.{HasGoneOn, IsLawful, MakesNoPost, made_in}
 
 -- the number of the ticket's call, or the refusal
@@ -28,10 +28,6 @@ call_of (Err refusal) = Err refusal
 -- the ticket has this name, and the post that the draft comes to
 abbrev pub IsTicketOf : Name → Result Given PostError → Result Ticket PostError → Type 0
 IsTicketOf name checked result = IfOk result (λ ticket. (ticket.name ≡ name) × (checked ≡ Ok ticket.post))
-
--- the ticket of the next post on the context, the draft's, by a node
-abbrev pub IsNextTicket : List Operation → NodeView → Name → Draft → Ticket → Type 0
-IsNextTicket ops node name draft ticket = (ticket.name ≡ name) × ((ticket.call ≡ posted_on node name) × (checked_on ops node name draft ≡ Ok ticket.post))
 
 -- the post stands in the journal as the one act of the call; a refusal leaves the port as it was
 abbrev pub PostsOne : Name → Draft → Result Ticket PostError → PortView → PortView → Type 0
@@ -52,29 +48,12 @@ pub record PostsThen (table : TableId) (setup : Setup) (me : ℕ) (opening : Lis
   pub acts : PostsOne name draft result before after
   pub kept : after.kept ≡ before.kept
 
--- the post that the port made as the ticket's call, where it did
-abbrev pub own_post : PortView → Ticket → Option Given
-own_post port ticket = slice_get (posts_on ticket.name (made_in port)) ticket.call
-
--- the stored result of the ticket's call, beside the ticket's post; or the ticket's post is made and has no result yet; or the
--- port has made another post there, or none
-abbrev pub IsAnswer : PortView → Ticket → TicketTested → Type 0
-IsAnswer port ticket (T.Done finished) = (slice_get (results_on (node_in port) ticket.name) ticket.call ≡ Some finished) × (finished.mine ≡ ticket.post)
-IsAnswer port ticket T.NotYet = (own_post port ticket ≡ Some ticket.post) × (slice_get (results_on (node_in port) ticket.name) ticket.call ≡ None)
-IsAnswer port ticket T.Strange = own_post port ticket ≢ Some ticket.post
-
 -- the port answered the ticket so
 pub record AnswersTicket (table : TableId) (setup : Setup) (me : ℕ) (opening : List Act) (ticket : Ticket) (tested : TicketTested) : Type 0 where
   pub port : PortView
   pub lawful : IsLawful table setup me port
   pub gone_on : HasGoneOn setup me opening port
   pub answer : IsAnswer port ticket tested
-
--- the stored result of the ticket's call, beside the ticket's post
-pub record HoldsAnswer (port : PortView) (ticket : Ticket) : Type 0 where
-  pub finished : Finished
-  pub held : slice_get (results_on (node_in port) ticket.name) ticket.call ≡ Some finished
-  pub mine : finished.mine ≡ ticket.post
 
 -- the port held a result that answers the ticket
 pub record HeldAnswer (table : TableId) (setup : Setup) (me : ℕ) (opening : List Act) (ticket : Ticket) : Type 0 where

@@ -7,8 +7,8 @@ use Rattle.mpx_bus.specs.declared.act.Act.{Act}
 use Rattle.mpx_bus.specs.declared.act.Setup.{Setup}
 use Rattle.mpx_bus.specs.declared.port.Push.{Push}
 use Rattle.mpx_bus.specs.Ports.{PortView}
-use Rattle.mpx_shared.specs.declared.ticket.Pull.{Pull}
-use Rattle.mpx_shared.specs.declared.ticket.Pull.TheVariants as L
+use Rattle.mpx_shared.specs.declared.pull.Pull.{Pull}
+use Rattle.mpx_shared.specs.declared.pull.Pull.TheVariants as L
 use Rattle.mpx_shared.specs.LawfulPorts.{AreAllSince, HasGoneOn, IsLawful, MakesNoPost}
 use Rattle.mpx_shared.specs.Gossip.{Pulls, Puts}
 

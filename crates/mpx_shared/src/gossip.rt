@@ -7,7 +7,7 @@ ghost use Rattle.mpx_bus.specs.Buses.{table_of};
 ghost use Rattle.mpx_shared.specs.LawfulPorts.{MakesNoPost};
 ghost use Rattle.mpx_shared.specs.Gossip.{HarvestsAndPrunes, PortHarvestsNext, Prunes, Pulls, Settles, SettlesAll, SettlesEach, WantsResult, has_next};
 
-use crate::ticket::Pull;
+use crate::pull::Pull;
 use join_core::OutOfMemory;
 use mpx_bus::{Bus, Pop, Port};
 use mpx_name::Name;

@@ -1,20 +1,20 @@
 //! A port under its lock.
 ghost use Rattle.std.specs.Prelude.{◌≡◌, ◌+◌, ◌<◌, [], ◌∷◌, ◌++◌, length, is_some, IfOk, IsTrue, OnOk, OnErr};
 ghost use Rattle.mpx_node.specs.Nodes.{Opens, Posts, checked_on, gathers_on};
-ghost use Rattle.mpx_bus.specs.declared.act.Act.TheVariants as A;
 ghost use Rattle.mpx_bus.specs.Answers.{PushesNext};
 ghost use Rattle.mpx_bus.specs.Ports.{PortGoes, node_in};
 ghost use Rattle.mpx_bus.specs.Buses.{table_of};
+ghost use Rattle.mpx_ticket.specs.Tickets.{HoldsAnswer, IsAnswer};
 ghost use Rattle.mpx_shared.specs.LawfulPorts.{HasGoneOn, IsLawful, IsNext, MakesNoPost, made_in};
 ghost use Rattle.mpx_shared.specs.Gossip.{Pulls, frame_limit};
-ghost use Rattle.mpx_shared.specs.Tickets.{AnswersTicket, HeldAnswer, HoldsAnswer, IsAnswer, OpensThen, PostsThen, TellsBirth, TellsClosed, ToldBirth, birth_on, call_of};
+ghost use Rattle.mpx_shared.specs.Tickets.{AnswersTicket, HeldAnswer, OpensThen, PostsThen, TellsBirth, TellsClosed, ToldBirth, birth_on, call_of};
 ghost use Rattle.mpx_shared.specs.Turns.{PullsThen, PutsThen};
 
 use crate::contexts::{add_context, leave_dead, new_context};
 use crate::fingerprint::fingerprint;
 use crate::gossip::pull_on;
 use crate::port_lock::PortLock;
-use crate::ticket::{Pull, Ticket, TicketTested, ticket_for};
+use crate::pull::Pull;
 use join_core::{Exact, OutOfMemory};
 use mpx_birth::Birth;
 use mpx_bus::{Bus, Port, Push};
@@ -22,6 +22,7 @@ use mpx_group::Proc;
 use mpx_name::Name;
 use mpx_num::{Listing, Ops};
 use mpx_post::{Draft, PostError};
+use mpx_ticket::{Ticket, TicketTested, answer_to, post_counted, ticket_for};
 use std::alloc::Global;
 use std::marker::Model;
 use std::sync::Wait;
@@ -117,20 +118,9 @@ impl<L: PortLock> HeldPort<L> {
         ensures then { IfOk result (λ tested. AnswersTicket L.table L.setup L.me L.opening ticket.now tested) }
         ensures wanted { OnErr result (HeldAnswer L.table L.setup L.me L.opening ticket.now) }
     {
-        let node = self.port.node();
-        if let Some(finished) = node.result(&ticket.name, ticket.call) {
-            if !finished.mine.same(&ticket.post) {
-                return Ok(TicketTested::Strange);
-            }
-            return Ok(TicketTested::Done(finished.copy(alloc)?));
-        }
-        let Some(mine) = node.board().holds(&ticket.name, ticket.call, self.me) else {
-            return Ok(TicketTested::Strange);
-        };
-        if !mine.same(&ticket.post) {
-            return Ok(TicketTested::Strange);
-        }
-        Ok(TicketTested::NotYet)
+        // so that the proof knows that the port stands where its journal says
+        let _node = self.port.node();
+        answer_to(alloc, &self.port, self.me, ticket)
     }
 
     /// Opens a gathering, as [`Port::open_gathering`] does, with its refusals. An `Err` leaves all as before.
@@ -245,30 +235,4 @@ impl<L: PortLock> HeldPort<L> {
         let _node = port.node();
         port
     }
-}
-
-// Makes the post, and counts it.
-fn post_counted<L: PortLock>(
-    alloc: Global,
-    port: &mut Port,
-    book: &mut Book<L>,
-    share: &mut Share<L>,
-    name: &Name,
-    draft: Draft,
-    ops: &Ops,
-) -> Result<u32, PostError>
-    requires list { ⟦<Ops as Listing>⟧.operations ops.now ≡ port.old.setup.operations }
-    requires some { 0 < share.old.parts }
-    ensures port { PortGoes port.old port.new }
-    ensures kept { port.new.kept ≡ port.old.kept }
-    ensures parts { share.new.parts ≡ share.old.parts }
-    ensures ok { OnOk result (port.new.journal ≡ port.old.journal ++ A.Posted name.now draft ∷ []) }
-    ensures counted { OnOk result ((book.new.total ≡ book.old.total + 1) × (share.new.amount ≡ share.old.amount + 1)) }
-    ensures err { OnErr result (port.new ≡ port.old) }
-    ensures uncounted { OnErr result ((book.new.total ≡ book.old.total) × (share.new.amount ≡ share.old.amount)) }
-    ensures node { Posts name.now (checked_on port.old.setup.operations (node_in port.old) name.now draft) result (node_in port.old) (node_in port.new) }
-{
-    let call = port.post(alloc, name, draft, ops)?;
-    book.add(share, 1);
-    Ok(call)
 }

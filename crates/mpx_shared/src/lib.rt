@@ -7,11 +7,12 @@ mod gossip;
 mod held_port;
 mod laws;
 mod port_lock;
+mod pull;
 mod shared;
-mod ticket;
 
 pub use held_port::HeldPort;
 pub use laws::{lawful_ports_hold_what_is_so, new_ports_are_lawful};
+pub use mpx_ticket::{Ticket, TicketTested};
 pub use port_lock::PortLock;
+pub use pull::Pull;
 pub use shared::{Poster, SharedPort};
-pub use ticket::{Pull, Ticket, TicketTested};

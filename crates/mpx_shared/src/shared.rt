@@ -7,7 +7,7 @@ ghost use Rattle.mpx_shared.specs.Turns.{PullsThen, PutsThen, TurnsThen};
 
 use crate::held_port::HeldPort;
 use crate::port_lock::PortLock;
-use crate::ticket::{Pull, Ticket, TicketTested};
+use crate::pull::Pull;
 use join_core::OutOfMemory;
 use mpx_birth::Birth;
 use mpx_bus::{Bus, Port, Push};
@@ -15,6 +15,7 @@ use mpx_group::Proc;
 use mpx_name::Name;
 use mpx_num::{Listing, Ops};
 use mpx_post::{Draft, PostError};
+use mpx_ticket::{Ticket, TicketTested};
 use std::alloc::Global;
 use std::sync::ledger::{Blank, Share};
 use std::sync::{Mutex, Wait};

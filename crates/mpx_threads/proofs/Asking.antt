@@ -9,9 +9,9 @@ use Rattle.mpx_value.specs.Histories.{answer_with, born_by}
 use Rattle.mpx_node.specs.declared.finished.Finished.{Finished}
 use Rattle.mpx_bus.specs.declared.act.Act.{Act}
 use Rattle.mpx_bus.specs.declared.act.Setup.{Setup}
-use Rattle.mpx_shared.specs.declared.ticket.Ticket.{Ticket}
-use Rattle.mpx_shared.specs.declared.ticket.TicketTested.{TicketTested}
-use Rattle.mpx_shared.specs.declared.ticket.TicketTested.TheVariants.{Done}
+use Rattle.mpx_ticket.specs.declared.ticket.Ticket.{Ticket}
+use Rattle.mpx_ticket.specs.declared.ticket.TicketTested.{TicketTested}
+use Rattle.mpx_ticket.specs.declared.ticket.TicketTested.TheVariants.{Done}
 use Rattle.mpx_shared.specs.Laws.{IsPlannedResult}
 use Rattle.mpx_shared.specs.Tickets.{AnswersTicket, TellsBirth}
 use Rattle.mpx_shared.proofs.LawfulPorts.{lawful_birth, lawful_result}

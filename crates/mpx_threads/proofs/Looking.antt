@@ -7,7 +7,7 @@ use Rattle.mpx_post.specs.declared.draft.PostError.{PostError}
 use Rattle.mpx_value.specs.Histories.{Made}
 use Rattle.mpx_bus.specs.declared.act.Setup.{Setup}
 use Rattle.mpx_rank.specs.Carriers.{placed}
-use Rattle.mpx_shared.specs.declared.ticket.Ticket.{Ticket}
+use Rattle.mpx_ticket.specs.declared.ticket.Ticket.{Ticket}
 use Rattle.mpx_threads.specs.ToldCalls.{PostsAs, Tried, first_posts, place_of, planned_birth}
 
 -- as many posts were made as before, where the context came to be

@@ -26,12 +26,12 @@ use Rattle.mpx_bus.specs.Ports.{PortView, node_in, process_in}
 use Rattle.mpx_statement.specs.declared.statement.Posting.{Posting}
 use Rattle.mpx_statement.specs.Statements.{Gathers, draft_of, gathers_of}
 use Rattle.mpx_meaning.specs.Ranks.{attempt_in, made_on, next_call, post_gathered, post_on}
-use Rattle.mpx_shared.specs.declared.ticket.Ticket.{Ticket}
+use Rattle.mpx_ticket.specs.declared.ticket.Ticket.{Ticket}
 use Rattle.mpx_shared.specs.LawfulPorts.{IsLawful, IsNext, made_in}
 use Rattle.mpx_shared.specs.Tickets.{OpensThen, PostsThen, TellsClosed}
 use Rattle.mpx_shared.proofs.LawfulPorts.{lawful_birth, lawful_member, lawful_posts}
 use Rattle.mpx_shared.proofs.Plans as P
-use Rattle.mpx_shared.proofs.Standing.{stood_good}
+use Rattle.mpx_ticket.proofs.Standing.{stood_good}
 use Rattle.mpx_threads.specs.ToldCalls.{CallComesTo, IsNextGathered, IsNextIn, Tried, first_posts, planned_birth}
 
 -- what a draft and a gathering come to on an opened context

@@ -18,7 +18,7 @@ use Rattle.mpx_meaning.specs.Evaluation.{IsPrefixOf}
 use Rattle.mpx_node.specs.Nodes.{NodeView, results_on}
 use Rattle.mpx_bus.specs.declared.act.Setup.{Setup}
 use Rattle.mpx_bus.specs.Rule.{planned_posts}
-use Rattle.mpx_shared.specs.declared.ticket.Ticket.{Ticket}
+use Rattle.mpx_ticket.specs.declared.ticket.Ticket.{Ticket}
 pub use Rattle.mpx_shared.specs.LawfulPorts.{planned_birth}
 use Rattle.mpx_rank.specs.Answered.{answer_of}
 use Rattle.mpx_rank.specs.Carriers.{IsToldWithin, Terms, outcomes_of, placed}
