@@ -5,6 +5,7 @@
 
 mod deltas;
 mod finished;
+mod harvesting;
 mod node;
 mod opened;
 mod opening;
