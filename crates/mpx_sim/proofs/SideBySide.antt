@@ -207,9 +207,13 @@ ready_same old new same ahead last h =
     subst (λ (v : ProcessView). AreMade v.node new.notes.ahead new.notes.last) (sym same)
     (subst (λ a. AreMade (process_of old).node a new.notes.last) (sym ahead) (subst (λ l. AreMade (process_of old).node old.notes.ahead l) (sym last) h))
 
--- none are made
+-- none are made ahead
+pub none_ahead : (node : NodeView) (ahead : Option NewFrames) (last : Option (List ℕ)) → ahead ≡ None → IfSome last (λ frame. AreLacked 1048576 node (frame ∷ [])) → AreMade node ahead last
+none_ahead node ahead last a l = subst (λ x. AreMade node x last) (sym a) (tt, l)
+
+-- and none is kept
 pub none_made : (node : NodeView) (ahead : Option NewFrames) (last : Option (List ℕ)) → ahead ≡ None → last ≡ None → AreMade node ahead last
-none_made node ahead last a l = subst (λ x. AreMade node x last) (sym a) (subst (λ x. AreMade node None x) (sym l) (tt, tt))
+none_made node ahead last a l = none_ahead node ahead last a (subst (λ x. IfSome x (λ frame. AreLacked 1048576 node (frame ∷ []))) (sym l) tt)
 
 -- a frame is kept that is all of its list
 pub kept_made : (node : NodeView) (list : List (List ℕ)) (last : Option (List ℕ)) → AreLacked 1048576 node list → IfSome last (λ frame. list ≡ frame ∷ []) → IfSome last (λ frame. AreLacked 1048576 node (frame ∷ []))

@@ -168,7 +168,8 @@ impl<'a> Process<'a> {
         }
         let list = new_list(alloc, &mut self.carrier.node, ahead, &mut self.notes.spare)?;
         self.sender.sends(turn, list.len());
-        self.notes.last = kept_of(alloc, &list, keeps)?;
+        let last = kept_of(alloc, list.as_slice(), keeps)?;
+        self.notes.last = last;
         Ok(list)
     }
 

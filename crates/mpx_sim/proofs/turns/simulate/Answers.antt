@@ -103,10 +103,10 @@ exchange-requires g c =
     subst AreReady (sym same ∙ sym c.deref_mut-in-loop-number-2.ensures.value) before
 
 pub first-requires-clause-ready : goal.first-requires-clause-ready
-first-requires-clause-ready g c = subst AreReady (sym c.deref_mut.ensures.value) c.in_ok-processes.ensures.ready
+first-requires-clause-ready g c κs within = subst AreReady (sym c.deref_mut.ensures.value) c.in_ok-processes.ensures.ready
 
 pub go_further-requires-clause-ready : goal.go_further-requires-clause-ready
-go_further-requires-clause-ready g c =
+go_further-requires-clause-ready g c κs within =
     let len = c.loop-number.processes.len in
     let lent-2 = c.deref_mut-in-loop-number-2.ensures in
     let lent-3 = c.deref_mut-in-loop-number-3.ensures in

@@ -7,10 +7,10 @@ use Rattle.mpx_sim.proofs.process.Process.take_then_step.Goals as goal
 pub returns-then-is_some-clause-goes : goal.returns-then-is_some-clause-goes
 returns-then-is_some-clause-goes g c =
     let mid = process_of c.receive_all.new.self in
-    goes_same _ c.args.ranks c.args.place (taken c.args.place c.args.turn c.args.frames.now (process_of c.args.self.now)) mid mid mid c.in_ok-receive_all.ensures refl (goes_itself _ c.args.ranks c.args.place mid)
+    goes_same _ c.args.ranks c.args.place (taken c.args.place c.args.turn c.args.frames.now (process_of c.args.self.now)) mid mid mid c.in_ok-receive_all.ensures.took refl (goes_itself _ c.args.ranks c.args.place mid)
 
 pub returns-clause-goes : goal.returns-clause-goes
 returns-clause-goes g c =
     let mid = process_of c.receive_all.new.self in
     let new = process_of c.step.new.self in
-    goes_same _ c.args.ranks c.args.place (taken c.args.place c.args.turn c.args.frames.now (process_of c.args.self.now)) mid new new c.in_ok-receive_all.ensures refl c.in_ok-changed.ensures
+    goes_same _ c.args.ranks c.args.place (taken c.args.place c.args.turn c.args.frames.now (process_of c.args.self.now)) mid new new c.in_ok-receive_all.ensures.took refl c.in_ok-changed.ensures
