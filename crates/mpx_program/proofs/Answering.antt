@@ -31,7 +31,7 @@ kept (Some xs) = refl
 -- a reader that fails gives no script
 pub fails_unread : (ops : List Operation) (job : Job) (there left : Option (List ℕ)) (fault : ReadFault) (why : RunError) → TakesPart there left → why ≡ told fault → FailsBefore ops job there left why
 fails_unread ops job there left F.OutOfMemory why part is = λ old. subst (λ e. RunsUngated IsFounded ops job there left old old (Err e)) (sym is) (part, kept old)
-fails_unread ops job there left F.Reader why part is = λ old. subst (λ e. RunsUngated IsFounded ops job there left old old (Err e)) (sym is) (part, kept old)
+fails_unread ops job there left (F.Reader reason) why part is = λ old. subst (λ e. RunsUngated IsFounded ops job there left old old (Err e)) (sym is) (part, kept old)
 
 -- and so does a text that gives none
 pub fails_text : (ops : List Operation) (job : Job) (there left : Option (List ℕ)) (text now : List ℕ) (why : RunError) → TakesInput there left text → now ≡ text → ((old : Option (List ℕ)) → PrintsUngated IsFounded ops job now old old (Err why)) → FailsBefore ops job there left why

@@ -22,8 +22,8 @@ abbrev pub status : (complains : Bool) → Result End RunError → ℕ
 status complains (Ok end) = if complains then 6 else end_status end
 status complains (Err (Script refusal)) = 2
 status complains (Err TooManyProcesses) = 1
-status complains (Err Read) = 5
-status complains (Err Write) = 5
+status complains (Err (Read reason)) = 5
+status complains (Err (Write reason)) = 5
 status complains (Err other) = 4
 
 -- the status of a call whose words give no job

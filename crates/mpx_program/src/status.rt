@@ -23,7 +23,7 @@ pub fn status_of(answer: &Result<End, RunError>, complains: bool) -> u8
         Err(RunError::Script(_)) => 2,
         Err(RunError::TooManyProcesses) => 1,
         Err(RunError::Memory | RunError::GateGaveUp) => 4,
-        Err(RunError::Read | RunError::Write) => 5,
+        Err(RunError::Read(_) | RunError::Write(_)) => 5,
     }
 }
 
@@ -50,7 +50,7 @@ pub fn write_message<W: Write>(
     let mut line = Line::new();
     match push_message(answer, &mut line) {
         Ok(()) => write_bytes(writer, line.as_slice()),
-        Err(_) => Err(WriteFault),
+        Err(e) => Err(WriteFault { kind: e.kind() }),
     }
 }
 
@@ -68,7 +68,7 @@ pub(crate) fn write_said<W: Write>(
     let mut line = Line::new();
     match push_said(answer, complains, explains, &mut line) {
         Ok(()) => write_both(writer, line.as_slice(), if explains { more } else { &[] }),
-        Err(_) => Err(WriteFault),
+        Err(e) => Err(WriteFault { kind: e.kind() }),
     }
 }
 
@@ -78,7 +78,7 @@ fn write_both<W: Write>(writer: &mut W, first: &[u8], second: &[u8]) -> Result<(
 {
     match write_bytes(writer, first) {
         Ok(()) => write_bytes(writer, second),
-        Err(WriteFault) => Err(WriteFault),
+        Err(fault) => Err(fault),
     }
 }
 
@@ -167,7 +167,7 @@ pub fn write_refusal<W: Write>(refusal: &clap::Error, writer: &mut W) -> Result<
         ErrorKind::OutOfMemory => write_bytes(writer, b"out of memory\n"),
         _ => match write!(writer, "{refusal}") {
             Ok(()) => Ok(()),
-            Err(_) => Err(WriteFault),
+            Err(e) => Err(WriteFault { kind: e.kind() }),
         },
     }
 }

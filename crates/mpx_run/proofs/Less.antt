@@ -31,15 +31,15 @@ prints_printed ops job text old new (Ok end) p = (p.0, done_printed ops job text
 prints_printed ops job text old new (Err (E.Script refusal)) p = p
 prints_printed ops job text old new (Err E.TooManyProcesses) p = p
 prints_printed ops job text old new (Err E.Memory) p = p
-prints_printed ops job text old new (Err E.Read) p = p
-prints_printed ops job text old new (Err E.Write) p = (p.0, p.1, p.2, done_printed ops job text p.0 p.1 p.3, p.4)
+prints_printed ops job text old new (Err (E.Read reason)) p = p
+prints_printed ops job text old new (Err (E.Write reason)) p = (p.0, p.1, p.2, done_printed ops job text p.0 p.1 p.3, p.4)
 prints_printed ops job text old new (Err E.GateGaveUp) p = p
 
 pub runs_printed : (ops : List Operation) (job : Job) (there left old new : Option (List ℕ)) (answer : Result End RunError) → RunsUngated IsFounded ops job there left old new answer → RunsUngated IsPrinted ops job there left old new answer
 runs_printed ops job there left old new (Ok end) r = (r.0, r.1, prints_printed ops job r.0 old new (Ok end) r.2)
 runs_printed ops job there left old new (Err E.Memory) r = r
-runs_printed ops job there left old new (Err E.Read) r = r
+runs_printed ops job there left old new (Err (E.Read reason)) r = r
 runs_printed ops job there left old new (Err (E.Script refusal)) r = r
 runs_printed ops job there left old new (Err E.TooManyProcesses) r = r
-runs_printed ops job there left old new (Err E.Write) r = (r.0, r.1, prints_printed ops job r.0 old new (Err E.Write) r.2)
+runs_printed ops job there left old new (Err (E.Write reason)) r = (r.0, r.1, prints_printed ops job r.0 old new (Err (E.Write reason)) r.2)
 runs_printed ops job there left old new (Err E.GateGaveUp) r = absurd r.2

@@ -133,8 +133,8 @@ runs_ungated Is ops job there left old new text (Ok end) t p = (text, t, p)
 runs_ungated Is ops job there left old new text (Err (E.Script refusal)) t p = (text, t, p)
 runs_ungated Is ops job there left old new text (Err E.TooManyProcesses) t p = (text, t, p)
 runs_ungated Is ops job there left old new text (Err E.Memory) t p = (takes_part there left text t, p)
-runs_ungated Is ops job there left old new text (Err E.Read) t p = absurd p
-runs_ungated Is ops job there left old new text (Err E.Write) t p = (text, t, p)
+runs_ungated Is ops job there left old new text (Err (E.Read reason)) t p = absurd p
+runs_ungated Is ops job there left old new text (Err (E.Write reason)) t p = (text, t, p)
 runs_ungated Is ops job there left old new text (Err E.GateGaveUp) t p = absurd p
 
 -- the same where a gate may end it
@@ -145,8 +145,8 @@ runs_input Is ops gives_up job there left old new text now answer t e p = by_ans
   by_answer (Err (E.Script refusal)) q = runs_ungated Is ops job there left old new text (Err (E.Script refusal)) t q
   by_answer (Err E.TooManyProcesses) q = runs_ungated Is ops job there left old new text (Err E.TooManyProcesses) t q
   by_answer (Err E.Memory) q = runs_ungated Is ops job there left old new text (Err E.Memory) t q
-  by_answer (Err E.Read) q = runs_ungated Is ops job there left old new text (Err E.Read) t q
-  by_answer (Err E.Write) q = runs_ungated Is ops job there left old new text (Err E.Write) t q
+  by_answer (Err (E.Read reason)) q = runs_ungated Is ops job there left old new text (Err (E.Read reason)) t q
+  by_answer (Err (E.Write reason)) q = runs_ungated Is ops job there left old new text (Err (E.Write reason)) t q
   by_answer (Err E.GateGaveUp) q = (text, t, q.0, q.1)
 
 -- what an answer says that isn't a gate's
@@ -155,8 +155,8 @@ prints_ungated Is ops gives_up job text old new (Ok end) other p = p
 prints_ungated Is ops gives_up job text old new (Err (E.Script refusal)) other p = p
 prints_ungated Is ops gives_up job text old new (Err E.TooManyProcesses) other p = p
 prints_ungated Is ops gives_up job text old new (Err E.Memory) other p = p
-prints_ungated Is ops gives_up job text old new (Err E.Read) other p = p
-prints_ungated Is ops gives_up job text old new (Err E.Write) other p = p
+prints_ungated Is ops gives_up job text old new (Err (E.Read reason)) other p = p
+prints_ungated Is ops gives_up job text old new (Err (E.Write reason)) other p = p
 prints_ungated Is ops gives_up job text old new (Err E.GateGaveUp) other p = absurd (other refl)
 
 -- ANSWERS
@@ -170,8 +170,8 @@ pub refused_prints : (Is : OfRuns) (ops : List Operation) (job : Job) (text : Li
 refused_prints Is ops job text script old (E.Script refusal) read r = absurd r
 refused_prints Is ops job text script old E.TooManyProcesses read r = ((script, read, r.0, r.1), kept old)
 refused_prints Is ops job text script old E.Memory read r = kept old
-refused_prints Is ops job text script old E.Read read r = absurd r
-refused_prints Is ops job text script old E.Write read r = absurd r
+refused_prints Is ops job text script old (E.Read reason) read r = absurd r
+refused_prints Is ops job text script old (E.Write reason) read r = absurd r
 refused_prints Is ops job text script old E.GateGaveUp read r = absurd r
 
 -- the same where a gate may end it
@@ -179,8 +179,8 @@ pub ended_prints : (Is : OfRuns) (ops : List Operation) (gives_up : ℕ → BusS
 ended_prints Is ops gives_up job text script old (E.Script refusal) read r = absurd r
 ended_prints Is ops gives_up job text script old E.TooManyProcesses read r = ((script, read, r.0, r.1), kept old)
 ended_prints Is ops gives_up job text script old E.Memory read r = kept old
-ended_prints Is ops gives_up job text script old E.Read read r = absurd r
-ended_prints Is ops gives_up job text script old E.Write read r = absurd r
+ended_prints Is ops gives_up job text script old (E.Read reason) read r = absurd r
+ended_prints Is ops gives_up job text script old (E.Write reason) read r = absurd r
 ended_prints Is ops gives_up job text script old E.GateGaveUp read r = (record { script = script; read = read; gated = r.0; at = r.1 }, kept old)
 
 -- where the gate gives up nowhere the job is refused as every job is
@@ -188,8 +188,8 @@ pub ended_nowhere : (job : Job) (script : ScriptView) (why : RunError) → IsEnd
 ended_nowhere job script (E.Script refusal) r = r
 ended_nowhere job script E.TooManyProcesses r = r
 ended_nowhere job script E.Memory r = r
-ended_nowhere job script E.Read r = r
-ended_nowhere job script E.Write r = r
+ended_nowhere job script (E.Read reason) r = r
+ended_nowhere job script (E.Write reason) r = r
 ended_nowhere job script E.GateGaveUp r = absurd r.1.1.1.1.1.1
 
 -- what a job comes to is written
@@ -199,8 +199,8 @@ written_prints Is ops job text script old new out end (Ok told) read comes w = (
 written_prints Is ops job text script old new out end (Err (E.Script refusal)) read comes w = absurd w
 written_prints Is ops job text script old new out end (Err E.TooManyProcesses) read comes w = absurd w
 written_prints Is ops job text script old new out end (Err E.Memory) read comes w = absurd w
-written_prints Is ops job text script old new out end (Err E.Read) read comes w = absurd w
-written_prints Is ops job text script old new out end (Err E.Write) read comes w = (end, out, w.0, record { script = script; read = read; comes = comes }, w.1)
+written_prints Is ops job text script old new out end (Err (E.Read reason)) read comes w = absurd w
+written_prints Is ops job text script old new out end (Err (E.Write reason)) read comes w = (end, out, w.0, record { script = script; read = read; comes = comes }, w.1)
 written_prints Is ops job text script old new out end (Err E.GateGaveUp) read comes w = absurd w
 
 -- what no gate ends a gate doesn't end
@@ -209,6 +209,6 @@ gated_prints Is ops gives_up job text old new (Ok end) p = p
 gated_prints Is ops gives_up job text old new (Err (E.Script refusal)) p = p
 gated_prints Is ops gives_up job text old new (Err E.TooManyProcesses) p = p
 gated_prints Is ops gives_up job text old new (Err E.Memory) p = p
-gated_prints Is ops gives_up job text old new (Err E.Read) p = p
-gated_prints Is ops gives_up job text old new (Err E.Write) p = p
+gated_prints Is ops gives_up job text old new (Err (E.Read reason)) p = p
+gated_prints Is ops gives_up job text old new (Err (E.Write reason)) p = p
 gated_prints Is ops gives_up job text old new (Err E.GateGaveUp) p = absurd p

@@ -35,7 +35,7 @@ TakesPart there left = (part : List ℕ) × (length part ≤ bytes_limit + 1) ×
 -- how a fault of reading is told
 abbrev pub told : ReadFault → RunError
 told Fault.OutOfMemory = E.Memory
-told Fault.Reader = E.Read
+told (Fault.Reader reason) = E.Read reason
 
 -- how it is told that a script can't be read: a refused script never as want of memory
 abbrev pub script_told : ReadScriptError → RunError
@@ -47,8 +47,8 @@ abbrev pub run_error_text : RunError → List ℕ
 run_error_text (E.Script refusal) = error_text refusal
 run_error_text E.TooManyProcesses = codes "too many processes"
 run_error_text E.Memory = codes "out of memory"
-run_error_text E.Read = codes "read fault"
-run_error_text E.Write = codes "write fault"
+run_error_text (E.Read reason) = codes "read fault"
+run_error_text (E.Write reason) = codes "write fault"
 run_error_text E.GateGaveUp = codes "gate gave up"
 
 -- how many statements the first n ranks have
@@ -89,7 +89,7 @@ IsRefusedFor job script other = ⊥
 -- a text is out, and the answer is the end; where writing fails, a beginning of it is out
 abbrev pub IsWritten : (old new : Option (List ℕ)) (out : List ℕ) (end : End) → Result End RunError → Type 0
 IsWritten old new out end (Ok told) = (told ≡ end) × Appends old new out
-IsWritten old new out end (Err E.Write) = (count : ℕ) × Appends old new (take count out)
+IsWritten old new out end (Err (E.Write reason)) = (count : ℕ) × Appends old new (take count out)
 IsWritten old new out end (Err other) = ⊥
 
 -- a text is read as a script, with which the job comes to that end and text
@@ -108,14 +108,14 @@ PrintsUngated Is ops job text old new (Ok end) = (out : List ℕ) × DoneTo Is o
 PrintsUngated Is ops job text old new (Err (E.Script refusal)) = (reading ops text ≡ Err refusal) × Keeps old new
 PrintsUngated Is ops job text old new (Err E.TooManyProcesses) = HasTooMany ops job text × Keeps old new
 PrintsUngated Is ops job text old new (Err E.Memory) = Keeps old new
-PrintsUngated Is ops job text old new (Err E.Read) = ⊥
-PrintsUngated Is ops job text old new (Err E.Write) = (end : End) × (out : List ℕ) × (count : ℕ) × DoneTo Is ops job text end out × Appends old new (take count out)
+PrintsUngated Is ops job text old new (Err (E.Read reason)) = ⊥
+PrintsUngated Is ops job text old new (Err (E.Write reason)) = (end : End) × (out : List ℕ) × (count : ℕ) × DoneTo Is ops job text end out × Appends old new (take count out)
 PrintsUngated Is ops job text old new (Err E.GateGaveUp) = ⊥
 
 -- what a reader has left and what is out after a job that no gate ends, by the answer
 abbrev pub RunsUngated : (Is : OfRuns) (ops : List Operation) (job : Job) (there left old new : Option (List ℕ)) → Result End RunError → Type 0
 RunsUngated Is ops job there left old new (Err E.Memory) = TakesPart there left × Keeps old new
-RunsUngated Is ops job there left old new (Err E.Read) = TakesPart there left × Keeps old new
+RunsUngated Is ops job there left old new (Err (E.Read reason)) = TakesPart there left × Keeps old new
 RunsUngated Is ops job there left old new answer = (text : List ℕ) × TakesInput there left text × PrintsUngated Is ops job text old new answer
 
 -- WHERE A GATE MAY END IT

@@ -13,7 +13,7 @@ use mpx_bus::Port;
 use mpx_eval::eval;
 use mpx_meaning::Report;
 use mpx_node::Node;
-use mpx_num::{Listing, Ops, push_number};
+use mpx_num::{Listing, Ops};
 use mpx_script::Script;
 use mpx_sim::{Observer, run_sim_observed};
 use mpx_statement::Options;
@@ -181,10 +181,7 @@ fn push_lines(text: &mut String, rank: u8, lines: &[String]) -> Result<(), OutOf
     ensures { OnOk result (string_bytes text.new ≡ string_bytes text.old ++ rank_text rank (map string_bytes lines.now)) }
 {
     for line in lines {
-        push_number(text, i128::from(rank))?;
-        text.push_str(": ")?;
-        text.push_str(line.as_str())?;
-        text.push_str("\n")?;
+        write!(text, "{rank}: {line}\n")?;
     }
     Ok(())
 }

@@ -9,7 +9,7 @@ ghost use Rattle.mpx_run.specs.declared.texts.RunError.TheVariants.{Memory};
 use crate::end::End;
 use crate::jobs::{is_in_threads, print_job, print_job_in_threads};
 use crate::report::Printed;
-use crate::streams::{ReadFault, WriteFault, read_bytes, write_bytes};
+use crate::streams::{ReadFault, read_bytes, write_bytes};
 use join_core::OutOfMemory;
 use mpx_num::{Listing, Ops};
 use mpx_script::{ReadScriptError, Script, ScriptError, read_script};
@@ -18,7 +18,7 @@ use mpx_statement::Job;
 use mpx_threads::{Gate, OpenGate};
 use std::alloc::Global;
 use std::fmt;
-use std::io::{Read, Write};
+use std::io::{ErrorKind, Read, Write};
 use std::sync::Wait;
 use std::thread::Threads;
 
@@ -31,10 +31,10 @@ pub enum RunError {
     TooManyProcesses,
     /// There is no more memory.
     Memory,
-    /// The reader failed.
-    Read,
-    /// The writer failed. The text's beginning may be out.
-    Write,
+    /// The reader failed, for this reason.
+    Read(ErrorKind),
+    /// The writer failed, for this reason. The text's beginning may be out.
+    Write(ErrorKind),
     /// The gate of a run in threads gave up.
     GateGaveUp,
 }
@@ -47,8 +47,8 @@ impl fmt::Display for RunError {
             RunError::Script(refusal) => write!(f, "{refusal}"),
             RunError::TooManyProcesses => f.write_str("too many processes"),
             RunError::Memory => f.write_str("out of memory"),
-            RunError::Read => f.write_str("read fault"),
-            RunError::Write => f.write_str("write fault"),
+            RunError::Read(_) => f.write_str("read fault"),
+            RunError::Write(_) => f.write_str("write fault"),
             RunError::GateGaveUp => f.write_str("gate gave up"),
         }
     }
@@ -73,7 +73,7 @@ impl From<ReadFault> for RunError {
     fn from(fault: ReadFault) -> RunError {
         match fault {
             ReadFault::OutOfMemory => RunError::Memory,
-            ReadFault::Reader => RunError::Read,
+            ReadFault::Reader(kind) => RunError::Read(kind),
         }
     }
 }
@@ -170,7 +170,7 @@ pub fn write_printed<W: Write>(text: &[u8], end: End, writer: &mut W) -> Result<
 {
     match write_bytes(writer, text) {
         Ok(()) => Ok(end),
-        Err(WriteFault) => Err(RunError::Write),
+        Err(fault) => Err(RunError::Write(fault.kind)),
     }
 }
 

@@ -1,10 +1,9 @@
 -- What the steps of a process keep of a run.
-use Rattle.std.proofs.Common.{◌≡◌, ℕ, ◌<◌, Bool, true, false, List, [], length, set, get_or, Option, Some, None, refl, sym, ap, ◌∙◌, ◌⊎◌, inl, inr, subst, arith}
-use Rattle.std.specs.Prelude.{slice_get, is_some, Result, Ok, Err, OnOk, OnErr}
+use Rattle.std.proofs.Common.{◌≡◌, ℕ, ◌<◌, List, [], length, set, get_or, Option, Some, None, refl, sym, ap, ◌∙◌, subst, arith}
+use Rattle.std.specs.Prelude.{slice_get, Result, Ok, Err, OnOk, OnErr}
 use Rattle.std.specs.List.{All}
 use Rattle.std.proofs.lemmas.List.{length-set}
 use Rattle.std.proofs.lemmas.Option.{slice_get-get_or, slice_get_within, same_Some}
-use Rattle.join_core.specs.declared.memory.OutOfMemory.{OutOfMemory}
 use Rattle.mpx_num.specs.declared.own.Operation.{Operation}
 use Rattle.mpx_name.specs.Name.{Name}
 use Rattle.mpx_board.specs.declared.errors.PruneError.{PruneError}
@@ -12,10 +11,8 @@ use Rattle.mpx_board.specs.Boards.{IsBoardBelow, Look, Numbers}
 use Rattle.mpx_board.specs.Changes.{pruned_on}
 use Rattle.mpx_delta.specs.Digests.{HasUpTo}
 use Rattle.mpx_node.specs.declared.finished.Finished.{Finished}
-use Rattle.mpx_node.specs.declared.node.Harvest.{Harvest}
-use Rattle.mpx_node.specs.declared.node.Harvest.TheVariants.{Done, NotYet, NotOpened}
-use Rattle.mpx_node.specs.Harvests.{Harvests as HarvestsOn}
-use Rattle.mpx_node.specs.Nodes.{NodeView, acknowledge, add_result, children_on, front_on, learn, learn_some, next_result, prune_part, results_on}
+use Rattle.mpx_node.specs.Harvests.{with_next}
+use Rattle.mpx_node.specs.Nodes.{NodeView, acknowledge, learn, learn_some, next_result, prune_part, results_on}
 use Rattle.mpx_world.specs.Worlds.{WorldView, Happening, IsNoPost, MayHappen, happens, stores, drops, takes, acknowledges, harvests, prunes, Harvests, Prunes, Takes, Acknowledges, at_process, ProcessView as InWorld}
 use Rattle.mpx_world.proofs.Kept.{kept_stores, taken_node}
 use Rattle.mpx_world.proofs.Steps.{at_here}
@@ -29,7 +26,6 @@ use Rattle.mpx_system.proofs.Results.{some_at}
 use Rattle.mpx_post.proofs.Lists.{set_cases, set_twice, set_has, set_same}
 use Rattle.mpx_sim.specs.Running.{HasCome, HaveCome, ProcessView, StandsBy, IsAt, IsAmong, IsUnderWay, KeepsNode, Moves}
 use Rattle.mpx_sim.specs.Draws.{IsLater, ScheduleView}
-use Rattle.mpx_sim.specs.Keeping.{keeps_node_itself}
 use Rattle.mpx_sim.specs.Turns.{Alone, Coming, FrameView, IsIn, IsLeft, IsTurn, IsUnder, Moment, Phase, Saying}
 use Rattle.mpx_sim.proofs.Phases.{begins, later_then, says_now, since_draws, since_on, under_itself}
 
@@ -165,42 +161,20 @@ keeps_net phase ops old new h f net is into may e r script ranks size begun proc
     let by : w.operations ≡ ops = (couples ops script ranks size begun phase processes frames run).operations in
     net_on ops script ranks size begun phase processes frames run p r old new at (h p) (f w.operations) (net p) (into p) (may w p same) (is w p) (e (w.each p) same ∙ ap (λ o. (f o (w.each p)).node) (sym by))
 
--- a node with its next result on a context stored, where there is one
-abbrev stored : List Operation → Name → Option Finished → NodeView → NodeView
-stored ops name None node = node
-stored ops name (Some finished) node = add_result name finished (children_on ops node.board name (front_on node name)) node
-
-stores_node : (ops : List Operation) (name : Name) (o : Option Finished) (v : InWorld) → (stores ops name o v).node ≡ stored ops name o v.node
+stores_node : (ops : List Operation) (name : Name) (o : Option Finished) (v : InWorld) → (stores ops name o v).node ≡ with_next ops o name v.node
 stores_node ops name None v = refl
 stores_node ops name (Some finished) v = refl
 
-keeps_stored : (ops : List Operation) (name : Name) (old new : NodeView) → new ≡ stored ops name (next_result ops old name) old → KeepsNode Alone ops old new
-keeps_stored ops name old new e =
-    keeps_net Alone ops old new (λ p. Harvests p name) (λ o. harvests o name) (λ p. tt) (λ w p. refl) (λ p. tt) (λ w p same. tt)
-    (λ v same. e ∙ (λ i. stored ops name (next_result ops (sym same i) name) (sym same i)) ∙ sym (stores_node ops name (next_result ops v.node name) v))
-
--- a harvest stores the next result, or nothing
-stores_or_not : (ops : List Operation) (opened : Bool) (name : Name) (next : Option Finished) (answer : Result Harvest OutOfMemory) (old new : NodeView) → HarvestsOn ops opened name next answer old new → (new ≡ old) ⊎ (new ≡ stored ops name next old)
-stores_or_not ops false name next answer old new x = inl x.1
-stores_or_not ops true name (Some finished) (Ok (Done call)) old new x = inr x.1
-stores_or_not ops true name (Some finished) (Ok NotYet) old new x = absurd x
-stores_or_not ops true name (Some finished) (Ok NotOpened) old new x = absurd x
-stores_or_not ops true name (Some finished) (Err refused) old new x = inl x
-stores_or_not ops true name None (Ok (Done call)) old new x = absurd x
-stores_or_not ops true name None (Ok NotYet) old new x = inl x
-stores_or_not ops true name None (Ok NotOpened) old new x = absurd x
-stores_or_not ops true name None (Err refused) old new x = absurd x
-
--- it keeps the run, and what the node held
-pub keeps_harvest : (ops : List Operation) (name : Name) (answer : Result Harvest OutOfMemory) (old new : NodeView) → HarvestsOn ops (is_some (old.opened name)) name (next_result ops old name) answer old new
-    → KeepsNode Alone ops old new × ((n : Name) (k : ℕ) (x : Finished) → slice_get (results_on old n) k ≡ Some x → slice_get (results_on new n) k ≡ Some x)
-keeps_harvest ops name answer old new h =
+-- a harvest keeps the run, and what the node held
+pub keeps_next : (ops : List Operation) (name : Name) (old : NodeView) → KeepsNode Alone ops old (with_next ops (next_result ops old name) name old)
+    × ((n : Name) (k : ℕ) (x : Finished) → slice_get (results_on old n) k ≡ Some x → slice_get (results_on (with_next ops (next_result ops old name) name old) n) k ≡ Some x)
+keeps_next ops name old =
     let next = next_result ops old name in
-    let v : InWorld = record { node = old; made = []; learned = [] } in
-    elim (stores_or_not ops (is_some (old.opened name)) name next answer old new h) [
-      | inl same ↦ (keeps_node_itself Alone ops old new same, λ n k x e. subst (λ m. slice_get (results_on m n) k ≡ Some x) (sym same) e)
-      | inr is ↦ (keeps_stored ops name old new is, λ n k x e. subst (λ m. slice_get (results_on m n) k ≡ Some x) (stores_node ops name next v ∙ sym is) ((kept_stores ops name next v).results_kept n k x e))
-    ]
+    let v : InWorld = record { node = old; made = []; learned = [] } in (
+      keeps_net Alone ops old (with_next ops next name old) (λ p. Harvests p name) (λ o. harvests o name) (λ p. tt) (λ w p. refl) (λ p. tt) (λ w p same. tt)
+          (λ v same. (λ i. with_next ops (next_result ops (sym same i) name) name (sym same i)) ∙ sym (stores_node ops name (next_result ops v.node name) v)),
+      λ n k x e. subst (λ m. slice_get (results_on m n) k ≡ Some x) (stores_node ops name next v) ((kept_stores ops name next v).results_kept n k x e),
+    )
 
 -- a process acknowledges what its board has
 pub keeps_node_acknowledge : (ops : List Operation) (numbers : Numbers) (old new : NodeView) → ((name : Name) (m : ℕ) → HasUpTo old.board name m (numbers name m)) → new ≡ acknowledge numbers old → KeepsNode Saying ops old new

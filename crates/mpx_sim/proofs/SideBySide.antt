@@ -1,5 +1,5 @@
 -- What processes do side by side, as steps of a run, one process after the other.
-use Rattle.std.proofs.Common.{◌≡◌, ℕ, zero, suc, ◌+◌, ◌<◌, ◌≤◌, Bool, true, false, List, [], ◌∷◌, length, map, set, get_or, Some, refl, sym, ap, ◌∙◌, subst, arith, ◌⊎◌, inl, inr}
+use Rattle.std.proofs.Common.{◌≡◌, ℕ, zero, suc, ◌+◌, ◌<◌, ◌≤◌, Bool, true, false, List, [], ◌∷◌, ◌++◌, length, map, set, get_or, Option, Some, None, refl, sym, ap, ◌∙◌, subst, arith, ◌⊎◌, inl, inr}
 use Rattle.std.specs.Prelude.{◌&&◌, IfSome, nat_eq, slice_get, if◌then◌else◌}
 use Rattle.std.specs.List.{All}
 use Rattle.std.specs.Option.{option_map}
@@ -11,18 +11,18 @@ use Rattle.mpx_num.specs.declared.own.Operation.{Operation}
 use Rattle.mpx_board.specs.Boards.{IsBoardBelow, Look}
 use Rattle.mpx_board.proofs.Facts.{below_through, facts_below, join_is_least, under_itself}
 use Rattle.mpx_delta.specs.declared.framed.NewFrames.{NewFrames}
-use Rattle.mpx_node.specs.Deltas.{LackFrames}
-use Rattle.mpx_node.specs.Nodes.{learn}
+use Rattle.mpx_node.specs.Deltas.{AreLacked}
+use Rattle.mpx_node.specs.Nodes.{NodeView, learn}
 use Rattle.mpx_meaning.specs.Evaluation.{Script}
 use Rattle.mpx_post.proofs.Lists.{set_cases, set_has, set_same, set_twice, written}
 use Rattle.mpx_system.proofs.Results.{mapped_at, some_at}
-use Rattle.mpx_world.proofs.Lists.{itself}
+use Rattle.mpx_world.proofs.Lists.{itself, slice_get-push_cases}
 use Rattle.mpx_sim.specs.declared.frame_under_way.FrameUnderWay.{FrameUnderWay}
 use Rattle.mpx_sim.specs.declared.process.Process.{Process}
 use Rattle.mpx_sim.specs.Draws.{ScheduleView}
 use Rattle.mpx_sim.specs.Running.{HasCome, HaveCome, HaveGrown, IsUnderWay, Keeps, Moves, ProcessView}
 use Rattle.mpx_sim.specs.Shown.{frame_of, part_of, process_of}
-use Rattle.mpx_sim.specs.SideBySide.{AllGoOn, AllMake, GoesOn, IsReady, Makes, all_taken, comes, taken, to_send, took}
+use Rattle.mpx_sim.specs.SideBySide.{AllGoOn, AllMake, AreMade, AreReady, GoesOn, IsReady, Makes, all_taken, comes, taken, to_send, took}
 use Rattle.mpx_sim.specs.Turns.{Alone, Coming, FrameView, IsListOf, Moment, Saying}
 use Rattle.mpx_sim.proofs.Running.{read_at, run_takes}
 
@@ -173,6 +173,10 @@ grown_itself old new same p v w at now =
 
 -- EACH GOES ON
 
+-- one that stays as it is
+pub goes_itself : (ops : List Operation) (count place : ℕ) (v : ProcessView) → GoesOn ops count place v v
+goes_itself ops count place v script ranks size begun processes frames few at run = subst (λ ps. IsUnderWay ops script ranks size begun Alone ps frames) (sym (set_same processes place v at)) run
+
 -- a rank moves, and stays in its place as it drops posts
 pub goes_by : (ops : List Operation) (count place : ℕ) (old mid new : ProcessView) → place < count → Moves ops old mid → Keeps Alone ops mid new → GoesOn ops count place old new
 goes_by ops count place old mid new l moves keeps script ranks size begun processes frames few at run =
@@ -197,11 +201,42 @@ run_gone ops count turn fs old new all script ranks size begun frames few run =
 
 -- EACH MAKES ITS FRAMES
 
--- what is so of the frames that a process has made ahead stays so where it stays the same process
-pub ready_same : (old new : Process) → process_of new ≡ process_of old → new.notes.ahead ≡ old.notes.ahead → IsReady old → IsReady new
-ready_same old new same ahead h =
-    subst (λ a. IfSome a (λ (made : NewFrames). LackFrames 1048576 (process_of new).node made.said made.frames.items)) (sym ahead)
-    (subst (λ (v : ProcessView). IfSome old.notes.ahead (λ (made : NewFrames). LackFrames 1048576 v.node made.said made.frames.items)) (sym same) h)
+-- what is so of the frames that a process has made stays so where it stays the same process, and keeps them
+pub ready_same : (old new : Process) → process_of new ≡ process_of old → new.notes.ahead ≡ old.notes.ahead → new.notes.last ≡ old.notes.last → IsReady old → IsReady new
+ready_same old new same ahead last h =
+    subst (λ (v : ProcessView). AreMade v.node new.notes.ahead new.notes.last) (sym same)
+    (subst (λ a. AreMade (process_of old).node a new.notes.last) (sym ahead) (subst (λ l. AreMade (process_of old).node old.notes.ahead l) (sym last) h))
+
+-- none are made ahead
+pub none_ahead : (node : NodeView) (ahead : Option NewFrames) (last : Option (List ℕ)) → ahead ≡ None → IfSome last (λ frame. AreLacked 1048576 node (frame ∷ [])) → AreMade node ahead last
+none_ahead node ahead last a l = subst (λ x. AreMade node x last) (sym a) (tt, l)
+
+-- and none is kept
+pub none_made : (node : NodeView) (ahead : Option NewFrames) (last : Option (List ℕ)) → ahead ≡ None → last ≡ None → AreMade node ahead last
+none_made node ahead last a l = none_ahead node ahead last a (subst (λ x. IfSome x (λ frame. AreLacked 1048576 node (frame ∷ []))) (sym l) tt)
+
+-- a frame is kept that is all of its list
+pub kept_made : (node : NodeView) (list : List (List ℕ)) (last : Option (List ℕ)) → AreLacked 1048576 node list → IfSome last (λ frame. list ≡ frame ∷ []) → IfSome last (λ frame. AreLacked 1048576 node (frame ∷ []))
+kept_made node list None lacked h = tt
+kept_made node list (Some frame) lacked h = subst (AreLacked 1048576 node) h lacked
+
+-- what is kept is what is lacked
+pub lacked_again : (node : NodeView) (last : Option (List ℕ)) (frame : List ℕ) (list : List (List ℕ)) → last ≡ Some frame → list ≡ frame ∷ [] → IfSome last (λ x. AreLacked 1048576 node (x ∷ [])) → AreLacked 1048576 node list
+lacked_again node last frame list is same h = subst (AreLacked 1048576 node) (sym same) (subst (λ o. IfSome o (λ x. AreLacked 1048576 node (x ∷ []))) is h)
+
+-- one process more that is ready
+pub ready_more : (xs : List Process) (x : Process) → AreReady xs → IsReady x → AreReady (xs ++ x ∷ [])
+ready_more xs x all one place p at = slice_get-push_cases (λ y j. IsReady y) xs x place p at (all place p) (λ same last. subst IsReady same one)
+
+-- one process is written that is ready
+pub ready_set : (xs : List Process) (p : ℕ) (x : Process) → AreReady xs → IsReady x → AreReady (set xs p x)
+ready_set xs p x all one q y at = set_cases xs p q x y IsReady at (λ here. one) (λ old other. all q y old)
+
+-- each that has made its list is ready
+pub ready_made : (count turn : ℕ) (old new : List Process) → AllMake count turn old new → AreReady new
+ready_made count turn old new all place q at =
+    let before = some_at old place (omega (arith, slice_get_within new place q at, all.0)) in
+    (all.1 place before.0 q before.1 at).ready
 
 pub run_made : (count turn : ℕ) (old new : List Process) → AllMake count turn old new → (ops : List Operation) (script : Script) (ranks size : ℕ) (begun : Moment) (frames : List FrameView) → IsUnderWay ops script ranks size begun Saying (map process_of old) frames
     → IsUnderWay ops script ranks size begun Saying (map process_of new) frames

@@ -1,11 +1,12 @@
 -- What the processes of a run do side by side, each by itself.
-use Rattle.std.specs.Prelude.{◌≡◌, ◌&&◌, ℕ, suc, ◌<◌, ◌≤◌, Bool, nat_eq, List, [], ◌∷◌, length, map, Some, IfSome, slice_get, if◌then◌else◌}
+use Rattle.std.specs.Prelude.{◌≡◌, ◌&&◌, ℕ, suc, ◌<◌, ◌≤◌, Bool, nat_eq, List, [], ◌∷◌, length, map, Option, Some, IfSome, slice_get, if◌then◌else◌}
 use Rattle.std.proofs.Common.{set}
 use Rattle.std.specs.List.{All}
 use Rattle.mpx_num.specs.declared.own.Operation.{Operation}
 use Rattle.mpx_board.specs.Boards.{join_all}
-use Rattle.mpx_node.specs.Deltas.{LackFrames, lacking_on}
-use Rattle.mpx_node.specs.Nodes.{learn}
+use Rattle.mpx_delta.specs.declared.framed.NewFrames.{NewFrames}
+use Rattle.mpx_node.specs.Deltas.{AreLacked, LackFrames, lacking_on}
+use Rattle.mpx_node.specs.Nodes.{NodeView, learn}
 use Rattle.mpx_meaning.specs.Evaluation.{Script}
 use Rattle.mpx_sim.specs.declared.frame_under_way.FrameUnderWay.{FrameUnderWay}
 use Rattle.mpx_sim.specs.declared.process.Process.{Process}
@@ -50,9 +51,13 @@ AllGoOn ops count turn frames old new = (length new ≡ length old) × ((place :
 
 -- EACH MAKES ITS FRAMES
 
--- the frames that a process has made ahead, if any, are those of its board as it stands
+-- frames that are made ahead, if any, are those of the node as it stands; and so is the one frame that is kept of a list, if any
+abbrev pub AreMade : NodeView → Option NewFrames → Option (List ℕ) → Type 0
+AreMade node ahead last = IfSome ahead (λ (made : NewFrames). LackFrames 1048576 node made.said made.frames.items) × IfSome last (λ frame. AreLacked 1048576 node (frame ∷ []))
+
+-- the frames that a process has made ahead, and the one that it keeps of its last list, are those of its board as it stands
 abbrev pub IsReady : Process → Type 0
-IsReady p = IfSome p.notes.ahead (λ made. LackFrames 1048576 (process_of p).node made.said made.frames.items)
+IsReady p = AreMade (process_of p).node p.notes.ahead p.notes.last
 
 abbrev pub AreReady : List Process → Type 0
 AreReady ps = (place : ℕ) (p : Process) → slice_get ps place ≡ Some p → IsReady p
@@ -61,11 +66,13 @@ AreReady ps = (place : ℕ) (p : Process) → slice_get ps place ≡ Some p → 
 abbrev pub to_send : Process → List FrameView
 to_send p = map frame_of p.notes.made.items
 
--- a process says what it has, and makes a list of frames, or none; one whose last list is out makes frames of all that others may lack of its board
+-- a process says what it has, and makes a list of frames, or none; one whose last list is out makes frames of all that others may lack of its board. What
+-- it keeps of the list is that of its board
 pub record Makes (size turn : ℕ) (old new : Process) : Type 0 where
   pub says : (ops : List Operation) → Keeps Saying ops (process_of old) (process_of new)
   pub list : IsListOf size turn (process_of new).rank.me (process_of new).node (to_send new)
   pub whole : old.sender.out ≤ turn → join_all (map part_of new.notes.made.items) ≡ lacking_on (process_of new).node
+  pub ready : IsReady new
 
 -- each process does
 abbrev pub AllMake : (size turn : ℕ) → (old new : List Process) → Type 0

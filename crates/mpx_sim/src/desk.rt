@@ -18,7 +18,7 @@ use mpx_birth::Birth;
 use mpx_group::Proc;
 use mpx_meaning::line;
 use mpx_name::Name;
-use mpx_node::{Harvest, Node};
+use mpx_node::Node;
 use mpx_num::{Listing, Ops};
 use mpx_post::PostError;
 use mpx_rank::{Carrier, Heard};
@@ -79,8 +79,9 @@ impl RunDesk {
         ensures { OnOk result (Harvests (⟦<Ops as Listing>⟧.operations ops.now) (node_of self.old.node) (node_of self.new.node)) }
     {
         for name in &self.contexts {
-            let posted = self.node.posted(name);
-            harvest_below(alloc, &mut self.node, name, posted, ops)?;
+            if let Some(newest) = self.node.posted(name).checked_sub(1) {
+                harvest_to(alloc, &mut self.node, name, newest, ops)?;
+            }
         }
         Ok(())
     }
@@ -95,7 +96,7 @@ impl RunDesk {
         ensures harvested { OnOk result (Harvests (⟦<Ops as Listing>⟧.operations ops.now) (node_of self.old.node) (node_of self.new.node)) }
         ensures pending { IfOk result (λ pends. pends ≡ true → IsOpen (node_of self.new.node) call.now.name call.now.call) }
     {
-        let all = harvest_to(alloc, &mut self.node, call, ops)?;
+        let all = harvest_to(alloc, &mut self.node, &call.name, call.call, ops)?;
         if all {
             return Ok(false);
         }
@@ -186,7 +187,7 @@ impl Carrier for RunDesk {
         call: &Posted,
         ops: &Ops,
     ) -> Result<bool, OutOfMemory> {
-        harvest_to(alloc, &mut self.node, call, ops)?;
+        harvest_to(alloc, &mut self.node, &call.name, call.call, ops)?;
         Ok(self.node.result(&call.name, call.call).is_some())
     }
 
@@ -197,7 +198,7 @@ impl Carrier for RunDesk {
         call: Posted,
         ops: &Ops,
     ) -> Result<Heard<Posted, Name>, OutOfMemory> {
-        harvest_to(alloc, &mut self.node, &call, ops)?;
+        harvest_to(alloc, &mut self.node, &call.name, call.call, ops)?;
         let Some(finished) = self.node.result(&call.name, call.call) else {
             return Ok(Heard::NotYet(call));
         };
@@ -323,32 +324,17 @@ fn contexts_at_start(alloc: Global) -> Result<Vec<Name>, OutOfMemory> {
 }
 
 // Stores the results of a call and of those before it on its context, as far as they can be had. It answers whether all are stored.
-fn harvest_to(alloc: Global, node: &mut Node, call: &Posted, ops: &Ops) -> Result<bool, OutOfMemory>
-    ensures harvested { OnOk result (Harvests (⟦<Ops as Listing>⟧.operations ops.now) (node_of node.old) (node_of node.new)) }
-    ensures last { IfOk result (λ all. all ≡ false → has_next (node_of node.new) call.now.name ≡ false) }
-{
-    harvest_below(alloc, node, &call.name, call.call.saturating_add(1), ops)
-}
-
-// Stores the results of a context's calls below this number, until no further one can be had: each is harvested at most once. It answers
-// whether all are stored.
-fn harvest_below(
+fn harvest_to(
     alloc: Global,
     node: &mut Node,
     name: &Name,
-    number: u32,
+    call: u32,
     ops: &Ops,
 ) -> Result<bool, OutOfMemory>
     ensures harvested { OnOk result (Harvests (⟦<Ops as Listing>⟧.operations ops.now) (node_of node.old) (node_of node.new)) }
     ensures last { IfOk result (λ all. all ≡ false → has_next (node_of node.new) name.now ≡ false) }
 {
-    for _call in node.front(name)..number {
-        match node.harvest(alloc, name, ops)? {
-            Harvest::Done(_) => {}
-            _ => return Ok(false),
-        }
-    }
-    Ok(true)
+    node.harvest_to(alloc, name, call, ops)
 }
 
 // Drops on each context what all members have harvested. It answers whether there was anything.

@@ -10,9 +10,6 @@ use join_core::OutOfMemory;
 use mpx_rope::Rope;
 use std::alloc::Global;
 
-/// The most bytes of a frame.
-pub(crate) const MOST_BYTES: usize = 1_048_576;
-
 /// Frames with these bytes, one for each, from a process to another: they come in this turn and those after it, one in each.
 pub(crate) fn frames_with(
     alloc: Global,

@@ -9,6 +9,7 @@
 mod desk;
 mod frame_under_way;
 mod frames;
+mod lists;
 mod network;
 mod notes;
 mod observer;

@@ -85,6 +85,7 @@ pub(crate) fn hand_out(processes: &mut [Process<'_>], spare: &mut Vec<Rope>)
 fn hand_to(process: &mut Process<'_>, spare: &mut Vec<Rope>)
     ensures same { process_of process.new ≡ process_of process.old }
     ensures ahead { process.new.notes.ahead ≡ process.old.notes.ahead }
+    ensures last { process.new.notes.last ≡ process.old.notes.last }
 {
     if !process.notes.spare.is_empty() {
         return;
@@ -104,6 +105,7 @@ pub(crate) fn send_all(
     ensures frames { OnOk result (frames_of network.new ≡ frames_of network.old ++ those_out (schedule_of network.old.schedule) (joined (map to_send processes.old))) }
     ensures schedule { OnOk result (schedule_of network.new.schedule ≡ drawn_for (joined (map to_send processes.old)) (schedule_of network.old.schedule)) }
     ensures same { OnOk result (map process_of processes.new ≡ map process_of processes.old) }
+    ensures ready { OnOk result (AreReady processes.old → AreReady processes.new) }
 {
     for p in 0..processes.len() {
         send_from(alloc, &mut processes[p], network, observer)?;
@@ -121,6 +123,8 @@ fn send_from(
     ensures frames { OnOk result (frames_of network.new ≡ frames_of network.old ++ those_out (schedule_of network.old.schedule) (to_send process.old)) }
     ensures schedule { OnOk result (schedule_of network.new.schedule ≡ drawn_for (to_send process.old) (schedule_of network.old.schedule)) }
     ensures same { process_of process.new ≡ process_of process.old }
+    ensures ahead { process.new.notes.ahead ≡ process.old.notes.ahead }
+    ensures last { process.new.notes.last ≡ process.old.notes.last }
 {
     let made = mem::replace(&mut process.notes.made, Vec::new(alloc));
     send_each(made, network, observer)
@@ -171,6 +175,7 @@ pub(crate) fn deliver(
     ensures run { OnOk result ((operations : List Operation) (script : Statements) (ranks size : ℕ) (begun : Moment) (t : ScheduleView) → IsUnderWay operations script ranks size begun (Coming turn t) (map process_of processes.old) (frames_of network.now)
         → IsUnderWay operations script ranks size begun (Coming turn t) (map process_of processes.new) (frames_of network.now)) }
     ensures came { OnOk result (in_order ≡ true → HaveCome turn (frames_of network.now) (map process_of processes.new)) }
+    ensures ready { OnOk result (AreReady processes.old → AreReady processes.new) }
 {
     if !in_order {
         return Ok(());
@@ -193,6 +198,7 @@ fn arrive(
         → IsUnderWay operations script ranks size begun (Coming turn t) (map process_of processes.new) frames) }
     ensures came { OnOk result (frame.now.turn ≡ turn → (v : ProcessView) → slice_get (map process_of processes.new) frame.now.to ≡ Some v → IsBoardBelow (part_of frame.now) v.node.board) }
     ensures grown { OnOk result (HaveGrown (map process_of processes.old) (map process_of processes.new)) }
+    ensures ready { OnOk result (AreReady processes.old → AreReady processes.new) }
 {
     if frame.turn != turn {
         return Ok(());

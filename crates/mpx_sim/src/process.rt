@@ -1,8 +1,8 @@
 //! A process of a run: a rank, which goes on with its statements, or a relay, which has none.
-ghost use Rattle.std.specs.Prelude.{◌≡◌, ◌<◌, ◌≤◌, [], List, IfOk, IfSome, OnOk, Some, false, map, slice_get, string_bytes, true, ℕ};
+ghost use Rattle.std.specs.Prelude.{◌≡◌, ◌<◌, ◌≤◌, [], List, IfOk, OnOk, Some, false, map, slice_get, string_bytes, true, ℕ};
 ghost use Rattle.mpx_num.specs.declared.own.Operation.{Operation};
 ghost use Rattle.mpx_board.specs.Boards.{join_all};
-ghost use Rattle.mpx_node.specs.Deltas.{AreLacked, LackFrames, lacking_on};
+ghost use Rattle.mpx_node.specs.Deltas.{AreLacked, lacking_on};
 ghost use Rattle.mpx_node.specs.Nodes.{learn};
 ghost use Rattle.mpx_node.specs.Shown.{node_of};
 ghost use Rattle.mpx_meaning.specs.Evaluation.{Script as Statements, start_state};
@@ -11,13 +11,13 @@ ghost use Rattle.mpx_sim.specs.Shown.{frame_of, part_of};
 
 use crate::desk::RunDesk;
 use crate::frame_under_way::FrameUnderWay;
-use crate::frames::{MOST_BYTES, frames_with};
+use crate::frames::frames_with;
+use crate::lists::{MOST_BYTES, kept_of, new_list, one_frame};
 use crate::notes::Notes;
 use crate::schedule::Schedule;
 use crate::sender::Sender;
 use join_core::OutOfMemory;
 use mpx_board::Board;
-use mpx_delta::NewFrames;
 use mpx_group::Proc;
 use mpx_name::Name;
 use mpx_node::Node;
@@ -61,6 +61,7 @@ impl<'a> Process<'a> {
         requires me { me < processes }
         ensures me { IfOk result (λ process. (process_of process).rank.me ≡ me) }
         ensures node { IfOk result (λ process. (process_of process).node ≡ start_node me ranks processes) }
+        ensures ready { IfOk result (λ process. IsReady process) }
         ensures stands { IfOk result (λ process. (script : Statements) → me < ranks → slice_get script me ≡ Some todo.now → StandsBy (process_of process).rank (start_state script ranks me)) }
     {
         let world = world_of(alloc, me, ranks);
@@ -102,6 +103,7 @@ impl<'a> Process<'a> {
         ensures ready { IsReady self.new }
     {
         let _ = self.notes.ahead.take();
+        let _ = self.notes.last.take();
         if let Some(call) = self.rank.awaited() {
             return self.carrier.is_open(alloc, call, ops);
         }
@@ -145,46 +147,48 @@ impl<'a> Process<'a> {
     }
 
     /// Says what the process has, and gives the frames of what others may lack of its board: its next list, which goes out from this turn
-    /// on. They are those that were made ahead, or are made now, into spare room.
+    /// on. They are those that were made ahead, or are made now, into spare room. Where it kept the one frame of its last list, the next list is
+    /// that frame again.
     pub(crate) fn make_list(
         &mut self,
         alloc: Global,
-        ahead: Option<NewFrames>,
         turn: u64,
+        keeps: bool,
     ) -> Result<Vec<Rope>, OutOfMemory>
-        requires { IfSome ahead (λ made. LackFrames 1048576 (process_of self.old).node made.said made.frames.items) }
+        requires { IsReady self.old }
         ensures keeps { OnOk result ((operations : List Operation) → Keeps Saying operations (process_of self.old) (process_of self.new)) }
         ensures frames { IfOk result (λ made. AreLacked 1048576 (process_of self.new).node made.items) }
+        ensures ready { OnOk result (IsReady self.new) }
     {
-        if let Some(made) = ahead {
-            let NewFrames { said, frames } = made;
-            self.carrier.node.acknowledge(said);
-            self.sender.sends(turn, frames.len());
-            return Ok(frames);
+        let ahead = self.notes.ahead.take();
+        if let Some(last) = &self.notes.last {
+            let again = one_frame(alloc, last)?;
+            self.sender.sends(turn, 1);
+            return Ok(again);
         }
-        let made = self
-            .carrier
-            .node
-            .framed_deltas(alloc, MOST_BYTES, &mut self.notes.spare)?;
-        self.sender.sends(turn, made.len());
-        Ok(made)
+        let list = new_list(alloc, &mut self.carrier.node, ahead, &mut self.notes.spare)?;
+        self.sender.sends(turn, list.len());
+        let last = kept_of(alloc, list.as_slice(), keeps)?;
+        self.notes.last = last;
+        Ok(list)
     }
 
-    /// The frames of its next list, which go to another process.
+    /// The frames of its next list, which go to another process. Where frames may be lost, it keeps one that is all of its list.
     pub(crate) fn make_frames(
         &mut self,
         alloc: Global,
-        ahead: Option<NewFrames>,
         to: usize,
         turn: u64,
+        keeps: bool,
     ) -> Result<Vec<FrameUnderWay>, OutOfMemory>
         requires turn { turn < 4294967296 }
-        requires made { IfSome ahead (λ made. LackFrames 1048576 (process_of self.old).node made.said made.frames.items) }
+        requires ready { IsReady self.old }
         ensures keeps { OnOk result ((operations : List Operation) → Keeps Saying operations (process_of self.old) (process_of self.new)) }
         ensures list { IfOk result (λ made. (size : ℕ) → to < size → IsListOf size turn (process_of self.new).rank.me (process_of self.new).node (map frame_of made.items)) }
         ensures join { IfOk result (λ made. join_all (map part_of made.items) ≡ lacking_on (process_of self.new).node) }
+        ensures ready { OnOk result (IsReady self.new) }
     {
-        let list = self.make_list(alloc, ahead, turn)?;
+        let list = self.make_list(alloc, turn, keeps)?;
         frames_with(alloc, list, self.me(), to, turn)
     }
 
@@ -203,30 +207,30 @@ impl<'a> Process<'a> {
         requires ready { IsReady self.old }
         ensures { OnOk result (Makes processes turn self.old self.new) }
     {
-        let ahead = self.notes.ahead.take();
         if !self.sender.has_sent(turn) {
             self.notes.made = Vec::new(alloc);
             return Ok(());
         }
         let to = schedule.receiver(place, self.sender.lists(), processes);
-        let made = self.make_frames(alloc, ahead, to, turn)?;
+        let made = self.make_frames(alloc, to, turn, schedule.loses_some())?;
         self.notes.made = made;
         Ok(())
     }
 
     // For a turn to come, where it is told of one and its last list is out before that, makes the frames of its next list ahead, of its board as it
-    // stands. Where memory is wanting it makes none.
+    // stands, if it keeps none. Where memory is wanting it makes none.
     fn look_ahead(&mut self, alloc: Global, next: Option<u64>)
+        requires { IsReady self.old }
         ensures process { process_of self.new ≡ process_of self.old }
         ensures ready { IsReady self.new }
     {
-        self.notes.ahead = None;
         let Some(turn) = next else {
             return;
         };
-        if !self.sender.has_sent(turn) {
+        if self.notes.last.is_some() || !self.sender.has_sent(turn) {
             return;
         }
+        self.notes.ahead = None;
         let made = self
             .carrier
             .node
@@ -248,6 +252,7 @@ impl<'a> Process<'a> {
         next: Option<u64>,
         ops: &Ops,
     )
+        requires { IsReady self.old }
         ensures { self.new.notes.failed ≡ false → GoesOn (⟦<Ops as Listing>⟧.operations ops.now) ranks place (taken place turn frames.now (process_of self.old)) (process_of self.new) × IsReady self.new }
     {
         self.notes.told = self.lines().len();
@@ -260,7 +265,7 @@ impl<'a> Process<'a> {
         }
     }
 
-    // Takes these frames, and goes on then.
+    // Takes these frames, and goes on then. Where it keeps the frame of its last list, nothing came since, and it can't go on.
     fn take_then_step(
         &mut self,
         alloc: Global,
@@ -270,10 +275,18 @@ impl<'a> Process<'a> {
         turn: u64,
         ops: &Ops,
     ) -> Result<bool, OutOfMemory>
-        ensures { OnOk result (GoesOn (⟦<Ops as Listing>⟧.operations ops.now) ranks place (taken place turn frames.now (process_of self.old)) (process_of self.new)) }
+        requires { IsReady self.old }
+        ensures goes { OnOk result (GoesOn (⟦<Ops as Listing>⟧.operations ops.now) ranks place (taken place turn frames.now (process_of self.old)) (process_of self.new)) }
+        ensures ready { OnOk result (IsReady self.new) }
     {
         self.receive_all(alloc, place, frames, turn)?;
-        self.step(alloc, place, ranks, ops)
+        if self.notes.last.is_some() {
+            return Ok(false);
+        }
+        let changed = self.step(alloc, place, ranks, ops)?;
+        self.notes.ahead = None;
+        self.notes.last = None;
+        Ok(changed)
     }
 
     // Takes the frames among these that come to it in this turn, one after the other.
@@ -284,7 +297,9 @@ impl<'a> Process<'a> {
         frames: &[FrameUnderWay],
         turn: u64,
     ) -> Result<(), OutOfMemory>
-        ensures { OnOk result (process_of self.new ≡ taken place turn frames.now (process_of self.old)) }
+        requires { IsReady self.old }
+        ensures took { OnOk result (process_of self.new ≡ taken place turn frames.now (process_of self.old)) }
+        ensures ready { IsReady self.new }
     {
         let mut rest = frames;
         while let [frame, more @ ..] = rest {
@@ -302,7 +317,9 @@ impl<'a> Process<'a> {
         frame: &FrameUnderWay,
         turn: u64,
     ) -> Result<(), OutOfMemory>
-        ensures { OnOk result (process_of self.new ≡ took place turn frame.now (process_of self.old)) }
+        requires { IsReady self.old }
+        ensures took { OnOk result (process_of self.new ≡ took place turn frame.now (process_of self.old)) }
+        ensures ready { IsReady self.new }
     {
         if frame.comes_to(place, turn) {
             self.receive(alloc, frame)
@@ -317,8 +334,11 @@ impl<'a> Process<'a> {
         alloc: Global,
         frame: &FrameUnderWay,
     ) -> Result<(), OutOfMemory>
-        ensures { OnOk result (process_of self.new ≡ record { rank = (process_of self.old).rank; node = learn (part_of frame.now) (process_of self.old).node }) }
+        ensures took { OnOk result (process_of self.new ≡ record { rank = (process_of self.old).rank; node = learn (part_of frame.now) (process_of self.old).node }) }
+        ensures ready { IsReady self.new }
     {
+        self.notes.ahead = None;
+        self.notes.last = None;
         self.carrier.node.take_rope(alloc, &frame.bytes.lent())
     }
 

@@ -87,6 +87,11 @@ impl Schedule {
         below(&mut self.words, 100) < self.loss
     }
 
+    /// Whether frames may be lost.
+    pub(crate) fn loses_some(&self) -> bool {
+        self.loss > 0
+    }
+
     /// Whether every frame is lost.
     pub(crate) fn loses_all(&self) -> bool
         ensures { IsTrue result ↔ (100 ≤ self.now.loss) }

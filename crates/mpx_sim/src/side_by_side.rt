@@ -32,11 +32,13 @@ pub(crate) fn go_on_all<R: Threads + Sync>(
     next: Option<u64>,
     ops: &Ops,
 ) -> Result<bool, OutOfMemory>
+    requires { AreReady processes.old }
     ensures goes { OnOk result (AllGoOn (⟦<Ops as Listing>⟧.operations ops.now) ranks turn frames.now (map process_of processes.old) (map process_of processes.new)) }
     ensures ready { OnOk result (AreReady processes.new) }
 {
     let lent = &Lent { ops };
     let work = |place: usize, process: &mut Process<'_>|
+        requires { IsReady process.now }
         ensures { process.exit.now.notes.failed ≡ false → GoesOn (map (λ b. operation_of (word_bytes (b.vtable, b.value)) (fits_type (b.vtable, b.value)) (combination (b.vtable, b.value))) lent.entry.now.ops.now.list.items) ranks place (taken place turn frames.entry.now (process_of process.entry.now)) (process_of process.exit.now) × IsReady process.exit.now }
     { process.take_and_go_on(alloc, place, ranks, frames, turn, next, lent.ops) };
     for_each_share(rt, processes, threads, &work);

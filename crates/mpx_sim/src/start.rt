@@ -5,6 +5,7 @@ ghost use Rattle.mpx_system.specs.Systems.{start_system};
 ghost use Rattle.mpx_sim.specs.Draws.{ScheduleView};
 ghost use Rattle.mpx_sim.specs.Running.{IsAt, IsUnderWay};
 ghost use Rattle.mpx_sim.specs.Shown.{process_of};
+ghost use Rattle.mpx_sim.specs.SideBySide.{AreReady, IsReady};
 ghost use Rattle.mpx_sim.specs.Turns.{Alone};
 
 use crate::process::Process;
@@ -22,7 +23,8 @@ fn start_at<'a>(
     requires me { me < size }
     requires ranks { script.now.ranks ≤ size }
     requires few { size ≤ 64 }
-    ensures { IfOk result (λ process. (operations : List Operation) → IsAt script.now.ranks (start_system operations script.now.statements script.now.ranks size) me (process_of process)) }
+    ensures ready { IfOk result (λ process. IsReady process) }
+    ensures at { IfOk result (λ process. (operations : List Operation) → IsAt script.now.ranks (start_system operations script.now.statements script.now.ranks size) me (process_of process)) }
 {
     let ranks = script.ranks();
     if me >= ranks {
@@ -38,7 +40,8 @@ pub(crate) fn start<'a>(
     relays: u8,
 ) -> Result<Vec<Process<'a>>, OutOfMemory>
     requires { script.now.ranks + relays ≤ 64 }
-    ensures { IfOk result (λ processes. (operations : List Operation) (first : ScheduleView)
+    ensures ready { IfOk result (λ processes. AreReady processes.items) }
+    ensures run { IfOk result (λ processes. (operations : List Operation) (first : ScheduleView)
         → IsUnderWay operations script.now.statements script.now.ranks (script.now.ranks + relays) (record { system = start_system operations script.now.statements script.now.ranks (script.now.ranks + relays); frames = []; schedule = first }) Alone (map process_of processes.items) []) }
 {
     let mut processes = Vec::new(alloc);

@@ -128,6 +128,7 @@ fn first<R: Threads + Sync>(
     ops: &Ops,
 ) -> Result<bool, OutOfMemory>
     requires count { plan.now.ranks ≤ length processes.old }
+    requires ready { AreReady processes.old }
     ensures run { OnOk result ((script : Statements) (ranks size : ℕ) (begun : Moment) (frames : List FrameView) → plan.now.ranks ≤ ranks → IsUnderWay (⟦<Ops as Listing>⟧.operations ops.now) script ranks size begun Alone (map process_of processes.old) frames
         → IsUnderWay (⟦<Ops as Listing>⟧.operations ops.now) script ranks size begun Alone (map process_of processes.new) frames) }
     ensures ready { OnOk result (0 < plan.now.turns → AreReady processes.new) }
@@ -157,6 +158,7 @@ fn exchange(
         → IsUnderWay operations script ranks size (moment_of begun network.old) (Coming number (schedule_of network.new.schedule)) (map process_of processes.new) (frames_of network.new)) }
     ensures came { OnOk result ((plan.now.in_order ≡ true) ⊎ (plan.now.turns ≤ number + 1) → HaveCome number (frames_of network.new) (map process_of processes.new)) }
     ensures loss { OnOk result (network.new.schedule.loss ≡ network.old.schedule.loss) }
+    ensures ready { OnOk result (AreReady processes.new) }
 {
     let turn = u64::from(number);
     say_all(alloc, processes, &network.schedule, turn)?;
@@ -179,6 +181,7 @@ fn go_further<R: Threads + Sync>(
     ops: &Ops,
 ) -> Result<bool, OutOfMemory>
     requires count { plan.now.ranks ≤ length processes.old }
+    requires ready { AreReady processes.old }
     requires came { (plan.now.in_order ≡ true) ⊎ (plan.now.turns ≤ number + 1) → HaveCome number (frames_of network.old) (map process_of processes.old) }
     ensures run { OnOk result ((script : Statements) (ranks size : ℕ) (begun : Moment) → plan.now.ranks ≤ ranks
         → IsUnderWay (⟦<Ops as Listing>⟧.operations ops.now) script ranks size begun (Coming number (schedule_of network.old.schedule)) (map process_of processes.old) (frames_of network.old)

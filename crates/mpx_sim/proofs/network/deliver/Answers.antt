@@ -10,7 +10,7 @@ use Rattle.mpx_sim.proofs.SideBySide.{come_later}
 use Rattle.mpx_sim.proofs.network.deliver.Goals as goal
 
 pub loop-i-init : goal.loop-i-init
-loop-i-init g c = record { run = λ ops script ranks size begun t run. run; came = λ k f l at. absurd (omega (arith, l)) }
+loop-i-init g c = record { run = λ ops script ranks size begun t run. run; ready = λ h. h; came = λ k f l at. absurd (omega (arith, l)) }
 
 pub loop-i-preserved : goal.loop-i-preserved
 loop-i-preserved g c =
@@ -20,6 +20,7 @@ loop-i-preserved g c =
     let at : slice_get (frames_of c.args.network.now) i ≡ Some (frame_of f) = element frame_of frames i f (omega arith) ∙ ap (λ g. Some (frame_of g)) (sym c.index.ensures) in
     record {
       run = λ ops script ranks size begun t run. c.in_ok-arrive.ensures.run ops script ranks size begun t (frames_of c.args.network.now) i at (c.loop-i.invariant.run ops script ranks size begun t run);
+      ready = λ h. c.in_ok-arrive.ensures.ready (c.loop-i.invariant.ready h);
       came = λ k g l there.
           elim (cases_eq k i) [
             | inl same ↦ subst (HasCome c.args.turn (map process_of c.arrive.new.processes)) (same_Some (frame_of f) g (sym at ∙ ap (slice_get (frames_of c.args.network.now)) (sym same) ∙ there)) c.in_ok-arrive.ensures.came

@@ -20,6 +20,6 @@ loop-p-preserved c =
       same = kept process_of xs p x new (omega arith) c.hand_to.ensures.same ∙ c.loop-p.invariant.same;
       ready = λ h q y at.
           set_cases xs p q new y IsReady at
-          (λ here. ready_same (get_or xs p x) new c.hand_to.ensures.same c.hand_to.ensures.ahead (c.loop-p.invariant.ready h p (get_or xs p x) (slice_get-get_or xs p x (omega arith))))
+          (λ here. ready_same (get_or xs p x) new c.hand_to.ensures.same c.hand_to.ensures.ahead c.hand_to.ensures.last (c.loop-p.invariant.ready h p (get_or xs p x) (slice_get-get_or xs p x (omega arith))))
           (λ old other. c.loop-p.invariant.ready h q y old);
     }

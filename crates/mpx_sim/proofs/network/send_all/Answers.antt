@@ -8,10 +8,11 @@ use Rattle.mpx_sim.specs.Shown.{frames_of, process_of, schedule_of}
 use Rattle.mpx_sim.specs.SideBySide.{to_send}
 use Rattle.mpx_sim.specs.Turns.{drawn_for, joined, those_out}
 use Rattle.mpx_sim.proofs.Sending.{drawn_append, kept, one_left, out_append}
+use Rattle.mpx_sim.proofs.SideBySide.{ready_same, ready_set}
 use Rattle.mpx_sim.proofs.network.send_all.Goals as goal
 
 pub loop-p-init : goal.loop-p-init
-loop-p-init g c = record { same = refl; rest = λ q x l at. at; frames = refl; schedule = refl }
+loop-p-init g c = record { same = refl; ready = λ h. h; rest = λ q x l at. at; frames = refl; schedule = refl }
 
 pub loop-p-preserved : goal.loop-p-preserved
 loop-p-preserved g c =
@@ -31,6 +32,7 @@ loop-p-preserved g c =
     let here : t ≡ drawn_for list s = c.in_ok-send_from.ensures.schedule in
     record {
       same = stays ∙ c.loop-p.invariant.same;
+      ready = λ h. ready_set xs p new (c.loop-p.invariant.ready h) (ready_same (get_or xs p x) new c.send_from.ensures.same c.send_from.ensures.ahead c.send_from.ensures.last (c.loop-p.invariant.ready h p (get_or xs p x) (slice_get-get_or xs p x l)));
       rest = λ q y less at. set_cases xs p q new y (λ z. slice_get c.args.processes.now q ≡ Some z) at (λ same. absurd (omega (arith, less, same))) (λ old other. c.loop-p.invariant.rest q y (omega (arith, less)) old);
       frames = (λ i. c.in_ok-send_from.ensures.frames i ++ those_out (here i) rest)
           ∙ append_assoc (frames_of c.loop-p.network) (those_out s list) (those_out (drawn_for list s) rest)

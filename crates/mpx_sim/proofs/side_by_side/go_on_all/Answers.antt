@@ -1,5 +1,5 @@
-use Rattle.std.proofs.Common.{◌≡◌, ◌∙◌, ap, subst, sym, false, arith}
-use Rattle.std.proofs.lemmas.Option.{slice_get_within}
+use Rattle.std.proofs.Common.{◌≡◌, ◌∙◌, Some, ap, subst, sym, false, arith}
+use Rattle.std.proofs.lemmas.Option.{slice_get-get_or, slice_get_within}
 use Rattle.std.proofs.lemmas.List.{length-map}
 use Rattle.mpx_system.proofs.Results.{mapped_at, some_at}
 use Rattle.mpx_sim.specs.declared.process.Process.{Process}
@@ -31,3 +31,6 @@ returns-clause-ready g c place q at =
     let k = changed_at _ _ old new c.for_each_share.ensures place before.0 q before.1 at in
     let sound : q.notes.failed ≡ false = all_at (λ (x : Process). x.notes.failed ≡ false) new place q at c.in_ok-none_failed.ensures in
     subst IsReady k.left (k.call (ap (λ (x : Process). x.notes.failed) k.left ∙ sound)).1
+
+pub for_each_share-requires : goal.for_each_share-requires
+for_each_share-requires g c i p l is = c.requires i p.now (slice_get-get_or c.args.processes.now i p.now l ∙ ap Some (sym is))

@@ -11,7 +11,7 @@ use Rattle.mpx_sim.specs.Running.{HaveCome, IsUnderWay}
 use Rattle.mpx_sim.proofs.Results.{left_at}
 use Rattle.mpx_sim.proofs.Running.{run_draws, run_mixed, run_same, run_says, run_scheduled}
 use Rattle.mpx_sim.proofs.Sending.{run_out, same_loss}
-use Rattle.mpx_sim.proofs.SideBySide.{all_lists, run_made}
+use Rattle.mpx_sim.proofs.SideBySide.{all_lists, ready_made, run_made}
 use Rattle.mpx_sim.proofs.Tried.{on_each_ok}
 use Rattle.mpx_sim.proofs.turns.exchange.Goals as goal
 
@@ -60,3 +60,8 @@ pub returns-clause-loss : goal.returns-clause-loss
 returns-clause-loss g c =
     let lists = joined (map to_send c.say_all.new.processes) in
     on_each_ok c.deliver.result (λ came. c.mix.ensures.loss ∙ ap (λ (s : ScheduleView). s.loss) c.in_ok-send_all.ensures.schedule ∙ same_loss lists (schedule_of c.args.network.now.schedule)) c.deliver.ensures.came
+
+pub returns-clause-ready : goal.returns-clause-ready
+returns-clause-ready g c =
+    let made = ready_made (length c.args.processes.now) c.from-turn.result c.args.processes.now c.say_all.new.processes c.in_ok-say_all.ensures in
+    on_each_ok c.deliver.result (λ h. h (c.in_ok-send_all.ensures.ready made)) c.deliver.ensures.ready

@@ -15,7 +15,7 @@ use Rattle.mpx_sim.proofs.turns.simulate.Goals as goal
 pub first-requires-clause-count : goal.first-requires-clause-count
 first-requires-clause-count g c κs within =
     let xs = c.in_ok-processes.processes.items in
-    let run = c.in_ok-processes.ensures [] (schedule_of c.in_ok-network.network.schedule) in
+    let run = c.in_ok-processes.ensures.run [] (schedule_of c.in_ok-network.network.schedule) in
     let many : length xs ≡ c.args.script.now.ranks + c.args.options.now.relays = sym (length-map xs process_of) ∙ run.count in
     let lent : length c.deref_mut.result.now ≡ length xs = ap length c.deref_mut.ensures.value in
     omega (arith, many, lent, c.from.ensures, c.ranks.ensures.ranks)
@@ -29,14 +29,14 @@ loop-number-init g c =
     let network = c.in_ok-network.network in
     let few : c.from.result ≤ script.ranks = omega (arith, c.ranks.ensures.ranks, c.from.ensures) in
     let none : [] ≡ frames_of network = ap (map frame_of) (sym c.in_ok-network.ensures.frames) in
-    let started = run_framed _ script.statements script.ranks size start (schedule_of network.schedule) (map process_of xs) [] (frames_of network) none (c.in_ok-processes.ensures _ (schedule_of network.schedule)) in
+    let started = run_framed _ script.statements script.ranks size start (schedule_of network.schedule) (map process_of xs) [] (frames_of network) none (c.in_ok-processes.ensures.run _ (schedule_of network.schedule)) in
     let before = run_same _ script.statements script.ranks size (moment_of start network) Alone (map process_of xs) (map process_of c.deref_mut.result.now) _ _ (ap (map process_of) (sym c.deref_mut.ensures.value)) refl started in
     let gone = c.in_ok-changed.ensures.run script.statements script.ranks size (moment_of start network) (frames_of network) few before in
     let lent : length c.deref_mut.result.now ≡ length xs = ap length c.deref_mut.ensures.value in
     let kept = c.first.auto.processes ∙ lent in
     let same = written_back c.in_ok-processes.processes.len xs c.first.new.processes kept (sym lent ∙ c.deref_mut.ensures.len) in
     let run = run_same _ script.statements script.ranks size (moment_of start network) Alone _ _ _ _ (ap (map process_of) (sym same)) refl gone in
-    let first = c.in_ok-processes.ensures [] (schedule_of network.schedule) in
+    let first = c.in_ok-processes.ensures.run [] (schedule_of network.schedule) in
     let many : length xs ≡ size = sym (length-map xs process_of) ∙ first.count in
     record { count = omega (arith, ap length same, kept, many); loss = c.in_ok-network.ensures.loss; ready = λ less. subst AreReady (sym same) (c.in_ok-changed.ensures.ready less); run = (schedule_of network.schedule, start, (c.in_ok-network.ensures.loss, c.in_ok-network.ensures.seed), (λ i. let m : Moment = record { system = start; frames = none i; schedule = schedule_of network.schedule } in m), run) }
 
@@ -101,6 +101,17 @@ exchange-requires g c =
     let before = c.in_ok-over.ensures.ready (subst AreReady (sym lent.value) (c.loop-number.invariant.ready (omega (arith, c.loop-number-test.true)))) in
     let same = written_back c.loop-number.processes.len c.loop-number.processes.items c.is_over.new.processes (c.is_over.auto.processes ∙ ap length lent.value) (sym (ap length lent.value) ∙ lent.len) in
     subst AreReady (sym same ∙ sym c.deref_mut-in-loop-number-2.ensures.value) before
+
+pub first-requires-clause-ready : goal.first-requires-clause-ready
+first-requires-clause-ready g c κs within = subst AreReady (sym c.deref_mut.ensures.value) c.in_ok-processes.ensures.ready
+
+pub go_further-requires-clause-ready : goal.go_further-requires-clause-ready
+go_further-requires-clause-ready g c κs within =
+    let len = c.loop-number.processes.len in
+    let lent-2 = c.deref_mut-in-loop-number-2.ensures in
+    let lent-3 = c.deref_mut-in-loop-number-3.ensures in
+    let same-2 = written_back len _ c.exchange.new.processes (c.exchange.auto.processes ∙ ap length lent-2.value) (sym (ap length lent-2.value) ∙ lent-2.len) in
+    subst AreReady (sym same-2 ∙ sym lent-3.value) c.in_ok-exchange.ensures.ready
 
 pub go_further-requires-clause-came : goal.go_further-requires-clause-came
 go_further-requires-clause-came g c κs within last =

@@ -1,41 +1,28 @@
-use Rattle.std.proofs.Common.{Option, sym, subst}
-use Rattle.std.specs.Prelude.{IfSome}
-use Rattle.mpx_delta.specs.declared.framed.NewFrames.{NewFrames}
-use Rattle.mpx_node.specs.Deltas.{AreLacked, LackFrames, SaysWhatItHas}
-use Rattle.mpx_node.specs.Nodes.{NodeView}
+use Rattle.std.proofs.Common.{refl, subst, sym}
+use Rattle.mpx_node.specs.Deltas.{AreLacked}
 use Rattle.mpx_node.specs.Shown.{node_of}
 use Rattle.mpx_rank.specs.Shown.{rank_of}
-use Rattle.mpx_world.proofs.Covering.{digest_had}
+use Rattle.mpx_sim.specs.Keeping.{keeps_node_itself}
 use Rattle.mpx_sim.specs.Shown.{call_of}
-use Rattle.mpx_sim.proofs.Running.{keeps_node_acknowledge}
+use Rattle.mpx_sim.specs.Turns.{Saying}
+use Rattle.mpx_sim.proofs.SideBySide.{kept_made, lacked_again, none_ahead}
 use Rattle.mpx_sim.proofs.process.Process.make_list.Goals as goal
-
-abbrev AreAhead : NodeView → Option NewFrames → Type 0
-AreAhead node o = IfSome o (λ (made : NewFrames). LackFrames 1048576 node made.said made.frames.items)
-
-pub returns-clause-keeps : goal.returns-clause-keeps
-returns-clause-keeps c ops =
-    let old = node_of c.args.self.now.carrier.node in
-    let says = c.in_ok-made.ensures.own in
-    keeps_node_acknowledge ops says.numbers old (node_of c.framed_deltas.new.self) (digest_had says.numbers old.board says.digest) says.learnt (rank_of call_of c.args.self.now.rank)
-
-pub acknowledge-requires : goal.acknowledge-requires
-acknowledge-requires c =
-    let made : LackFrames 1048576 (node_of c.args.self.now.carrier.node) c.in-Some.made.said c.in-Some.made.frames.items = subst (AreAhead (node_of c.args.self.now.carrier.node)) c.in-Some.is c.requires in
-    let lacks = made.lacks in
-    record { made = (lacks.after, lacks.stores) }
 
 pub returns-in-Some-clause-keeps : goal.returns-in-Some-clause-keeps
 returns-in-Some-clause-keeps c ops =
-    let old = node_of c.args.self.now.carrier.node in
-    let made : LackFrames 1048576 old c.in-Some.made.said c.in-Some.made.frames.items = subst (AreAhead old) c.in-Some.is c.requires in
-    let lacks = made.lacks in
-    let says = subst (SaysWhatItHas old) (sym (c.acknowledge.ensures.gives lacks.after lacks.stores)) lacks.own in
-    keeps_node_acknowledge ops says.numbers old (node_of c.acknowledge.new.self) (digest_had says.numbers old.board says.digest) says.learnt (rank_of call_of c.args.self.now.rank)
+    let node = node_of c.args.self.now.carrier.node in
+    keeps_node_itself Saying ops node node refl (rank_of call_of c.args.self.now.rank)
 
 pub returns-in-Some-clause-frames : goal.returns-in-Some-clause-frames
-returns-in-Some-clause-frames c =
-    let made : LackFrames 1048576 (node_of c.args.self.now.carrier.node) c.in-Some.made.said c.in-Some.made.frames.items = subst (AreAhead (node_of c.args.self.now.carrier.node)) c.in-Some.is c.requires in
-    let lacks = made.lacks in
-    subst (λ n. AreLacked 1048576 n c.in-Some.made.frames.items) (sym (c.acknowledge.ensures.gives lacks.after lacks.stores))
-    (record { parts = made.parts; facts = lacks.facts; fit = lacks.fit; join = lacks.join; few = lacks.few; spelled = made.spelled })
+returns-in-Some-clause-frames c = lacked_again (node_of c.args.self.now.carrier.node) c.args.self.now.notes.last c.in-Some.last c.in_ok-again.again.items c.in-Some.is c.in_ok-again.ensures c.requires.1
+
+pub returns-in-Some-clause-ready : goal.returns-in-Some-clause-ready
+returns-in-Some-clause-ready c = none_ahead (node_of c.args.self.now.carrier.node) c.take-ahead.new.self c.args.self.now.notes.last c.take-ahead.ensures.after c.requires.1
+
+pub returns-clause-keeps : goal.returns-clause-keeps
+returns-clause-keeps c ops = c.in_ok-list.ensures.keeps ops (rank_of call_of c.args.self.now.rank)
+
+pub returns-clause-ready : goal.returns-clause-ready
+returns-clause-ready c =
+    let node = node_of c.new_list.new.node in
+    none_ahead node c.take-ahead.new.self c.in_ok-last.last c.take-ahead.ensures.after (kept_made node c.as_slice.result.now c.in_ok-last.last (subst (AreLacked 1048576 node) (sym c.as_slice.ensures) c.in_ok-list.ensures.frames) c.in_ok-last.ensures)

@@ -14,8 +14,8 @@ pub take_rope-requires : goal.take_rope-requires
 take_rope-requires c =
     record { spelled = subst (λ (b : List ℕ). (parts : PartsView) × IsSpelled b parts) (sym c.lent.ensures) (parts_in (decoded c.args.frame.now.bytes), (Two, c.args.frame.now.spelled)) }
 
-pub returns : goal.returns
-returns c =
+pub returns-clause-took : goal.returns-clause-took
+returns-clause-took c =
     let old = process_of c.args.self.now in
     let taken = subst (λ (b : List ℕ). OnOk c.take_rope.result (node_of c.take_rope.new.self ≡ learn (shown (decoded b)) old.node)) c.lent.ensures c.take_rope.ensures.ok in
     on_each_ok c.take_rope.result (λ took. ap (λ n. let v : ProcessView = record { rank = old.rank; node = n } in v) took) taken

@@ -11,6 +11,7 @@ returns-then-not-has_sent c =
       says = λ ops. keeps_node_itself Saying ops v.node v.node refl v.rank;
       list = subst (IsListOf c.args.processes c.args.turn v.rank.me v.node) (sym (ap (map frame_of) c.new.ensures.items)) no_list;
       whole = λ less. let out : true ≡ false = sym (c.has_sent.ensures.1 less) ∙ c.if-not-has_sent.true in cc out;
+      ready = c.requires.ready;
     }
 
 pub returns : goal.returns
@@ -19,4 +20,5 @@ returns c =
       says = c.in_ok-made.ensures.keeps;
       list = c.in_ok-made.ensures.list c.args.processes c.receiver-to.ensures.below;
       whole = λ less. c.in_ok-made.ensures.join;
+      ready = c.in_ok-made.ensures.ready;
     }
