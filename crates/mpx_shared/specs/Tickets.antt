@@ -1,16 +1,14 @@
 -- What the calls of a shared port tell of the port under its lock, at a moment of the call.
-use Rattle.std.specs.Prelude.{◌≡◌, ◌≢◌, ℕ, ℤ, Bool, List, [], ◌∷◌, ◌++◌, length, Option, None, Some, Result, Ok, Err, IfOk, slice_get}
+use Rattle.std.specs.Prelude.{◌≡◌, ℕ, ℤ, Bool, List, [], ◌∷◌, ◌++◌, length, Option, Some, Result, Ok, Err, IfOk}
 use Rattle.atomic_table.specs.Seated.{TableId}
 use Rattle.mpx_name.specs.Name.{Name}
-use Rattle.mpx_num.specs.declared.own.Operation.{Operation}
 use Rattle.mpx_post.specs.Posts.{Given}
 use Rattle.mpx_birth.specs.Births.{BirthView}
 use Rattle.mpx_post.specs.declared.draft.Draft.{Draft}
 use Rattle.mpx_post.specs.declared.draft.PostError.{PostError}
 use Rattle.mpx_board.specs.Boards.{told}
-use Rattle.mpx_value.specs.Histories.{has_freed, posts_on}
-use Rattle.mpx_node.specs.declared.finished.Finished.{Finished}
-use Rattle.mpx_node.specs.Nodes.{NodeView, Opens, Posts, checked_on, gathers_on, posted_on, results_on}
+use Rattle.mpx_value.specs.Histories.{has_freed}
+use Rattle.mpx_node.specs.Nodes.{Opens, Posts, checked_on, gathers_on}
 use Rattle.mpx_bus.specs.declared.act.Setup.{Setup}
 use Rattle.mpx_bus.specs.declared.act.Act.{Act}
 use Rattle.mpx_bus.specs.declared.act.Act.TheVariants as A
