@@ -1,6 +1,7 @@
 pub mod Later
 pub mod Turns
 pub mod Requests
+pub mod Any
 pub mod Desks
 pub mod Lines
 pub mod Keeps

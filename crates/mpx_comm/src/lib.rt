@@ -18,11 +18,13 @@ mod laws;
 mod lines;
 mod look;
 mod neighbourhoods;
+mod progress;
 mod reductions;
 mod request;
 mod rooted;
+mod some;
 
-pub use answers::{CallError, Tested, WaitError};
+pub use answers::{CallError, Tested, TurnError, WaitError};
 pub use comm::{Comm, OpenedGathering};
 pub use desk::Desk;
 pub use host::Host;
