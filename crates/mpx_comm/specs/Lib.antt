@@ -2,6 +2,7 @@ pub mod Later
 pub mod Turns
 pub mod Requests
 pub mod Any
+pub mod Asking
 pub mod Desks
 pub mod Lines
 pub mod Keeps

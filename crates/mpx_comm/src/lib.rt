@@ -9,6 +9,7 @@
 
 mod alone;
 mod answers;
+mod asking;
 mod comm;
 mod communicators;
 mod desk;
@@ -25,6 +26,7 @@ mod rooted;
 mod some;
 
 pub use answers::{CallError, Tested, TurnError, WaitError};
+pub use asking::{AskError, Relation};
 pub use comm::{Comm, OpenedGathering};
 pub use desk::Desk;
 pub use host::Host;
