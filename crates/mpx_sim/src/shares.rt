@@ -16,7 +16,7 @@ pub(crate) fn for_each_share<R: Threads + Sync, T: Send, F: Fn(usize, &mut T) + 
     threads: usize,
     work: &F,
 )
-    requires { AcceptsEach F.Fn work.now places.old }
+    requires accepts { AcceptsEach F.Fn work.now places.old }
     ensures { ChangesEach F.Fn work.now places.old places.new }
 {
     let threads = threads.min(places.len());

@@ -32,5 +32,5 @@ returns-clause-ready g c place q at =
     let sound : q.notes.failed ≡ false = all_at (λ (x : Process). x.notes.failed ≡ false) new place q at c.in_ok-none_failed.ensures in
     subst IsReady k.left (k.call (ap (λ (x : Process). x.notes.failed) k.left ∙ sound)).1
 
-pub for_each_share-requires : goal.for_each_share-requires
-for_each_share-requires g c i p l is = c.requires i p.now (slice_get-get_or c.args.processes.now i p.now l ∙ ap Some (sym is))
+pub for_each_share-requires-clause-accepts : goal.for_each_share-requires-clause-accepts
+for_each_share-requires-clause-accepts g c κs within i p l is = c.requires i p.now (slice_get-get_or c.args.processes.now i p.now l ∙ ap Some (sym is))

@@ -25,4 +25,4 @@ returns-clause-keeps c ops = c.in_ok-list.ensures.keeps ops (rank_of call_of c.a
 pub returns-clause-ready : goal.returns-clause-ready
 returns-clause-ready c =
     let node = node_of c.new_list.new.node in
-    none_ahead node c.take-ahead.new.self c.in_ok-last.last c.take-ahead.ensures.after (kept_made node c.as_slice.result.now c.in_ok-last.last (subst (AreLacked 1048576 node) (sym c.as_slice.ensures) c.in_ok-list.ensures.frames) c.in_ok-last.ensures)
+    none_ahead node c.take-ahead.new.self c.in_ok-last.last c.take-ahead.ensures.after (kept_made node c.as_slice.result.now c.in_ok-last.last (subst (AreLacked 1048576 node) (sym c.as_slice.ensures.value) c.in_ok-list.ensures.frames) c.in_ok-last.ensures)
