@@ -1,11 +1,12 @@
 //! A member of a job: the host of a rank's desk in a thread of its own.
-ghost use Rattle.std.specs.Prelude.{◌≡◌, OnErr, OnOk, false};
+ghost use Rattle.std.specs.Prelude.{◌≡◌, IfSome, OnErr, OnOk, false, is_some, true};
+ghost use Rattle.std.proofs.Props.{props};
 ghost use Rattle.mpx_bus.specs.Buses.{table_of};
 ghost use Rattle.mpx_bus.specs.Ports.{IsSamePort, node_in};
 ghost use Rattle.mpx_comm.specs.Later.{Later};
-ghost use Rattle.mpx_ranks.specs.Members.{PushesOnce};
+ghost use Rattle.mpx_ranks.specs.Members.{Turns};
 
-use crate::crew::Crew;
+use crate::crew::{Crew, Halt};
 use crate::folds::Folds;
 use crate::gossip::gossip;
 use crate::news::News;
@@ -19,10 +20,11 @@ use mpx_num::Ops;
 use mpx_post::{Draft, PostError};
 use std::alloc::Global;
 use std::marker::PhantomData;
-use std::sync::Wait;
+use std::sync::{OnceToken, Wait};
 
 /// A port on a bus that is lent, with the job's own operations, what the threads tell each other, and the right to wait. A turn takes
 /// a frame out of the queue and puts one in, drops posts that every member has harvested, and rests, longer while it hears nothing new.
+/// Once all are to stop it makes none any more, and has seen why.
 #[derive(Drop)]
 pub(crate) struct Member<'a, L: Seat, O: Folds, R: Wait> {
     pub(crate) rt: &'a R,
@@ -32,12 +34,14 @@ pub(crate) struct Member<'a, L: Seat, O: Folds, R: Wait> {
     pub(crate) port: Port,
     pub(crate) news: News,
     pub(crate) seat: PhantomData<L>,
+    pub(crate) halt: Option<OnceToken<'a, Halt>>,
     ghost list_is: { O.operations ops.now ≡ L.setup.operations },
     ghost bus_is: { table_of bus.now ≡ L.table },
     ghost free: { L.setup.planned ≡ false },
     ghost table_is: { port.table ≡ L.table },
     ghost setup_is: { port.setup ≡ L.setup },
     ghost me_is: { port.me ≡ L.me },
+    ghost halt_is: { IfSome halt (λ token. token.of ≡ crew.now.halt.id) } by { Prim.hlevel props },
 }
 
 impl<'a, L: Seat, O: Folds, R: Wait> Member<'a, L, O, R> {
@@ -66,6 +70,7 @@ impl<'a, L: Seat, O: Folds, R: Wait> Member<'a, L, O, R> {
             port,
             news: News::new(me),
             seat: PhantomData,
+            halt: None,
         }
     }
 
@@ -140,14 +145,18 @@ impl<'a, L: Seat, O: Folds, R: Wait> Host for Member<'a, L, O, R> {
         self.port.node().result(name, call)
     }
 
-    // Beside what a host says of each: one that is made has pushed what is next, with nothing wanting.
+    // Beside what a host says of each: what one does that is made, and one that isn't. Once all are to stop none is made.
     fn turn(&mut self, alloc: Global) -> Result<(), OutOfMemory>
         ensures later { Later (node_in self.old.port) (node_in self.new.port) }
         ensures counted { OnOk result (IsSamePort self.old.port self.new.port) }
         ensures refused { OnErr result (IsSamePort self.old.port self.new.port) }
-        ensures pushes { OnOk result (PushesOnce self.old.port self.new.port) }
+        ensures turns { OnOk result (Turns false self.old.port self.new.port) }
+        ensures wanted { OnErr result (is_some self.new.halt ≡ false → Turns true self.old.port self.new.port) }
+        ensures halted { OnErr result (is_some self.new.halt ≡ true → self.new.port ≡ self.old.port) }
     {
-        if self.crew.has_stopped() {
+        let crew = self.crew;
+        self.halt = crew.halt();
+        if self.halt.is_some() {
             return Err(OutOfMemory);
         }
         let turned = gossip(self.rt, alloc, self.bus, &mut self.port);
