@@ -22,6 +22,8 @@ use Rattle.mpx_node.specs.Nodes.{NodeView, OpenedView, posted_on, posted_by, Pos
 use Rattle.mpx_comm.specs.declared.request.Request.{Request}
 use Rattle.mpx_comm.specs.Requests.{same_request, close, close_all, ArePosted, result_of, AreResults, WerePending, HasPosted, next_call, IsRefusal, Asks, AwaitsOne, GivesUpOne, Waits, PostsAnd, Calls}
 use Rattle.mpx_comm.specs.declared.answers.WaitError.TheVariants as W
+use Rattle.mpx_comm.specs.declared.answers.TurnError.{TurnError}
+use Rattle.mpx_comm.specs.declared.answers.TurnError.TheVariants as T
 use Rattle.mpx_comm.specs.declared.answers.CallError.{CallError}
 use Rattle.mpx_comm.specs.declared.answers.CallError.TheVariants as C
 use Rattle.mpx_comm.specs.Later.{Later, IsPending, IsOwn}
@@ -252,7 +254,7 @@ were_more ops a b n rs r w since at pending i q l e = by_place (answer (nat_lt i
 
 -- BLOCKING CALLS
 
-module _ {H : Type 0} (ops : List Operation) (node : H → NodeView) (turned : H → ℕ → H → Type 0) (refused : H → H → Type 0) (name : Name) (draft : Draft) (old mid new : H) (before between after : List Request) (turns : ℕ) (q : Request) (asks : Asks ops name draft (Ok q) (node old) (node mid) before between) (still : turned old 0 mid) (later : Later (node mid) (node new)) where
+module _ {H : Type 0} (ops : List Operation) (node : H → NodeView) (turned : H → ℕ → H → Type 0) (refused : H → TurnError → H → Type 0) (name : Name) (draft : Draft) (old mid new : H) (before between after : List Request) (turns : ℕ) (q : Request) (asks : Asks ops name draft (Ok q) (node old) (node mid) before between) (still : turned old 0 mid) (later : Later (node mid) (node new)) where
   -- the post, and then a wait
   posts_and : (waits : H → Type 0) → waits mid → PostsAnd node turned name draft old waits
   posts_and waits since = (mid, still, asks.3, since)
@@ -269,10 +271,18 @@ module _ {H : Type 0} (ops : List Operation) (node : H → NodeView) (turned : H
       let awaited : AwaitsOne node turned back mid turns new = subst (λ (r : Request). AwaitsOne node turned r mid turns new) (sym waits.0) waits.2 in
       (waits.0 ∙ asks.0, posted_then ops name draft (node old) (node mid) (node new) asks.1 later, subst (λ (r : Request). IsPending (node new) r.name r.call) (sym waits.0) waits.1, posts_and (λ h. AwaitsOne node turned back h turns new) awaited, waits.3 ∙ asks.2 ∙ ap (λ r. before ++ r ∷ []) (sym waits.0))
 
+  -- such a wait is given up for this reason
+  given_up : (why : TurnError) (back : Request) → (back ≡ q) × GivesUpOne node turned refused q why turns mid new × (after ≡ between)
+      → (back ≡ next_call (node old) name) × HasPosted ops name draft (node old) (node new) × PostsAnd node turned name draft old (λ posted. GivesUpOne node turned refused back why turns posted new) × (after ≡ before ++ back ∷ [])
+  given_up why back waits =
+      let gave_up : GivesUpOne node turned refused back why turns mid new = subst (λ (r : Request). GivesUpOne node turned refused r why turns mid new) (sym waits.0) waits.1 in
+      (waits.0 ∙ asks.0, posted_then ops name draft (node old) (node mid) (node new) asks.1 later, posts_and (λ h. GivesUpOne node turned refused back why turns h new) gave_up, waits.2 ∙ asks.2 ∙ ap (λ r. before ++ r ∷ []) (sym waits.0))
+
   pub called_without_memory : (back : Request) → Waits node turned refused q turns (Err (W.OutOfMemory back)) mid new between after → Calls ops node turned refused name draft turns (Err (C.OutOfMemory back)) old new before after
-  called_without_memory back waits =
-      let gave_up : GivesUpOne node turned refused back turns mid new = subst (λ (r : Request). GivesUpOne node turned refused r turns mid new) (sym waits.0) waits.1 in
-      (waits.0 ∙ asks.0, posted_then ops name draft (node old) (node mid) (node new) asks.1 later, posts_and (λ h. GivesUpOne node turned refused back turns h new) gave_up, waits.2 ∙ asks.2 ∙ ap (λ r. before ++ r ∷ []) (sym waits.0))
+  called_without_memory back waits = given_up T.OutOfMemory back waits
+
+  pub called_given_up : (back : Request) → Waits node turned refused q turns (Err (W.GaveUp back)) mid new between after → Calls ops node turned refused name draft turns (Err (C.GaveUp back)) old new before after
+  called_given_up back waits = given_up T.GaveUp back waits
 
 -- DRAFTS THAT ARE ROWS
 
@@ -282,6 +292,6 @@ asks_by_row ops name draft row result old new between before after is same asks 
     subst (λ rs. Asks ops name row result old new rs after) same (subst (λ d. Asks ops name d result old new between after) is asks)
 
 -- so is what is called
-pub calls_by_row : {H : Type 0} (ops : List Operation) (node : H → NodeView) (turned : H → ℕ → H → Type 0) (refused : H → H → Type 0) (name : Name) (draft row : Draft) (turns : ℕ) (result : Result Finished CallError) (old new : H) (between before after : List Request) → draft ≡ row → between ≡ before → Calls ops node turned refused name draft turns result old new between after → Calls ops node turned refused name row turns result old new before after
+pub calls_by_row : {H : Type 0} (ops : List Operation) (node : H → NodeView) (turned : H → ℕ → H → Type 0) (refused : H → TurnError → H → Type 0) (name : Name) (draft row : Draft) (turns : ℕ) (result : Result Finished CallError) (old new : H) (between before after : List Request) → draft ≡ row → between ≡ before → Calls ops node turned refused name draft turns result old new between after → Calls ops node turned refused name row turns result old new before after
 calls_by_row ops node turned refused name draft row turns result old new between before after is same calls =
     subst (λ rs. Calls ops node turned refused name row turns result old new rs after) same (subst (λ d. Calls ops node turned refused name d turns result old new between after) is calls)

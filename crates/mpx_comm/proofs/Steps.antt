@@ -327,6 +327,11 @@ pub later_takes : {E : Type 0} (r : Result (Unit {0}) E) (part : Look) (old new 
 later_takes (Ok u) part old new ok err = subst (Later old) (sym ok) (later_learns part old)
 later_takes (Err e) part old new ok err = later_stops part old new err
 
+-- what it has posted, stored and opened is as it was
+pub opened_takes : {E : Type 0} (r : Result (Unit {0}) E) (part : Look) (old new : NodeView) → OnOk r (new ≡ learn part old) → OnErr r (StopsTaking part old new) → new.opened ≡ old.opened
+opened_takes (Ok u) part old new ok err = ap (λ (n : NodeView). n.opened) ok
+opened_takes (Err e) part old new ok err = ap (λ (n : NodeView). n.opened) err.0
+
 -- it says what it has, or that is refused
 pub later_says : {T E : Type 0} (r : Result T E) (old new : NodeView) → OnOk r (SaysWhatItHas old new) → OnErr r (new ≡ old) → Later old new
 later_says (Ok x) old new ok err = subst (Later old) (sym ok.learnt) (later_learns (own_acks old.me ok.numbers) old)

@@ -1,6 +1,7 @@
 -- Counting turns, and looking between them.
-use Rattle.std.proofs.Common.{◌≡◌, ℕ, zero, suc, ◌+◌, ◌-◌, ◌<◌, ◌≤◌, inl, inr, subst, arith}
-use Rattle.std.specs.Prelude.{Result, Ok, Err, OnErr}
+use Rattle.std.proofs.Common.{◌≡◌, ℕ, zero, suc, ◌+◌, ◌-◌, ◌<◌, ◌≤◌, inl, inr, refl, subst, arith}
+use Rattle.mpx_comm.specs.declared.answers.TurnError.{TurnError}
+use Rattle.mpx_comm.specs.declared.answers.TurnError.TheVariants.{OutOfMemory}
 use Rattle.mpx_node.specs.Nodes.{NodeView}
 use Rattle.mpx_comm.specs.Later.{Later}
 use Rattle.mpx_comm.specs.Turns.{Looks, Awaits, GivesUp}
@@ -41,17 +42,12 @@ module _ {H : Type 0} (turned : H → ℕ → H → Type 0) (more : (a b c : H) 
         subst (λ n. Awaits node turned is_pending a n c) same (awaits_look a b c (turns - left) w none later)
 
     -- given up at a look
-    pub gives_up_look : (refused : H → H → Type 0) (at_hand : NodeView → Type 0) (a b c : H) (turns left : ℕ) → Awaits node turned is_pending a (turns - left) b → turned b 0 c → Later (node b) (node c) → at_hand (node c) → GivesUp node turned refused is_pending at_hand turns a c
+    pub gives_up_look : (refused : H → TurnError → H → Type 0) (at_hand : NodeView → Type 0) (a b c : H) (turns left : ℕ) → Awaits node turned is_pending a (turns - left) b → turned b 0 c → Later (node b) (node c) → at_hand (node c) → GivesUp node turned refused is_pending at_hand OutOfMemory turns a c
     gives_up_look refused at_hand a b c turns left w none later here =
-        inl (turns - left, omega arith, awaits_look a b c (turns - left) w none later, here)
+        inl (refl, (turns - left, omega arith, awaits_look a b c (turns - left) w none later, here))
 
     -- given up by a turn after a look at which it was pending
-    pub gives_up_turn : (refused : H → H → Type 0) (at_hand : NodeView → Type 0) (a b c d : H) (turns left : ℕ) → left ≤ turns → 0 < left → Awaits node turned is_pending a (turns - left) b → turned b 0 c → Later (node b) (node c) → is_pending (node c) → refused c d → GivesUp node turned refused is_pending at_hand turns a d
-    gives_up_turn refused at_hand a b c d turns left l some w none later pending refuses =
+    pub gives_up_turn : (refused : H → TurnError → H → Type 0) (at_hand : NodeView → Type 0) (why : TurnError) (a b c d : H) (turns left : ℕ) → left ≤ turns → 0 < left → Awaits node turned is_pending a (turns - left) b → turned b 0 c → Later (node b) (node c) → is_pending (node c) → refused c why d → GivesUp node turned refused is_pending at_hand why turns a d
+    gives_up_turn refused at_hand why a b c d turns left l some w none later pending refuses =
         let few : turns - left < turns = omega (arith, l, some) in
         inr (turns - left, c, few, awaits_look a b c (turns - left) w none later, pending, refuses)
-
--- what is so is so of a refusal
-pub on_err : {T E P : Type 0} (r : Result T E) → P → OnErr r P
-on_err (Ok x) p = tt
-on_err (Err e) p = p

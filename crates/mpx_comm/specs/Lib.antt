@@ -1,6 +1,8 @@
 pub mod Later
 pub mod Turns
 pub mod Requests
+pub mod Any
+pub mod Asking
 pub mod Desks
 pub mod Lines
 pub mod Keeps

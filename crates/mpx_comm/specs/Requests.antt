@@ -18,7 +18,9 @@ use Rattle.mpx_comm.specs.declared.request.Request.{Request}
 use Rattle.mpx_comm.specs.declared.answers.Tested.{Tested}
 use Rattle.mpx_comm.specs.declared.answers.Tested.TheVariants.{Done, NotYet}
 use Rattle.mpx_comm.specs.declared.answers.WaitError.{WaitError}
-use Rattle.mpx_comm.specs.declared.answers.WaitError.TheVariants.{StillWaiting, OutOfMemory as NoMemory}
+use Rattle.mpx_comm.specs.declared.answers.WaitError.TheVariants.{StillWaiting, OutOfMemory as NoMemory, GaveUp}
+use Rattle.mpx_comm.specs.declared.answers.TurnError.{TurnError}
+use Rattle.mpx_comm.specs.declared.answers.TurnError.TheVariants as T
 use Rattle.mpx_comm.specs.declared.answers.CallError.{CallError}
 use Rattle.mpx_comm.specs.declared.answers.CallError.TheVariants as C
 use Rattle.mpx_comm.specs.Later.{result_at, IsAtHand, IsOwn, IsPending}
@@ -127,28 +129,30 @@ AwaitsOne node turned request = Awaits node turned (λ seen. IsPending seen requ
 abbrev pub AwaitsAll : {H : Type 0} → (node : H → NodeView) → (turned : H → ℕ → H → Type 0) → List Request → H → ℕ → H → Type 0
 AwaitsAll node turned requests = Awaits node turned (λ seen. OneIsPending seen requests)
 
--- such a wait is given up for want of memory
+-- such a wait is given up, and why
 
-abbrev pub GivesUpOne : {H : Type 0} → (node : H → NodeView) → (turned : H → ℕ → H → Type 0) → (refused : H → H → Type 0) → Request → (turns : ℕ) → H → H → Type 0
+abbrev pub GivesUpOne : {H : Type 0} → (node : H → NodeView) → (turned : H → ℕ → H → Type 0) → (refused : H → TurnError → H → Type 0) → Request → (why : TurnError) → (turns : ℕ) → H → H → Type 0
 GivesUpOne node turned refused request = GivesUp node turned refused (λ seen. IsPending seen request.name request.call) (λ seen. IsAtHand seen request.name request.call)
 
-abbrev pub GivesUpAll : {H : Type 0} → (node : H → NodeView) → (turned : H → ℕ → H → Type 0) → (refused : H → H → Type 0) → List Request → (turns : ℕ) → H → H → Type 0
+abbrev pub GivesUpAll : {H : Type 0} → (node : H → NodeView) → (turned : H → ℕ → H → Type 0) → (refused : H → TurnError → H → Type 0) → List Request → (why : TurnError) → (turns : ℕ) → H → H → Type 0
 GivesUpAll node turned refused requests = GivesUp node turned refused (λ seen. OneIsPending seen requests) (λ seen. OneIsAtHand seen requests)
 
--- a wait ends with the result after at most so many turns, or without it after just so many, or is given up for want of memory
-abbrev pub Waits : {H : Type 0} → (node : H → NodeView) → (turned : H → ℕ → H → Type 0) → (refused : H → H → Type 0) → Request → (turns : ℕ) → Result Finished (WaitError Request) → (old new : H) → (before after : List Request) → Type 0
+-- a wait ends with the result after at most so many turns, or without it after just so many, or is given up for want of memory or by the host
+abbrev pub Waits : {H : Type 0} → (node : H → NodeView) → (turned : H → ℕ → H → Type 0) → (refused : H → TurnError → H → Type 0) → Request → (turns : ℕ) → Result Finished (WaitError Request) → (old new : H) → (before after : List Request) → Type 0
 Waits node turned refused request turns (Ok finished) old new before after =
     (result_of (node new) request ≡ Some finished) × ((n : ℕ) × (n ≤ turns) × AwaitsOne node turned request old n new) × (after ≡ close before request)
 Waits node turned refused request turns (Err (StillWaiting back)) old new before after =
     (back ≡ request) × IsPending (node new) request.name request.call × AwaitsOne node turned request old turns new × (after ≡ before)
-Waits node turned refused request turns (Err (NoMemory back)) old new before after = (back ≡ request) × GivesUpOne node turned refused request turns old new × (after ≡ before)
+Waits node turned refused request turns (Err (NoMemory back)) old new before after = (back ≡ request) × GivesUpOne node turned refused request T.OutOfMemory turns old new × (after ≡ before)
+Waits node turned refused request turns (Err (GaveUp back)) old new before after = (back ≡ request) × GivesUpOne node turned refused request T.GaveUp turns old new × (after ≡ before)
 
-abbrev pub WaitsAll : {H : Type 0} → (node : H → NodeView) → (turned : H → ℕ → H → Type 0) → (refused : H → H → Type 0) → List Request → (turns : ℕ) → Result (Vec Finished Global) (WaitError (Vec Request Global)) → (old new : H) → (before after : List Request) → Type 0
+abbrev pub WaitsAll : {H : Type 0} → (node : H → NodeView) → (turned : H → ℕ → H → Type 0) → (refused : H → TurnError → H → Type 0) → List Request → (turns : ℕ) → Result (Vec Finished Global) (WaitError (Vec Request Global)) → (old new : H) → (before after : List Request) → Type 0
 WaitsAll node turned refused requests turns (Ok all) old new before after =
     AreResults (node new) requests all.items × ((n : ℕ) × (n ≤ turns) × AwaitsAll node turned requests old n new) × (after ≡ close_all before requests)
 WaitsAll node turned refused requests turns (Err (StillWaiting back)) old new before after =
     (back.items ≡ requests) × OneIsPending (node new) requests × AwaitsAll node turned requests old turns new × (after ≡ before)
-WaitsAll node turned refused requests turns (Err (NoMemory back)) old new before after = (back.items ≡ requests) × GivesUpAll node turned refused requests turns old new × (after ≡ before)
+WaitsAll node turned refused requests turns (Err (NoMemory back)) old new before after = (back.items ≡ requests) × GivesUpAll node turned refused requests T.OutOfMemory turns old new × (after ≡ before)
+WaitsAll node turned refused requests turns (Err (GaveUp back)) old new before after = (back.items ≡ requests) × GivesUpAll node turned refused requests T.GaveUp turns old new × (after ≡ before)
 
 -- BLOCKING CALLS
 
@@ -157,7 +161,7 @@ abbrev pub PostsAnd : {H : Type 0} → (node : H → NodeView) → (turned : H �
 PostsAnd {H} node turned name draft old waits = (posted : H) × turned old 0 posted × (node posted ≡ with_post name (given_by draft) (node old)) × waits posted
 
 -- a blocking call is a post and a wait: its result says the draft's post; where it doesn't come, its request is handed out, still open
-abbrev pub Calls : {H : Type 0} → List Operation → (node : H → NodeView) → (turned : H → ℕ → H → Type 0) → (refused : H → H → Type 0) → Name → Draft → (turns : ℕ) → Result Finished CallError → (old new : H) → (before after : List Request) → Type 0
+abbrev pub Calls : {H : Type 0} → List Operation → (node : H → NodeView) → (turned : H → ℕ → H → Type 0) → (refused : H → TurnError → H → Type 0) → Name → Draft → (turns : ℕ) → Result Finished CallError → (old new : H) → (before after : List Request) → Type 0
 Calls ops node turned refused name draft turns (Ok finished) old new before after =
     HasPosted ops name draft (node old) (node new) × (result_of (node new) (next_call (node old) name) ≡ Some finished) × (finished.mine ≡ given_by draft)
     × ((n : ℕ) × (n ≤ turns) × PostsAnd node turned name draft old (λ posted. AwaitsOne node turned (next_call (node old) name) posted n new))
@@ -168,7 +172,10 @@ Calls ops node turned refused name draft turns (Err (C.StillWaiting request)) ol
     × PostsAnd node turned name draft old (λ posted. AwaitsOne node turned request posted turns new) × (after ≡ before ++ request ∷ [])
 Calls ops node turned refused name draft turns (Err (C.OutOfMemory request)) old new before after =
     (request ≡ next_call (node old) name) × HasPosted ops name draft (node old) (node new)
-    × PostsAnd node turned name draft old (λ posted. GivesUpOne node turned refused request turns posted new) × (after ≡ before ++ request ∷ [])
+    × PostsAnd node turned name draft old (λ posted. GivesUpOne node turned refused request T.OutOfMemory turns posted new) × (after ≡ before ++ request ∷ [])
+Calls ops node turned refused name draft turns (Err (C.GaveUp request)) old new before after =
+    (request ≡ next_call (node old) name) × HasPosted ops name draft (node old) (node new)
+    × PostsAnd node turned name draft old (λ posted. GivesUpOne node turned refused request T.GaveUp turns posted new) × (after ≡ before ++ request ∷ [])
 
 -- the gathering isn't opened, and nothing changes
 abbrev pub IsNotGathered : {H : Type 0} → (node : H → NodeView) → (turned : H → ℕ → H → Type 0) → (parent : Name) → (tag : ℤ) → (ranks : List ℤ) → Result Finished CallError → (old new : H) → (before after : List Request) → Type 0
@@ -176,7 +183,7 @@ IsNotGathered node turned parent tag ranks result old new before after =
     (e : PostError) × (result ≡ Err (C.Refused e)) × Opens parent (gathers_on (node old) parent tag ranks) (Err e) (node old) (node new) × turned old 0 new × (after ≡ before)
 
 -- the gathering is opened, and stays so; then the call is one on it
-abbrev pub CallsGathered : {H : Type 0} → List Operation → (node : H → NodeView) → (turned : H → ℕ → H → Type 0) → (refused : H → H → Type 0) → (parent : Name) → (tag : ℤ) → (ranks : List ℤ) → (turns : ℕ) → Result Finished CallError → (old new : H) → (before after : List Request) → Type 0
+abbrev pub CallsGathered : {H : Type 0} → List Operation → (node : H → NodeView) → (turned : H → ℕ → H → Type 0) → (refused : H → TurnError → H → Type 0) → (parent : Name) → (tag : ℤ) → (ranks : List ℤ) → (turns : ℕ) → Result Finished CallError → (old new : H) → (before after : List Request) → Type 0
 CallsGathered {H} ops node turned refused parent tag ranks turns result old new before after =
     (name : Name) × (opened : H) × Opens parent (gathers_on (node old) parent tag ranks) (Ok name) (node old) (node opened) × turned old 0 opened
     × Calls ops node turned refused name create_group turns result opened new before after

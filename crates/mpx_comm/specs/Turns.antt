@@ -1,6 +1,8 @@
 -- Turns, and looks between them.
-use Rattle.std.specs.Prelude.{ℕ, zero, suc, ◌<◌, ◌≤◌, ◌⊎◌}
+use Rattle.std.specs.Prelude.{◌≡◌, ℕ, zero, suc, ◌<◌, ◌≤◌, ◌⊎◌, Result, Ok, Err}
 use Rattle.mpx_node.specs.Nodes.{NodeView}
+use Rattle.mpx_comm.specs.declared.answers.TurnError.{TurnError}
+use Rattle.mpx_comm.specs.declared.answers.TurnError.TheVariants.{OutOfMemory}
 use Rattle.mpx_comm.specs.Later.{Later}
 
 -- from one state of a host to a later one by so many turns
@@ -16,8 +18,13 @@ Looks {H} node turned is_pending a (suc n) b = (look : H) × Looks node turned i
 abbrev pub Awaits : {H : Type 0} → (node : H → NodeView) → (turned : H → ℕ → H → Type 0) → (is_pending : NodeView → Type 0) → H → ℕ → H → Type 0
 Awaits node turned is_pending a n b = turned a n b × Looks node turned is_pending a n b
 
--- given up for want of memory after at most so many turns: by a look at what is at hand, or by one turn more, which was refused
-abbrev pub GivesUp : {H : Type 0} → (node : H → NodeView) → (turned : H → ℕ → H → Type 0) → (refused : H → H → Type 0) → (is_pending is_at_hand : NodeView → Type 0) → (turns : ℕ) → H → H → Type 0
-GivesUp {H} node turned refused is_pending is_at_hand turns a b =
-    ((n : ℕ) × (n ≤ turns) × Awaits node turned is_pending a n b × is_at_hand (node b))
-    ⊎ ((n : ℕ) × (look : H) × (n < turns) × Awaits node turned is_pending a n look × is_pending (node look) × refused look b)
+-- so many turns and nothing else; or fewer, and then one that was refused, and why
+abbrev pub MakesTurns : {H : Type 0} → (turned : H → ℕ → H → Type 0) → (refused : H → TurnError → H → Type 0) → (turns : ℕ) → Result (Unit {0}) TurnError → H → H → Type 0
+MakesTurns turned refused turns (Ok u) a b = turned a turns b
+MakesTurns {H} turned refused turns (Err why) a b = (n : ℕ) × (last : H) × (n < turns) × turned a n last × refused last why b
+
+-- given up after at most so many turns: memory was wanting at a look at what is at hand, or one turn more was refused, and why
+abbrev pub GivesUp : {H : Type 0} → (node : H → NodeView) → (turned : H → ℕ → H → Type 0) → (refused : H → TurnError → H → Type 0) → (is_pending is_at_hand : NodeView → Type 0) → (why : TurnError) → (turns : ℕ) → H → H → Type 0
+GivesUp {H} node turned refused is_pending is_at_hand why turns a b =
+    ((why ≡ OutOfMemory) × ((n : ℕ) × (n ≤ turns) × Awaits node turned is_pending a n b × is_at_hand (node b)))
+    ⊎ ((n : ℕ) × (look : H) × (n < turns) × Awaits node turned is_pending a n look × is_pending (node look) × refused look why b)

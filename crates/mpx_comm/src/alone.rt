@@ -12,6 +12,7 @@ ghost use Rattle.mpx_node.specs.Deltas.{AreLacked, LackFrames, SaysWhatItHas, la
 ghost use Rattle.mpx_node.specs.Nodes.{StopsTaking, learn, learn_some, prune_part};
 ghost use Rattle.mpx_comm.specs.Harvested.{HarvestsNext};
 
+use crate::answers::TurnError;
 use crate::desk::Desk;
 use crate::host::Host;
 use join_core::OutOfMemory;
@@ -36,7 +37,7 @@ impl Host for Node {
     ghost turned = { λ a n b. Unit {0} };
 
     // None is refused.
-    ghost turn_refused = { λ a b. ⊥ };
+    ghost turn_refused = { λ a why b. ⊥ };
 
     fn post(
         &mut self,
@@ -70,7 +71,11 @@ impl Host for Node {
         Node::result(self, name, call)
     }
 
-    fn turn(&mut self, _alloc: Global) -> Result<(), OutOfMemory> {
+    fn board(&self) -> &Board {
+        Node::board(self)
+    }
+
+    fn turn(&mut self, _alloc: Global) -> Result<(), TurnError> {
         Ok(())
     }
 

@@ -50,6 +50,17 @@ impl Comm {
         }
     }
 
+    /// The same communicator once more, for the same member.
+    pub fn copy(&self, alloc: Global) -> Result<Comm, OutOfMemory>
+        ensures { IfOk result (λ comm. comm ≡ self.now) }
+    {
+        Ok(Comm {
+            name: self.name.copy(alloc)?,
+            size: self.size,
+            rank: self.rank,
+        })
+    }
+
     /// The name of its context.
     pub fn name(&self) -> &Name
         ensures { result.now ≡ self.now.name }

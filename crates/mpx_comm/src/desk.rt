@@ -10,7 +10,7 @@ ghost use Rattle.mpx_comm.specs.Harvested.{Harvested};
 ghost use Rattle.mpx_comm.specs.Later.{Later, IsAtHand};
 ghost use Rattle.mpx_comm.specs.Requests.{HasStatus, IsRefusal, Tests, TestsAll, TestsAny, Waits, WaitsAll, ArePosted};
 
-use crate::answers::{CallError, Tested, WaitError};
+use crate::answers::{CallError, Tested, TurnError, WaitError};
 use crate::comm::{Comm, OpenedGathering};
 use crate::host::Host;
 use crate::look::{await_all, await_one, close_each, look, look_all, look_any};
@@ -219,7 +219,8 @@ impl<H: Host> Desk<H> {
 
     /// Waits for the result (`MPI_WAIT`, MPI 4.1 section 3.7.3) while the host makes at most `turns` turns: it looks once before the
     /// first and once after each, and makes no turn after the look that finds it, which closes the request. An `Err` hands the request
-    /// back: `StillWaiting` after just `turns` turns; `OutOfMemory` at a look at what is at hand, or by a turn that is refused.
+    /// back: `StillWaiting` after just `turns` turns; `OutOfMemory` at a look at what is at hand, or for a turn; `GaveUp` where the host
+    /// makes no turn any more.
     pub fn wait(
         &mut self,
         alloc: Global,
@@ -231,7 +232,8 @@ impl<H: Host> Desk<H> {
         ensures later { Later (H.node self.old.host) (H.node self.new.host) }
     {
         match await_one(alloc, &mut self.host, &request, turns, ops) {
-            Err(_) => Err(WaitError::OutOfMemory(request)),
+            Err(TurnError::OutOfMemory) => Err(WaitError::OutOfMemory(request)),
+            Err(TurnError::GaveUp) => Err(WaitError::GaveUp(request)),
             Ok(None) => Err(WaitError::StillWaiting(request)),
             Ok(Some(finished)) => {
                 self.requests.shift_remove(&request);
@@ -255,7 +257,8 @@ impl<H: Host> Desk<H> {
         ensures later { Later (H.node self.old.host) (H.node self.new.host) }
     {
         match await_all(alloc, &mut self.host, &requests, turns, ops) {
-            Err(_) => Err(WaitError::OutOfMemory(requests)),
+            Err(TurnError::OutOfMemory) => Err(WaitError::OutOfMemory(requests)),
+            Err(TurnError::GaveUp) => Err(WaitError::GaveUp(requests)),
             Ok(None) => Err(WaitError::StillWaiting(requests)),
             Ok(Some(all)) => {
                 close_each(&mut self.requests, &requests);
@@ -304,6 +307,7 @@ impl<H: Host> Desk<H> {
             Ok(finished) => Ok(finished),
             Err(WaitError::StillWaiting(request)) => Err(CallError::StillWaiting(request)),
             Err(WaitError::OutOfMemory(request)) => Err(CallError::OutOfMemory(request)),
+            Err(WaitError::GaveUp(request)) => Err(CallError::GaveUp(request)),
         }
     }
 }

@@ -1,13 +1,17 @@
 //! Who posts for a process and hears of others.
-ghost use Rattle.std.specs.Prelude.{◌≡◌, ◌+◌, ◌≤◌, ℕ, List, OnOk, OnErr, slice_get};
+ghost use Rattle.std.specs.Prelude.{◌≡◌, ◌+◌, ◌≤◌, ℕ, List, IfErr, OnOk, slice_get};
 ghost use Rattle.std.specs.Option.{option_copied};
 ghost use Rattle.mpx_num.specs.declared.own.Operation.{Operation};
 ghost use Rattle.mpx_post.specs.Drafts.{refusal_of};
+ghost use Rattle.mpx_board.specs.Looks.{look};
 ghost use Rattle.mpx_node.specs.Nodes.{NodeView, Opens, Posts, checked_on, gathers_on, results_on, posted_on, front_on};
 ghost use Rattle.mpx_comm.specs.Harvested.{HarvestsNext};
 ghost use Rattle.mpx_comm.specs.Later.{Later};
+ghost use Rattle.mpx_comm.specs.declared.answers.TurnError.{TurnError as TurnErrorView};
 
+use crate::answers::TurnError;
 use join_core::OutOfMemory;
+use mpx_board::Board;
 use mpx_name::Name;
 use mpx_node::{Finished, Harvest};
 use mpx_num::{Listing, Ops};
@@ -26,8 +30,8 @@ pub trait Host: Drop {
     /// It may go from one state to another by making so many turns.
     ghost turned: { Self → ℕ → Self → Type 0 };
 
-    /// A turn may be refused from one state to another.
-    ghost turn_refused: { Self → Self → Type 0 };
+    /// A turn may be refused so, from one state to another.
+    ghost turn_refused: { Self → TurnErrorView → Self → Type 0 };
 
     /// Posts the draft as the next call on a context, and gives its number. It makes no turn. An `Err` changes nothing: it is the draft's
     /// first refusal, or want of memory where it has none.
@@ -66,12 +70,17 @@ pub trait Host: Drop {
     fn result(&self, name: &Name, call: u32) -> Option<&Finished>
         ensures { option_copied result ≡ slice_get (results_on (node self.now) name.now) call };
 
-    /// Lets time pass once: others may hear of this process, and it of them. Calls that wait make as many turns as they are given, at
-    /// most. An `Err` is want of memory, or says that the host makes no turn any more.
-    fn turn(&mut self, alloc: Global) -> Result<(), OutOfMemory>
+    /// What the process knows of all communicators.
+    fn board(&self) -> &Board
+        ensures { look result.now ≡ (node self.now).board };
+
+    /// Lets time pass once: others may hear of this process, and it of them. It posts nothing, harvests nothing and opens nothing. Calls
+    /// that wait make as many turns as they are given, at most. An `Err` is want of memory, or says that the host makes no turn any more.
+    fn turn(&mut self, alloc: Global) -> Result<(), TurnError>
         ensures later { Later (node self.old) (node self.new) }
+        ensures opened { (node self.new).opened ≡ (node self.old).opened }
         ensures counted { OnOk result (turned self.old 1 self.new) }
-        ensures refused { OnErr result (turn_refused self.old self.new) };
+        ensures refused { IfErr result (λ why. turn_refused self.old why self.new) };
 
     /// There are no more results than posts.
     ghost bounded: { (h : Self) (name : _) → front_on (node h) name ≤ posted_on (node h) name };

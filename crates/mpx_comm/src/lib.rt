@@ -9,6 +9,7 @@
 
 mod alone;
 mod answers;
+mod asking;
 mod comm;
 mod communicators;
 mod desk;
@@ -18,11 +19,14 @@ mod laws;
 mod lines;
 mod look;
 mod neighbourhoods;
+mod progress;
 mod reductions;
 mod request;
 mod rooted;
+mod some;
 
-pub use answers::{CallError, Tested, WaitError};
+pub use answers::{CallError, Tested, TurnError, WaitError};
+pub use asking::{AskError, Relation};
 pub use comm::{Comm, OpenedGathering};
 pub use desk::Desk;
 pub use host::Host;

@@ -1,9 +1,12 @@
 //! How a test looks for results, and a wait looks between turns.
 ghost use Rattle.std.specs.Prelude.{◌≡◌, ◌≤◌, ℕ, IfOk, IfErr, MatchOption, length, slice_get};
+ghost use Rattle.mpx_comm.specs.Any.{AwaitsAny, FindsAny, GivesUpAny, LooksInVain, LooksLast};
 ghost use Rattle.mpx_comm.specs.Harvested.{Harvested};
 ghost use Rattle.mpx_comm.specs.Later.{Later, IsAtHand, IsPending};
 ghost use Rattle.mpx_comm.specs.Requests.{AwaitsAll, AwaitsOne, GivesUpAll, GivesUpOne, result_of, close_all, OneIsAtHand, OneIsPending, AreResults, WerePending};
+ghost use Rattle.mpx_comm.specs.Turns.{MakesTurns};
 
+use crate::answers::TurnError;
 use crate::host::Host;
 use crate::request::Request;
 use indexmap::IndexSet;
@@ -104,12 +107,12 @@ pub fn await_one<H: Host>(
     request: &Request,
     turns: u64,
     ops: &Ops,
-) -> Result<Option<Finished>, OutOfMemory>
+) -> Result<Option<Finished>, TurnError>
     ensures later { Later (H.node host.old) (H.node host.new) }
     ensures found { IfOk result (λ found. MatchOption found
         (IsPending (H.node host.new) request.now.name request.now.call × AwaitsOne H.node H.turned request.now host.old turns host.new)
         (λ finished. (result_of (H.node host.new) request.now ≡ Some finished) × ((n : ℕ) × (n ≤ turns) × AwaitsOne H.node H.turned request.now host.old n host.new))) }
-    ensures gave_up { IfErr result (λ e. GivesUpOne H.node H.turned H.turn_refused request.now turns host.old host.new) }
+    ensures gave_up { IfErr result (λ why. GivesUpOne H.node H.turned H.turn_refused request.now why turns host.old host.new) }
 {
     let mut left = turns;
     loop {
@@ -131,12 +134,12 @@ pub fn await_all<H: Host>(
     requests: &[Request],
     turns: u64,
     ops: &Ops,
-) -> Result<Option<Vec<Finished>>, OutOfMemory>
+) -> Result<Option<Vec<Finished>>, TurnError>
     ensures later { Later (H.node host.old) (H.node host.new) }
     ensures found { IfOk result (λ found. MatchOption found
         (OneIsPending (H.node host.new) requests.now × AwaitsAll H.node H.turned requests.now host.old turns host.new)
         (λ all. AreResults (H.node host.new) requests.now all.items × ((n : ℕ) × (n ≤ turns) × AwaitsAll H.node H.turned requests.now host.old n host.new))) }
-    ensures gave_up { IfErr result (λ e. GivesUpAll H.node H.turned H.turn_refused requests.now turns host.old host.new) }
+    ensures gave_up { IfErr result (λ why. GivesUpAll H.node H.turned H.turn_refused requests.now why turns host.old host.new) }
 {
     let mut left = turns;
     loop {
@@ -149,4 +152,47 @@ pub fn await_all<H: Host>(
         host.turn(alloc)?;
         left -= 1;
     }
+}
+
+// Looks at all of them before the first turn and after each: the first that is done at one look, by its place, and its result.
+pub fn await_any<H: Host>(
+    alloc: Global,
+    host: &mut H,
+    requests: &[Request],
+    turns: u64,
+    ops: &Ops,
+) -> Result<Option<(usize, Finished)>, TurnError>
+    ensures later { Later (H.node host.old) (H.node host.new) }
+    ensures found { IfOk result (λ found. MatchOption found
+        ((look : H) × AwaitsAny (H.goes_by host.old (⟦<Ops as Listing>⟧.operations ops.now)) H.node H.turned requests.now host.old turns look
+        × LooksInVain (H.goes_by host.old (⟦<Ops as Listing>⟧.operations ops.now)) H.node H.turned requests.now look host.new)
+        (λ p. LooksLast (H.goes_by host.old (⟦<Ops as Listing>⟧.operations ops.now)) H.node H.turned requests.now turns
+        (λ looked now. FindsAny (H.goes_by host.old (⟦<Ops as Listing>⟧.operations ops.now)) looked now requests.now p.0 p.1) host.old host.new)) }
+    ensures gave_up { IfErr result (λ why. GivesUpAny (H.goes_by host.old (⟦<Ops as Listing>⟧.operations ops.now)) H.node H.turned H.turn_refused requests.now why turns host.old host.new) }
+{
+    let mut left = turns;
+    loop {
+        if let Some(found) = look_any(alloc, host, requests, ops)? {
+            return Ok(Some(found));
+        }
+        if left == 0 {
+            return Ok(None);
+        }
+        host.turn(alloc)?;
+        left -= 1;
+    }
+}
+
+// So many turns.
+pub fn make_turns<H: Host>(alloc: Global, host: &mut H, turns: u64) -> Result<(), TurnError>
+    ensures turns { MakesTurns H.turned H.turn_refused turns result host.old host.new }
+    ensures later { Later (H.node host.old) (H.node host.new) }
+    ensures opened { (H.node host.new).opened ≡ (H.node host.old).opened }
+{
+    let mut left = turns;
+    while left != 0 {
+        host.turn(alloc)?;
+        left -= 1;
+    }
+    Ok(())
 }

@@ -1,6 +1,6 @@
 //! Each call by its name, blocking and nonblocking, by the only rank of a communicator that has an edge to itself.
-use mpx_comm::{CallError, Comm, Desk, Request};
-use mpx_group::Proc;
+use mpx_comm::{AskError, CallError, Comm, Desk, Relation, Request};
+use mpx_group::{Proc, Rank};
 use mpx_kind::{Exchange, Kind, Neighbourhood, NewCommunicator, Reduction};
 use mpx_node::{Finished, Node};
 use mpx_num::{Numbers, Op, Ops, Ty};
@@ -347,6 +347,26 @@ fn all_calls(rt: &impl Abort, alloc: Global, desk: &mut Desk<Node>, comm: &Comm,
     assert!(rt; matches!(closed, Err(PostError::Closed)));
 }
 
+// What the rank is told of the graph's communicator.
+fn asks(alloc: Global, desk: &Desk<Node>, comm: &Comm) -> Result<bool, Fail> {
+    let world = Comm::world(alloc, 1, 0);
+    let twin = comm.copy(alloc)?;
+    let is_known = desk.members(comm)?.len() == 1
+        && desk.compare(comm, &twin)? == Relation::Ident
+        && desk.compare(comm, &world)? == Relation::Congruent;
+    let ranks = desk.translate(alloc, comm, &[Rank::At(0), Rank::At(1)], &world)?;
+    let is_translated = ranks.as_slice() == [Rank::At(0), Rank::Undefined];
+    let (sources, destinations) = (desk.sources(comm)?, desk.destinations(comm)?);
+    let is_graph = sources.len() == 1 && sources[0].weight == 4 && destinations.len() == 1;
+    Ok(
+        is_known
+            && is_translated
+            && is_graph
+            && desk.is_weighted(comm)?
+            && matches!(desk.sources(&world), Err(AskError::NoTopology)),
+    )
+}
+
 #[test]
 fn calls_by_name(rt: HostRuntime) -> Result<(), Fail> {
     let alloc = rt.alloc();
@@ -354,6 +374,7 @@ fn calls_by_name(rt: HostRuntime) -> Result<(), Fail> {
     let mut desk = Desk::new(alloc, Node::new(alloc, Proc::new(0), 1, 1)?);
     let comm = with_edges(alloc, &mut desk, &ops);
     if let Some(comm) = &comm {
+        assert!(rt; asks(alloc, &desk, comm)?);
         all_calls(&rt, alloc, &mut desk, comm, &ops);
     }
     assert!(rt; comm.is_some());

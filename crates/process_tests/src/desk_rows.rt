@@ -35,10 +35,16 @@ const NOT_MEMBER: Told = Told::Refused(PostError::NotMember);
 // The left rank posts two sums, the right one its part of the first: all are handed back, and the first open one is it. A
 // request that was closed is still answered. The second sum is done once the right rank has posted its part.
 const TESTED: &[Row] = &[
+    Row::Left(Act::WaitsAny, Told::NoneIsOpen),
     Row::Left(Act::Starts(1), Told::Open),
     Row::Left(Act::Starts(10), Told::Open),
+    Row::Left(Act::Awaits(0), Told::AwaitsRank(1)),
+    Row::Left(Act::WaitsAny, Told::NoneIsDone),
     Row::Right(Act::Starts(2), Told::Open),
     Row::Swap,
+    Row::Left(Act::Turns, YES),
+    Row::Left(Act::Awaits(0), Told::AwaitsNone),
+    Row::Left(Act::Awaits(1), Told::AwaitsRank(1)),
     Row::Left(Act::TestsAll, Told::NotYet),
     Row::Left(Act::TestsAny, Told::First(0)),
     Row::Left(Act::Tests(1), Told::NotYet),
@@ -47,7 +53,9 @@ const TESTED: &[Row] = &[
     Row::Left(Act::TestsAny, Told::NoneIsDone),
     Row::Right(Act::Starts(20), Told::Open),
     Row::Swap,
+    Row::Left(Act::WaitsAny, Told::First(1)),
     Row::Left(Act::WaitsAll, Told::Sum(10, 30)),
+    Row::Left(Act::WaitsAny, Told::NoneIsOpen),
     Row::Right(Act::Tests(0), Told::Sum(2, 3)),
     Row::Right(Act::TestsAll, Told::Sum(20, 30)),
 ];

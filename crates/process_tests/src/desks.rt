@@ -29,6 +29,11 @@ pub enum Act {
     TestsAll,
     WaitsAll,
     TestsAny,
+    // For any open request, a turn.
+    WaitsAny,
+    Turns,
+    // It asks whose posts the request waits for.
+    Awaits(usize),
     // It opens the gathering of rank 0.
     Opens,
     // It takes the board of this frame.
@@ -51,6 +56,10 @@ pub enum Told {
     // The call with this number is the first one that is done.
     First(u32),
     NoneIsDone,
+    NoneIsOpen,
+    // Of just this rank, or of none.
+    AwaitsRank(u8),
+    AwaitsNone,
     Harvest(Harvest),
     Prune(Result<(), PruneError>),
     Is(bool),
@@ -134,7 +143,7 @@ fn waits(alloc: Global, member: &mut Member, at: usize, ops: &Ops) -> Result<Tol
     match member.desk.wait(alloc, request, 0, ops) {
         Ok(finished) => gave(alloc, &finished),
         Err(WaitError::StillWaiting(request)) => keeps(member, request, Told::NotYet),
-        Err(WaitError::OutOfMemory(_)) => Ok(Told::Other),
+        Err(_) => Ok(Told::Other),
     }
 }
 
@@ -170,6 +179,27 @@ fn tests_any(alloc: Global, member: &mut Member, ops: &Ops) -> Result<Told, Fail
     match member.desk.testany(alloc, ops)? {
         None => Ok(Told::NoneIsDone),
         Some((request, _)) => Ok(Told::First(request.call())),
+    }
+}
+
+fn waits_any(alloc: Global, member: &mut Member, ops: &Ops) -> Told {
+    match member.desk.waitany(alloc, 1, ops) {
+        Ok(None) => Told::NoneIsOpen,
+        Ok(Some((request, _))) => Told::First(request.call()),
+        Err(WaitError::StillWaiting(())) => Told::NoneIsDone,
+        Err(_) => Told::Other,
+    }
+}
+
+fn awaits(alloc: Global, member: &Member, at: usize) -> Result<Told, Fail> {
+    let Some(request) = member.requests.get(at) else {
+        return Ok(Told::Other);
+    };
+    let ranks = member.desk.awaited(alloc, request)?;
+    match ranks.as_slice() {
+        [] => Ok(Told::AwaitsNone),
+        [rank] => Ok(Told::AwaitsRank(*rank)),
+        _ => Ok(Told::Other),
     }
 }
 
@@ -219,6 +249,9 @@ pub fn gets(alloc: Global, member: &mut Member, act: Act, ops: &Ops) -> Result<T
         Act::TestsAll => tests_all(alloc, member, ops),
         Act::WaitsAll => waits_all(alloc, member, ops),
         Act::TestsAny => tests_any(alloc, member, ops),
+        Act::WaitsAny => Ok(waits_any(alloc, member, ops)),
+        Act::Turns => Ok(Told::Is(member.desk.turn(alloc, 3).is_ok())),
+        Act::Awaits(at) => awaits(alloc, member, at),
         Act::Opens => Ok(opens(alloc, member)),
         Act::Takes(frame) => takes(alloc, &mut member.desk, frame),
         Act::Harvests(on) => harvests(alloc, &mut member.desk, on, ops),

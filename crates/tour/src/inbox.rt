@@ -5,7 +5,7 @@ ghost use Rattle.tour.specs.Turns.{take_more};
 
 use join_core::OutOfMemory;
 use mpx_board::Board;
-use mpx_comm::Host;
+use mpx_comm::{Host, TurnError};
 use mpx_name::Name;
 use mpx_node::{Finished, Harvest, Node};
 use mpx_num::Ops;
@@ -32,7 +32,7 @@ impl Host for Inbox {
     ghost turned = { λ a n b. b.boards.items ≡ drop n a.boards.items };
 
     // One that is refused takes none.
-    ghost turn_refused = { λ a b. b.boards.items ≡ a.boards.items };
+    ghost turn_refused = { λ a why b. b.boards.items ≡ a.boards.items };
 
     fn post(
         &mut self,
@@ -66,7 +66,11 @@ impl Host for Inbox {
         self.node.result(name, call)
     }
 
-    fn turn(&mut self, alloc: Global) -> Result<(), OutOfMemory> {
+    fn board(&self) -> &Board {
+        self.node.board()
+    }
+
+    fn turn(&mut self, alloc: Global) -> Result<(), TurnError> {
         if let Some(board) = self.boards.front() {
             self.node.take(alloc, board)?;
             self.boards.pop_front();

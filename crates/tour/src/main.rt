@@ -7,6 +7,7 @@ mod inbox;
 mod nodes;
 mod numbers;
 mod own;
+mod polling;
 mod primes;
 mod shares;
 mod stop;

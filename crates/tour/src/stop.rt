@@ -1,6 +1,6 @@
 //! Why the tour stops.
 use join_core::OutOfMemory;
-use mpx_comm::{CallError, WaitError};
+use mpx_comm::{CallError, TurnError, WaitError};
 use mpx_post::PostError;
 use mpx_ranks::RanksError;
 use std::alloc::{AllocError, AllocFailed};
@@ -15,7 +15,7 @@ pub enum Stop {
     /// A call was refused, and not posted.
     #[error("refused {0}")]
     Refused(PostError),
-    /// A call isn't done, or it gave something else.
+    /// A call isn't done, the host gave up, or the call gave something else.
     #[error("no answer")]
     NoAnswer,
     /// The writer failed.
@@ -66,7 +66,7 @@ impl From<CallError> for Stop {
     fn from(error: CallError) -> Stop {
         match error {
             CallError::Refused(refusal) => refusal.into(),
-            CallError::StillWaiting(_) => Stop::NoAnswer,
+            CallError::StillWaiting(_) | CallError::GaveUp(_) => Stop::NoAnswer,
             CallError::OutOfMemory(_) => Stop::OutOfMemory,
         }
     }
@@ -75,8 +75,17 @@ impl From<CallError> for Stop {
 impl<R: Drop> From<WaitError<R>> for Stop {
     fn from(error: WaitError<R>) -> Stop {
         match error {
-            WaitError::StillWaiting(_) => Stop::NoAnswer,
+            WaitError::StillWaiting(_) | WaitError::GaveUp(_) => Stop::NoAnswer,
             WaitError::OutOfMemory(_) => Stop::OutOfMemory,
+        }
+    }
+}
+
+impl From<TurnError> for Stop {
+    fn from(error: TurnError) -> Stop {
+        match error {
+            TurnError::OutOfMemory => Stop::OutOfMemory,
+            TurnError::GaveUp => Stop::NoAnswer,
         }
     }
 }

@@ -25,10 +25,10 @@ fn all_got<R: Threads + Wait + Sync>(
 
 // The line of a rank.
 fn print_got<W: Write>(out: &mut W, rank: usize, got: &Got) -> Result<(), Stop> {
-    let (first, last) = got.sums;
+    let ((first, last), (third, fourth)) = (got.sums, got.in_flight);
     writeln!(
         out,
-        "rank {rank}: sums {first} {last}, split {:?}, group {:?}, ring {}, own {}",
+        "rank {rank}: sums {first} {last} {third} {fourth}, split {:?}, group {:?}, ring {}, own {}",
         got.split, got.group, got.heard, got.own
     )?;
     Ok(())

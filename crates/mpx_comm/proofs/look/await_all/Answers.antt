@@ -1,7 +1,8 @@
 use Rattle.std.proofs.Common.{◌≡◌, ◌-◌, ◌<◌, arith}
+use Rattle.std.proofs.lemmas.Result.{err_from_is_err_and}
 use Rattle.mpx_comm.specs.Requests.{AreResults, OneIsAtHand, OneIsPending}
 use Rattle.mpx_comm.proofs.Steps.{later_more, later_none}
-use Rattle.mpx_comm.proofs.Turns.{awaits_look, awaits_end, awaits_turn, awaits_none, gives_up_look, gives_up_turn, on_err}
+use Rattle.mpx_comm.proofs.Turns.{awaits_look, awaits_end, awaits_turn, awaits_none, gives_up_look, gives_up_turn}
 use Rattle.mpx_comm.proofs.look.await_all.Goals as goal
 
 pub returns-in-Some-clause-found : goal.returns-in-Some-clause-found
@@ -48,10 +49,12 @@ overflow_sub-left g c = let some : 0 < c.loop-all.left = grind (arith, c.if-left
 
 pub returns-in_err-all-clause-gave_up : goal.returns-in_err-all-clause-gave_up
 returns-in_err-all-clause-gave_up g c =
-    on_err _ (gives_up_look g.H.Host.turned g.met.H.Host.turns_more g.H.Host.node (λ node. OneIsPending node c.args.requests.now) g.H.Host.turn_refused (λ node. OneIsAtHand node c.args.requests.now) c.args.host.now c.loop-all.host c.look_all.new.host c.args.turns c.loop-all.left c.loop-all.invariant.awaited c.look_all.ensures.no_turn c.look_all.ensures.later c.in_err-all.ensures.wanting)
+    let p = err_from_is_err_and c.from_residual.result c.from_residual.ensures.1 in
+    rw (p.1, p.2) (gives_up_look g.H.Host.turned g.met.H.Host.turns_more g.H.Host.node (λ node. OneIsPending node c.args.requests.now) g.H.Host.turn_refused (λ node. OneIsAtHand node c.args.requests.now) c.args.host.now c.loop-all.host c.look_all.new.host c.args.turns c.loop-all.left c.loop-all.invariant.awaited c.look_all.ensures.no_turn c.look_all.ensures.later c.in_err-all.ensures.wanting)
 
 pub returns-in_err-turn-clause-gave_up : goal.returns-in_err-turn-clause-gave_up
 returns-in_err-turn-clause-gave_up g c =
     let some : 0 < c.loop-all.left = grind (arith, c.if-left-eq0.false) in
     let pending : OneIsPending (g.H.Host.node c.look_all.new.host) c.args.requests.now = rw c.in_default.is at c.in_ok-all.ensures.found in
-    on_err _ (gives_up_turn g.H.Host.turned g.met.H.Host.turns_more g.H.Host.node (λ node. OneIsPending node c.args.requests.now) g.H.Host.turn_refused (λ node. OneIsAtHand node c.args.requests.now) c.args.host.now c.loop-all.host c.look_all.new.host c.turn.new.self c.args.turns c.loop-all.left c.loop-all.invariant.few some c.loop-all.invariant.awaited c.look_all.ensures.no_turn c.look_all.ensures.later pending c.in_err-turn.ensures.refused)
+    let p = err_from_is_err_and c.from_residual-in_err-turn.result c.from_residual-in_err-turn.ensures.1 in
+    rw (p.1, p.2) (gives_up_turn g.H.Host.turned g.met.H.Host.turns_more g.H.Host.node (λ node. OneIsPending node c.args.requests.now) g.H.Host.turn_refused (λ node. OneIsAtHand node c.args.requests.now) _ c.args.host.now c.loop-all.host c.look_all.new.host c.turn.new.self c.args.turns c.loop-all.left c.loop-all.invariant.few some c.loop-all.invariant.awaited c.look_all.ensures.no_turn c.look_all.ensures.later pending c.in_err-turn.ensures.refused)

@@ -1,8 +1,9 @@
 use Rattle.std.proofs.Common.{◌≡◌, ◌-◌, ◌<◌, Some, arith}
+use Rattle.std.proofs.lemmas.Result.{err_from_is_err_and}
 use Rattle.mpx_comm.specs.Later.{IsAtHand, IsPending}
 use Rattle.mpx_comm.specs.Requests.{result_of}
 use Rattle.mpx_comm.proofs.Steps.{later_more, later_none}
-use Rattle.mpx_comm.proofs.Turns.{awaits_look, awaits_end, awaits_turn, awaits_none, gives_up_look, gives_up_turn, on_err}
+use Rattle.mpx_comm.proofs.Turns.{awaits_look, awaits_end, awaits_turn, awaits_none, gives_up_look, gives_up_turn}
 use Rattle.mpx_comm.proofs.look.await_one.Goals as goal
 
 pub returns-in-Some-clause-found : goal.returns-in-Some-clause-found
@@ -49,10 +50,12 @@ overflow_sub-left g c = let some : 0 < c.loop-finished.left = grind (arith, c.if
 
 pub returns-in_err-finished-clause-gave_up : goal.returns-in_err-finished-clause-gave_up
 returns-in_err-finished-clause-gave_up g c =
-    on_err _ (gives_up_look g.H.Host.turned g.met.H.Host.turns_more g.H.Host.node (λ node. IsPending node c.args.request.now.name c.args.request.now.call) g.H.Host.turn_refused (λ node. IsAtHand node c.args.request.now.name c.args.request.now.call) c.args.host.now c.loop-finished.host c.look.new.host c.args.turns c.loop-finished.left c.loop-finished.invariant.awaited c.look.ensures.no_turn c.look.ensures.later c.in_err-finished.ensures.wanting)
+    let p = err_from_is_err_and c.from_residual.result c.from_residual.ensures.1 in
+    rw (p.1, p.2) (gives_up_look g.H.Host.turned g.met.H.Host.turns_more g.H.Host.node (λ node. IsPending node c.args.request.now.name c.args.request.now.call) g.H.Host.turn_refused (λ node. IsAtHand node c.args.request.now.name c.args.request.now.call) c.args.host.now c.loop-finished.host c.look.new.host c.args.turns c.loop-finished.left c.loop-finished.invariant.awaited c.look.ensures.no_turn c.look.ensures.later c.in_err-finished.ensures.wanting)
 
 pub returns-in_err-turn-clause-gave_up : goal.returns-in_err-turn-clause-gave_up
 returns-in_err-turn-clause-gave_up g c =
     let some : 0 < c.loop-finished.left = grind (arith, c.if-left-eq0.false) in
     let pending : IsPending (g.H.Host.node c.look.new.host) c.args.request.now.name c.args.request.now.call = rw c.in_default.is at c.in_ok-finished.ensures.found in
-    on_err _ (gives_up_turn g.H.Host.turned g.met.H.Host.turns_more g.H.Host.node (λ node. IsPending node c.args.request.now.name c.args.request.now.call) g.H.Host.turn_refused (λ node. IsAtHand node c.args.request.now.name c.args.request.now.call) c.args.host.now c.loop-finished.host c.look.new.host c.turn.new.self c.args.turns c.loop-finished.left c.loop-finished.invariant.few some c.loop-finished.invariant.awaited c.look.ensures.no_turn c.look.ensures.later pending c.in_err-turn.ensures.refused)
+    let p = err_from_is_err_and c.from_residual-in_err-turn.result c.from_residual-in_err-turn.ensures.1 in
+    rw (p.1, p.2) (gives_up_turn g.H.Host.turned g.met.H.Host.turns_more g.H.Host.node (λ node. IsPending node c.args.request.now.name c.args.request.now.call) g.H.Host.turn_refused (λ node. IsAtHand node c.args.request.now.name c.args.request.now.call) _ c.args.host.now c.loop-finished.host c.look.new.host c.turn.new.self c.args.turns c.loop-finished.left c.loop-finished.invariant.few some c.loop-finished.invariant.awaited c.look.ensures.no_turn c.look.ensures.later pending c.in_err-turn.ensures.refused)

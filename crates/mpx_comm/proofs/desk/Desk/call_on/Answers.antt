@@ -1,4 +1,4 @@
-use Rattle.mpx_comm.proofs.Posting.{called, called_in_vain, called_without_memory}
+use Rattle.mpx_comm.proofs.Posting.{called, called_given_up, called_in_vain, called_without_memory}
 use Rattle.mpx_comm.proofs.desk.Desk.call_on.Goals as goal
 
 pub returns-in-Ok-wait : goal.returns-in-Ok-wait
@@ -12,3 +12,7 @@ returns-in-Err-StillWaiting g c = called_in_vain _ g.H.Host.node g.H.Host.turned
 pub returns-in-Err-OutOfMemory : goal.returns-in-Err-OutOfMemory
 returns-in-Err-OutOfMemory g c = called_without_memory _ g.H.Host.node g.H.Host.turned g.H.Host.turn_refused c.args.name.now c.args.draft c.args.self.now.host c.post_on.new.self.host c.wait.new.self.host c.args.self.now.requests.keys c.post_on.new.self.requests.keys c.wait.new.self.requests.keys c.args.turns
     c.in-Ok.request c.in-Ok.ensures.asks c.post_on.ensures.no_turn c.wait.ensures.later c.in-Err-OutOfMemory.request (rw c.in-Err-OutOfMemory.field-0-is at c.in-Err-OutOfMemory.ensures.waits)
+
+pub returns-in-Err-GaveUp : goal.returns-in-Err-GaveUp
+returns-in-Err-GaveUp g c = called_given_up _ g.H.Host.node g.H.Host.turned g.H.Host.turn_refused c.args.name.now c.args.draft c.args.self.now.host c.post_on.new.self.host c.wait.new.self.host c.args.self.now.requests.keys c.post_on.new.self.requests.keys c.wait.new.self.requests.keys c.args.turns
+    c.in-Ok.request c.in-Ok.ensures.asks c.post_on.ensures.no_turn c.wait.ensures.later c.in-Err-GaveUp.request (rw c.in-Err-GaveUp.field-0-is at c.in-Err-GaveUp.ensures.waits)
