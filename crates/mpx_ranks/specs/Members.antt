@@ -11,6 +11,8 @@ use Rattle.mpx_bus.specs.declared.port.Pop.{Pop}
 use Rattle.mpx_bus.specs.declared.port.Pop.TheVariants as O
 use Rattle.mpx_bus.specs.declared.port.Push.{Push}
 use Rattle.mpx_bus.specs.Ports.{IsSamePort, PortView}
+use Rattle.mpx_comm.specs.declared.answers.TurnError.{TurnError}
+use Rattle.mpx_comm.specs.declared.answers.TurnError.TheVariants as T
 use Rattle.mpx_comm.specs.Later.{Later}
 use Rattle.mpx_name.specs.Name.{Name}
 use Rattle.mpx_node.specs.Nodes.{NodeView}
@@ -60,6 +62,11 @@ pub record Turns (tells_want : Bool) (old new : PortView) : Type 0 where
   pub push : Result Push OutOfMemory
   pub pushes : PushesAnother push pruned new
   pub told : tells_want ≡ (wanted_memory pop || is_err push)
+
+-- one that isn't made: memory was wanting; or all of the job are to stop, which was seen, and nothing was done
+abbrev pub RefusesTurn : TurnError → (sees_halt : Bool) → PortView → PortView → Type 0
+RefusesTurn T.OutOfMemory sees_halt old new = Turns true old new
+RefusesTurn T.GaveUp sees_halt old new = (sees_halt ≡ true) × (new ≡ old)
 
 -- ONE PORT
 

@@ -1,10 +1,11 @@
 //! A member of a job: the host of a rank's desk in a thread of its own.
-ghost use Rattle.std.specs.Prelude.{◌≡◌, IfSome, OnErr, OnOk, false, is_some, true};
+ghost use Rattle.std.specs.Prelude.{◌≡◌, IfErr, IfSome, OnOk, false, is_some};
 ghost use Rattle.std.proofs.Props.{props};
+ghost use Rattle.mpx_board.specs.Looks.{look};
 ghost use Rattle.mpx_bus.specs.Buses.{table_of};
 ghost use Rattle.mpx_bus.specs.Ports.{IsSamePort, node_in};
 ghost use Rattle.mpx_comm.specs.Later.{Later};
-ghost use Rattle.mpx_ranks.specs.Members.{Turns};
+ghost use Rattle.mpx_ranks.specs.Members.{RefusesTurn, Turns};
 
 use crate::crew::{Crew, Halt};
 use crate::folds::Folds;
@@ -12,8 +13,9 @@ use crate::gossip::gossip;
 use crate::news::News;
 use crate::seat::Seat;
 use join_core::OutOfMemory;
+use mpx_board::Board;
 use mpx_bus::{Bus, Port};
-use mpx_comm::Host;
+use mpx_comm::{Host, TurnError};
 use mpx_name::Name;
 use mpx_node::{Finished, Harvest};
 use mpx_num::Ops;
@@ -101,7 +103,7 @@ impl<'a, L: Seat, O: Folds, R: Wait> Member<'a, L, O, R> {
 
 impl<'a, L: Seat, O: Folds, R: Wait> Host for Member<'a, L, O, R> {
     ghost use Rattle.mpx_ranks.specs.Bounded.{port_bounded};
-    ghost use Rattle.mpx_ranks.specs.Members.{by_port, same_itself, same_operations, same_then};
+    ghost use Rattle.mpx_ranks.specs.Members.{RefusesTurn, by_port, same_itself, same_operations, same_then};
 
     ghost node = { λ m. node_in m.port };
 
@@ -110,7 +112,7 @@ impl<'a, L: Seat, O: Folds, R: Wait> Host for Member<'a, L, O, R> {
 
     ghost turned = { λ a n b. IsSamePort a.port b.port };
 
-    ghost turn_refused = { λ a b. IsSamePort a.port b.port };
+    ghost turn_refused = { λ a why b. IsSamePort a.port b.port × RefusesTurn why (is_some b.halt) a.port b.port };
 
     fn post(
         &mut self,
@@ -145,24 +147,30 @@ impl<'a, L: Seat, O: Folds, R: Wait> Host for Member<'a, L, O, R> {
         self.port.node().result(name, call)
     }
 
-    // Beside what a host says of each: what one does that is made, and one that isn't. Once all are to stop none is made.
-    fn turn(&mut self, alloc: Global) -> Result<(), OutOfMemory>
+    fn board(&self) -> &Board {
+        self.port.node().board()
+    }
+
+    // Beside what a host says of each: what one does that is made.
+    fn turn(&mut self, alloc: Global) -> Result<(), TurnError>
         ensures later { Later (node_in self.old.port) (node_in self.new.port) }
+        ensures opened { (node_in self.new.port).opened ≡ (node_in self.old.port).opened }
         ensures counted { OnOk result (IsSamePort self.old.port self.new.port) }
-        ensures refused { OnErr result (IsSamePort self.old.port self.new.port) }
+        ensures refused { IfErr result (λ why. IsSamePort self.old.port self.new.port × RefusesTurn why (is_some self.new.halt) self.old.port self.new.port) }
         ensures turns { OnOk result (Turns false self.old.port self.new.port) }
-        ensures wanted { OnErr result (is_some self.new.halt ≡ false → Turns true self.old.port self.new.port) }
-        ensures halted { OnErr result (is_some self.new.halt ≡ true → self.new.port ≡ self.old.port) }
     {
         let crew = self.crew;
         self.halt = crew.halt();
         if self.halt.is_some() {
-            return Err(OutOfMemory);
+            return Err(TurnError::GaveUp);
         }
         let turned = gossip(self.rt, alloc, self.bus, &mut self.port);
         self.news.note(self.port.node().board());
         self.news.rest(self.rt);
-        turned
+        match turned {
+            Ok(()) => Ok(()),
+            Err(OutOfMemory) => Err(TurnError::OutOfMemory),
+        }
     }
 
     ghost bounded = { λ m name. port_bounded m.port name };
