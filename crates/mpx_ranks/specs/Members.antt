@@ -1,15 +1,21 @@
 -- The port of a member.
-use Rattle.std.specs.Prelude.{◌≡◌, ◌⊎◌, ℕ, Bool, List, [], false, true}
+use Rattle.std.specs.Prelude.{◌≡◌, ◌⊎◌, ◌||◌, ◌++◌, ◌∷◌, ℕ, Bool, List, [], Err, Ok, Result, false, is_err, true}
 use Rattle.std.proofs.Common.{refl, ◌∙◌}
 use Rattle.atomic_table.specs.Seated.{TableId}
+use Rattle.join_core.specs.declared.memory.OutOfMemory.{OutOfMemory}
 use Rattle.mpx_num.specs.declared.own.Operation.{Operation}
-use Rattle.mpx_bus.specs.Answers.{PushesNext, Wants}
+use Rattle.mpx_bus.specs.Answers.{PopsOne, PushesNext}
+use Rattle.mpx_bus.specs.declared.act.Act.TheVariants as A
 use Rattle.mpx_bus.specs.declared.act.Setup.{Setup}
 use Rattle.mpx_bus.specs.declared.port.Pop.{Pop}
 use Rattle.mpx_bus.specs.declared.port.Pop.TheVariants as O
 use Rattle.mpx_bus.specs.declared.port.Push.{Push}
-use Rattle.mpx_bus.specs.Ports.{IsSamePort, PortView, node_in}
+use Rattle.mpx_bus.specs.Ports.{IsSamePort, PortView}
+use Rattle.mpx_comm.specs.declared.answers.TurnError.{TurnError}
+use Rattle.mpx_comm.specs.declared.answers.TurnError.TheVariants as T
 use Rattle.mpx_comm.specs.Later.{Later}
+use Rattle.mpx_name.specs.Name.{Name}
+use Rattle.mpx_node.specs.Nodes.{NodeView}
 
 -- no queue
 abbrev pub no_table : TableId
@@ -31,13 +37,36 @@ wanted_memory (O.Took frame) = false
 wanted_memory O.Empty = false
 wanted_memory (O.OutOfMemory frame) = true
 
--- memory was wanting: for the part of a frame that was popped first; or for a new list, and then the port keeps none
-abbrev pub HasWanted : PortView → PortView → Type 0
-HasWanted old new = ((bytes : List ℕ) × (popped : PortView) × Wants bytes old popped) ⊎ (new.kept ≡ [])
+-- nothing was posted, harvested or opened, and what was told is told
+abbrev pub HasHeard : NodeView → NodeView → Type 0
+HasHeard old new = Later old new × (new.opened ≡ old.opened)
 
--- behind what it took it pushed what is next
-abbrev pub PushesOnce : PortView → PortView → Type 0
-PushesOnce old new = (push : Push) × (popped : PortView) × Later (node_in old) (node_in popped) × PushesNext 1048576 push popped new
+-- it drops posts of one context, or does nothing
+abbrev pub Prunes : PortView → PortView → Type 0
+Prunes old new = (new ≡ old) ⊎ ((name : Name) × (number : ℕ) × (new.journal ≡ old.journal ++ A.Pruned name number ∷ []) × (new.kept ≡ old.kept))
+
+-- it pushes the next frame of its list; or memory was wanting for a new list, and it does nothing
+abbrev pub PushesAnother : Result Push OutOfMemory → PortView → PortView → Type 0
+PushesAnother (Ok push) old new = PushesNext 1048576 push old new
+PushesAnother (Err e) old new = (new ≡ old) × (old.kept ≡ [])
+
+-- it pops, drops and pushes, once each and nothing else, and it tells want of memory just where memory was wanting for what it popped or
+-- for what it was to push
+pub record Turns (tells_want : Bool) (old new : PortView) : Type 0 where
+  pub pop : Pop
+  pub popped : PortView
+  pub pops : PopsOne pop old popped
+  pub keeps : popped.kept ≡ old.kept
+  pub pruned : PortView
+  pub prunes : Prunes popped pruned
+  pub push : Result Push OutOfMemory
+  pub pushes : PushesAnother push pruned new
+  pub told : tells_want ≡ (wanted_memory pop || is_err push)
+
+-- one that isn't made: memory was wanting; or all of the job are to stop, which was seen, and nothing was done
+abbrev pub RefusesTurn : TurnError → (sees_halt : Bool) → PortView → PortView → Type 0
+RefusesTurn T.OutOfMemory sees_halt old new = Turns true old new
+RefusesTurn T.GaveUp sees_halt old new = (sees_halt ≡ true) × (new ≡ old)
 
 -- ONE PORT
 

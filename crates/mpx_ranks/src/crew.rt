@@ -1,17 +1,29 @@
-//! What the threads of a job tell each other beside the bus: of none of it anything is claimed.
+//! What the threads of a job tell each other beside the bus.
+ghost use Rattle.std.specs.Prelude.{◌≡◌, IfSome};
+
 use mpx_at_once::Stop;
-use std::sync::Wait;
-use std::sync::atomic::{AtomicBool, AtomicU64, Ordering};
+use std::sync::atomic::{AtomicU64, Ordering};
+use std::sync::{OnceLock, OnceToken, Wait};
 use std::thread::yield_now;
 
-/// How many processes there are, how many of their threads run, how many ranks have returned, and whether all are to stop.
+/// Why all threads of a job are to stop.
+#[derive(Clone, Copy, Drop, PartialEq, Eq)]
+pub(crate) enum Halt {
+    /// A thread was refused, or memory was wanting for the job itself.
+    Refused,
+    /// A rank has given up.
+    GaveUp,
+}
+
+/// How many processes there are, how many of their threads run, how many ranks have returned, and why all are to stop, where they are. The
+/// first reason is kept.
 #[derive(Drop)]
 pub(crate) struct Crew {
     processes: u64,
     ranks: u64,
     there: AtomicU64,
     returned: AtomicU64,
-    stopped: AtomicBool,
+    pub(crate) halt: OnceLock<Halt>,
 }
 
 impl Crew {
@@ -22,48 +34,62 @@ impl Crew {
             ranks: u64::from(ranks),
             there: AtomicU64::new(0),
             returned: AtomicU64::new(0),
-            stopped: AtomicBool::new(false),
+            halt: OnceLock::new(),
         }
     }
 
-    /// Waits until the threads of all processes run, where a rank may have given up already. Where a thread was refused they are to stop, and
-    /// it answers false.
-    pub(crate) fn begins<R: Wait>(&self, rt: &R) -> bool {
+    /// Waits until the threads of all processes run. It answers a token where a thread was refused before that, and only then: a rank may
+    /// have given up while another's thread still looks.
+    pub(crate) fn begins<R: Wait>(&self, rt: &R) -> Option<OnceToken<'_, Halt>>
+        ensures { IfSome result (λ token. (token.of ≡ self.now.halt.id) × (token.value ≡ Halt.Refused)) }
+    {
         self.there.fetch_add(1, Ordering::SeqCst);
         for _ in rt.forever() {
             if self.there.load(Ordering::SeqCst) >= self.processes {
-                return true;
+                return None;
             }
-            if self.has_stopped() {
-                // (the last may have come since, and its rank given up: then no thread was refused)
-                return self.there.load(Ordering::SeqCst) >= self.processes;
+            if let Some(refusal) = self.refusal() {
+                return Some(refusal);
             }
             yield_now();
         }
         unreachable!()
     }
 
+    // That a thread was refused, where one was.
+    fn refusal(&self) -> Option<OnceToken<'_, Halt>>
+        ensures { IfSome result (λ token. (token.of ≡ self.now.halt.id) × (token.value ≡ Halt.Refused)) }
+    {
+        let token = self.halt.witness()?;
+        match self.halt.value(&token) {
+            Halt::Refused => Some(token),
+            Halt::GaveUp => None,
+        }
+    }
+
     /// A rank has returned. Where it has given up all are to stop.
     pub(crate) fn returns(&self, has_given_up: bool) {
         if has_given_up {
-            self.stop();
+            let _first = self.halt.try_set(Halt::GaveUp);
         }
         self.returned.fetch_add(1, Ordering::SeqCst);
     }
 
-    /// Whether all are to stop.
-    pub(crate) fn has_stopped(&self) -> bool {
-        self.stopped.load(Ordering::SeqCst)
+    /// Why all are to stop, where they are.
+    pub(crate) fn halt(&self) -> Option<OnceToken<'_, Halt>>
+        ensures { IfSome result (λ token. token.of ≡ self.now.halt.id) }
+    {
+        self.halt.witness()
     }
 
     /// Whether nobody needs to hear anything more: all ranks have returned, or all are to stop.
     pub(crate) fn is_over(&self) -> bool {
-        self.has_stopped() || self.returned.load(Ordering::SeqCst) >= self.ranks
+        self.halt().is_some() || self.returned.load(Ordering::SeqCst) >= self.ranks
     }
 }
 
 impl Stop for Crew {
     fn stop(&self) {
-        self.stopped.store(true, Ordering::SeqCst);
+        let _first = self.halt.try_set(Halt::Refused);
     }
 }

@@ -1,10 +1,9 @@
 //! What a member's turn does to its port.
-ghost use Rattle.std.specs.Prelude.{◌≡◌, ◌||◌, [], false, is_err, IfOk, OnErr, OnOk};
-ghost use Rattle.mpx_bus.specs.Answers.{PopsOne, PushesNext};
+ghost use Rattle.std.specs.Prelude.{◌≡◌, ◌||◌, false, is_err, true, OnErr, OnOk};
+ghost use Rattle.mpx_bus.specs.Answers.{PopsOne};
 ghost use Rattle.mpx_bus.specs.Buses.{table_of};
 ghost use Rattle.mpx_bus.specs.Ports.{IsSamePort, node_in};
-ghost use Rattle.mpx_comm.specs.Later.{Later};
-ghost use Rattle.mpx_ranks.specs.Members.{HasWanted, PushesOnce, wanted_memory};
+ghost use Rattle.mpx_ranks.specs.Members.{HasHeard, Prunes, PushesAnother, Turns, wanted_memory};
 
 use join_core::{Exact, OutOfMemory};
 use mpx_board::PruneError;
@@ -28,9 +27,9 @@ pub(crate) fn gossip<R: Wait>(
     requires queue { port.old.table ≡ table_of bus.now }
     requires free { port.old.setup.planned ≡ false }
     ensures same { IsSamePort port.old port.new }
-    ensures later { Later (node_in port.old) (node_in port.new) }
-    ensures pushes { OnOk result (PushesOnce port.old port.new) }
-    ensures wanted { OnErr result (HasWanted port.old port.new) }
+    ensures heard { HasHeard (node_in port.old) (node_in port.new) }
+    ensures turns { OnOk result (Turns false port.old port.new) }
+    ensures wanted { OnErr result (Turns true port.old port.new) }
 {
     let popped = pull(rt, alloc, bus, port);
     prune(alloc, port);
@@ -56,7 +55,8 @@ fn pull<R: Wait>(rt: &R, alloc: Global, bus: &Bus, port: &mut Port) -> Pop
     requires queue { port.old.table ≡ table_of bus.now }
     requires free { port.old.setup.planned ≡ false }
     ensures same { IsSamePort port.old port.new }
-    ensures later { Later (node_in port.old) (node_in port.new) }
+    ensures heard { HasHeard (node_in port.old) (node_in port.new) }
+    ensures kept { port.new.kept ≡ port.old.kept }
     ensures answer { PopsOne result port.old port.new }
 {
     bus.pop(rt, alloc, port)
@@ -67,9 +67,8 @@ fn push<R: Wait>(rt: &R, alloc: Global, bus: &Bus, port: &mut Port) -> Result<Pu
     requires queue { port.old.table ≡ table_of bus.now }
     requires free { port.old.setup.planned ≡ false }
     ensures same { IsSamePort port.old port.new }
-    ensures later { Later (node_in port.old) (node_in port.new) }
-    ensures next { IfOk result (λ push. PushesNext 1048576 push port.old port.new) }
-    ensures err { OnErr result (port.new.kept ≡ []) }
+    ensures heard { HasHeard (node_in port.old) (node_in port.new) }
+    ensures pushes { PushesAnother result port.old port.new }
 {
     bus.push_own(rt, alloc, port, LIMIT)
 }
@@ -77,7 +76,8 @@ fn push<R: Wait>(rt: &R, alloc: Global, bus: &Bus, port: &mut Port) -> Result<Pu
 // Drops the posts of one context that every member has harvested, where there are any.
 fn prune(alloc: Global, port: &mut Port)
     ensures same { IsSamePort port.old port.new }
-    ensures later { Later (node_in port.old) (node_in port.new) }
+    ensures heard { HasHeard (node_in port.old) (node_in port.new) }
+    ensures prunes { Prunes port.old port.new }
 {
     let Some((name, floor)) = first_to_drop(alloc, port.node()) else {
         return;
@@ -88,7 +88,8 @@ fn prune(alloc: Global, port: &mut Port)
 // Drops posts of one context, where that may be.
 fn prune_on(port: &mut Port, name: &Name, number: u32) -> Result<(), PruneError>
     ensures same { IsSamePort port.old port.new }
-    ensures later { Later (node_in port.old) (node_in port.new) }
+    ensures heard { HasHeard (node_in port.old) (node_in port.new) }
+    ensures prunes { Prunes port.old port.new }
 {
     port.prune(name, number)
 }

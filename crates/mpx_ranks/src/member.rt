@@ -1,28 +1,32 @@
 //! A member of a job: the host of a rank's desk in a thread of its own.
-ghost use Rattle.std.specs.Prelude.{◌≡◌, OnErr, OnOk, false};
+ghost use Rattle.std.specs.Prelude.{◌≡◌, IfErr, IfSome, OnOk, false, is_some};
+ghost use Rattle.std.proofs.Props.{props};
+ghost use Rattle.mpx_board.specs.Looks.{look};
 ghost use Rattle.mpx_bus.specs.Buses.{table_of};
 ghost use Rattle.mpx_bus.specs.Ports.{IsSamePort, node_in};
 ghost use Rattle.mpx_comm.specs.Later.{Later};
-ghost use Rattle.mpx_ranks.specs.Members.{PushesOnce};
+ghost use Rattle.mpx_ranks.specs.Members.{RefusesTurn, Turns};
 
-use crate::crew::Crew;
+use crate::crew::{Crew, Halt};
 use crate::folds::Folds;
 use crate::gossip::gossip;
 use crate::news::News;
 use crate::seat::Seat;
 use join_core::OutOfMemory;
+use mpx_board::Board;
 use mpx_bus::{Bus, Port};
-use mpx_comm::Host;
+use mpx_comm::{Host, TurnError};
 use mpx_name::Name;
 use mpx_node::{Finished, Harvest};
 use mpx_num::Ops;
 use mpx_post::{Draft, PostError};
 use std::alloc::Global;
 use std::marker::PhantomData;
-use std::sync::Wait;
+use std::sync::{OnceToken, Wait};
 
 /// A port on a bus that is lent, with the job's own operations, what the threads tell each other, and the right to wait. A turn takes
 /// a frame out of the queue and puts one in, drops posts that every member has harvested, and rests, longer while it hears nothing new.
+/// Once all are to stop it makes none any more, and has seen why.
 #[derive(Drop)]
 pub(crate) struct Member<'a, L: Seat, O: Folds, R: Wait> {
     pub(crate) rt: &'a R,
@@ -32,12 +36,14 @@ pub(crate) struct Member<'a, L: Seat, O: Folds, R: Wait> {
     pub(crate) port: Port,
     pub(crate) news: News,
     pub(crate) seat: PhantomData<L>,
+    pub(crate) halt: Option<OnceToken<'a, Halt>>,
     ghost list_is: { O.operations ops.now ≡ L.setup.operations },
     ghost bus_is: { table_of bus.now ≡ L.table },
     ghost free: { L.setup.planned ≡ false },
     ghost table_is: { port.table ≡ L.table },
     ghost setup_is: { port.setup ≡ L.setup },
     ghost me_is: { port.me ≡ L.me },
+    ghost halt_is: { IfSome halt (λ token. token.of ≡ crew.now.halt.id) } by { Prim.hlevel props },
 }
 
 impl<'a, L: Seat, O: Folds, R: Wait> Member<'a, L, O, R> {
@@ -66,6 +72,7 @@ impl<'a, L: Seat, O: Folds, R: Wait> Member<'a, L, O, R> {
             port,
             news: News::new(me),
             seat: PhantomData,
+            halt: None,
         }
     }
 
@@ -96,7 +103,7 @@ impl<'a, L: Seat, O: Folds, R: Wait> Member<'a, L, O, R> {
 
 impl<'a, L: Seat, O: Folds, R: Wait> Host for Member<'a, L, O, R> {
     ghost use Rattle.mpx_ranks.specs.Bounded.{port_bounded};
-    ghost use Rattle.mpx_ranks.specs.Members.{by_port, same_itself, same_operations, same_then};
+    ghost use Rattle.mpx_ranks.specs.Members.{RefusesTurn, by_port, same_itself, same_operations, same_then};
 
     ghost node = { λ m. node_in m.port };
 
@@ -105,7 +112,7 @@ impl<'a, L: Seat, O: Folds, R: Wait> Host for Member<'a, L, O, R> {
 
     ghost turned = { λ a n b. IsSamePort a.port b.port };
 
-    ghost turn_refused = { λ a b. IsSamePort a.port b.port };
+    ghost turn_refused = { λ a why b. IsSamePort a.port b.port × RefusesTurn why (is_some b.halt) a.port b.port };
 
     fn post(
         &mut self,
@@ -140,20 +147,30 @@ impl<'a, L: Seat, O: Folds, R: Wait> Host for Member<'a, L, O, R> {
         self.port.node().result(name, call)
     }
 
-    // Beside what a host says of each: one that is made has pushed what is next, with nothing wanting.
-    fn turn(&mut self, alloc: Global) -> Result<(), OutOfMemory>
+    fn board(&self) -> &Board {
+        self.port.node().board()
+    }
+
+    // Beside what a host says of each: what one does that is made.
+    fn turn(&mut self, alloc: Global) -> Result<(), TurnError>
         ensures later { Later (node_in self.old.port) (node_in self.new.port) }
+        ensures opened { (node_in self.new.port).opened ≡ (node_in self.old.port).opened }
         ensures counted { OnOk result (IsSamePort self.old.port self.new.port) }
-        ensures refused { OnErr result (IsSamePort self.old.port self.new.port) }
-        ensures pushes { OnOk result (PushesOnce self.old.port self.new.port) }
+        ensures refused { IfErr result (λ why. IsSamePort self.old.port self.new.port × RefusesTurn why (is_some self.new.halt) self.old.port self.new.port) }
+        ensures turns { OnOk result (Turns false self.old.port self.new.port) }
     {
-        if self.crew.has_stopped() {
-            return Err(OutOfMemory);
+        let crew = self.crew;
+        self.halt = crew.halt();
+        if self.halt.is_some() {
+            return Err(TurnError::GaveUp);
         }
         let turned = gossip(self.rt, alloc, self.bus, &mut self.port);
         self.news.note(self.port.node().board());
         self.news.rest(self.rt);
-        turned
+        match turned {
+            Ok(()) => Ok(()),
+            Err(OutOfMemory) => Err(TurnError::OutOfMemory),
+        }
     }
 
     ghost bounded = { λ m name. port_bounded m.port name };

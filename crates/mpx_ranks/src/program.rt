@@ -27,7 +27,7 @@ pub trait Program {
     ) -> Self::Answer
         ensures { gives self.now (H.goes_by desk.old.host (⟦<Ops as Listing>⟧.operations ops.now)) world.now (H.node desk.old.host) (H.node desk.new.host) result };
 
-    /// Whether a rank that answers this has given up, so that no other is to wait for it: each call that waits answers want of memory then.
+    /// Whether a rank that answers this has given up, so that no other is to wait for it: each call that waits and isn't done answers `GaveUp`.
     /// Who leaves it out lets the others wait for as many turns as they are given.
     fn gives_up(&self, _answer: &Self::Answer) -> bool {
         false

@@ -103,7 +103,7 @@ fn work_as_rank<L: Seat, O: Folds, P: Program, R: Wait>(
     ensures gave { IfSome result.answer (λ a. Answers (P.gives program.now) L.setup.operations ranks L.setup.size me a (node_in result.port)) }
 {
     let member = Member::<L, O, R>::new(rt, bus, list, crew, me, port);
-    if !crew.begins(rt) {
+    if crew.begins(rt).is_some() {
         return Worked {
             port: member.into_port(),
             answer: None,
@@ -140,7 +140,7 @@ fn work_as_relay<L: Seat, O: Folds, R: Wait>(
     ensures { IsSeated L.table L.setup L.me result }
 {
     let mut member = Member::<L, O, R>::new(rt, bus, list, crew, me, port);
-    if crew.begins(rt) {
+    if crew.begins(rt).is_none() {
         member.gossip_on(alloc);
     }
     member.into_port()

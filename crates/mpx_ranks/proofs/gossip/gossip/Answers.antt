@@ -1,22 +1,22 @@
 use Rattle.mpx_bus.specs.Ports.{node_in}
-use Rattle.mpx_comm.proofs.Steps.{later_more}
+use Rattle.mpx_ranks.proofs.Quiet.{heard_more, turn_of}
 use Rattle.mpx_ranks.specs.Members.{same_then}
-use Rattle.mpx_ranks.proofs.Quiet.{turn_pushes, turn_wanted}
 use Rattle.mpx_ranks.proofs.gossip.gossip.Goals as goal
 
 pub returns-clause-same : goal.returns-clause-same
 returns-clause-same g c = same_then _ _ _ (same_then _ _ _ c.pull-popped.ensures.same c.prune.ensures.same) c.push-pushed.ensures.same
 
-pub returns-clause-later : goal.returns-clause-later
-returns-clause-later g c =
-    later_more (node_in c.args.port.now) (node_in c.prune.new.port) (node_in c.push-pushed.new.port)
-    (later_more (node_in c.args.port.now) (node_in c.pull-popped.new.port) (node_in c.prune.new.port) c.pull-popped.ensures.later c.prune.ensures.later) c.push-pushed.ensures.later
+pub returns-clause-heard : goal.returns-clause-heard
+returns-clause-heard g c =
+    heard_more (node_in c.args.port.now) (node_in c.prune.new.port) (node_in c.push-pushed.new.port)
+    (heard_more (node_in c.args.port.now) (node_in c.pull-popped.new.port) (node_in c.prune.new.port) c.pull-popped.ensures.heard c.prune.ensures.heard) c.push-pushed.ensures.heard
 
-pub returns-clause-pushes : goal.returns-clause-pushes
-returns-clause-pushes g c =
-    let popped = c.prune.new.port in
-    turn_pushes c.came_to.result c.pull-popped.result c.push-pushed.result c.args.port.now popped c.push-pushed.new.port c.came_to.ensures
-    (later_more (node_in c.args.port.now) (node_in c.pull-popped.new.port) (node_in popped) c.pull-popped.ensures.later c.prune.ensures.later) c.push-pushed.ensures.next
+pub returns-clause-turns : goal.returns-clause-turns
+returns-clause-turns g c =
+    (turn_of c.came_to.result c.pull-popped.result c.push-pushed.result c.args.port.now c.pull-popped.new.port c.prune.new.port c.push-pushed.new.port
+    c.came_to.ensures c.pull-popped.ensures.answer c.pull-popped.ensures.kept c.prune.ensures.prunes c.push-pushed.ensures.pushes).0
 
 pub returns-clause-wanted : goal.returns-clause-wanted
-returns-clause-wanted g c = turn_wanted c.came_to.result c.pull-popped.result c.push-pushed.result c.args.port.now c.pull-popped.new.port c.push-pushed.new.port c.came_to.ensures c.pull-popped.ensures.answer c.push-pushed.ensures.err
+returns-clause-wanted g c =
+    (turn_of c.came_to.result c.pull-popped.result c.push-pushed.result c.args.port.now c.pull-popped.new.port c.prune.new.port c.push-pushed.new.port
+    c.came_to.ensures c.pull-popped.ensures.answer c.pull-popped.ensures.kept c.prune.ensures.prunes c.push-pushed.ensures.pushes).1
