@@ -11,7 +11,7 @@ use std::alloc::Global;
 use std::sync::Wait;
 use std::test::Fail;
 use std::thread::{Parker, Threads};
-use std::time::Duration;
+use std::time::{Clock, Duration, Instant};
 
 // So many turns, 20 seconds and more, a call waits at most.
 const TURNS: u64 = 20_000;
@@ -44,28 +44,35 @@ impl<'a, R: Wait> Program for Leaves<'a, R> {
     }
 }
 
-// The sum of all ranks, for which they wait as long as it takes. Rank 1 gives up at once.
+// Whether a rank hears that another gave up, while it waits for the sum of all for as long as it takes. Rank 1 gives up at once.
 #[derive(Drop)]
 struct GivesUp;
 
 impl Program for GivesUp {
-    type Answer = Option<i128>;
+    type Answer = bool;
 
-    fn run<H: Host>(
-        &self,
-        alloc: Global,
-        desk: &mut Desk<H>,
-        world: &Comm,
-        ops: &Ops,
-    ) -> Option<i128> {
-        if world.rank() == 1 {
-            return None;
-        }
-        sum_of(alloc, desk, world, u64::MAX, ops)
+    fn run<H: Host>(&self, alloc: Global, desk: &mut Desk<H>, world: &Comm, ops: &Ops) -> bool {
+        world.rank() != 1 && hears_of_it(alloc, desk, world, ops)
     }
 
-    fn gives_up(&self, answer: &Option<i128>) -> bool {
-        answer.is_none()
+    fn gives_up(&self, answer: &bool) -> bool {
+        !*answer
+    }
+}
+
+// Each rank answers its number at once. Rank 0 gives up.
+#[derive(Drop)]
+struct LeavesAtOnce;
+
+impl Program for LeavesAtOnce {
+    type Answer = u8;
+
+    fn run<H: Host>(&self, _alloc: Global, _desk: &mut Desk<H>, world: &Comm, _ops: &Ops) -> u8 {
+        world.rank()
+    }
+
+    fn gives_up(&self, answer: &u8) -> bool {
+        *answer == 0
     }
 }
 
@@ -114,10 +121,25 @@ fn sum_of<H: Host>(
         match desk.wait(alloc, request, turns, ops) {
             Ok(finished) => return numbers_of(&finished).ok()?.first().copied(),
             Err(WaitError::OutOfMemory(again)) => request = again,
-            Err(WaitError::StillWaiting(_)) => return None,
+            Err(WaitError::StillWaiting(_) | WaitError::GaveUp(_)) => return None,
         }
     }
     None
+}
+
+// Whether a wait without end is ended since a rank gave up. It is made again where memory was wanting.
+fn hears_of_it<H: Host>(alloc: Global, desk: &mut Desk<H>, world: &Comm, ops: &Ops) -> bool {
+    let Some(mut request) = posted(alloc, desk, world, ops) else {
+        return false;
+    };
+    for _ in 0..3 {
+        match desk.wait(alloc, request, u64::MAX, ops) {
+            Err(WaitError::OutOfMemory(again)) => request = again,
+            Err(WaitError::GaveUp(_)) => return true,
+            Ok(_) | Err(WaitError::StillWaiting(_)) => return false,
+        }
+    }
+    false
 }
 
 // What so many ranks and relays come to.
@@ -150,6 +172,33 @@ fn both_sums<R: Threads + Wait + Sync>(rt: &R, alloc: Global) -> Result<usize, R
         }
     }
     Ok(count)
+}
+
+// Whether a hundred jobs of 12 ranks and 20 relays, in each of which rank 0 gives up at once, give an answer of each rank: as many of them as
+// 20 seconds allow.
+fn all_answer<R: Threads + Wait + Sync + Clock>(rt: &R, alloc: Global) -> Result<bool, RanksError> {
+    let start = Instant::now(rt).ok();
+    for _ in 0..100 {
+        if is_late(rt, start) {
+            break;
+        }
+        let answers = answers_of(rt, alloc, (12, 20), &LeavesAtOnce)?;
+        if answers.len() != 12 {
+            return Ok(false);
+        }
+    }
+    Ok(true)
+}
+
+// Whether it is 20 seconds later.
+fn is_late<R: Clock>(rt: &R, start: Option<Instant>) -> bool {
+    let Some(start) = start else {
+        return false;
+    };
+    match start.elapsed(rt) {
+        Ok(spent) => spent >= Duration::from_secs(20),
+        Err(_) => false,
+    }
 }
 
 // Whether a board has a post of a first call, or had one.
@@ -206,8 +255,15 @@ fn a_relay_hears_of_a_call(rt: HostRuntime) -> Result<(), Fail> {
 #[test]
 fn nobody_waits_for_one_that_gives_up(rt: HostRuntime) -> Result<(), Fail> {
     let answers = answers_of(&rt, rt.alloc(), (4, 1), &GivesUp);
-    let wanted = vec![in rt.alloc(); None, None, None, None]?;
+    let wanted = vec![in rt.alloc(); true, false, true, true]?;
     assert_eq!(rt; answers, Ok(wanted));
+    Ok(())
+}
+
+// Most threads look once more only behind the moment at which rank 0 has given up: none of them may take that for a thread that was refused.
+#[test]
+fn a_rank_that_gives_up_at_once_is_no_refused_thread(rt: HostRuntime) -> Result<(), Fail> {
+    assert_eq!(rt; all_answer(&rt, rt.alloc()), Ok(true));
     Ok(())
 }
 
