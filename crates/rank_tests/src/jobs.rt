@@ -11,7 +11,7 @@ use std::alloc::Global;
 use std::sync::Wait;
 use std::test::Fail;
 use std::thread::{Parker, Threads};
-use std::time::{Clock, Duration, Instant};
+use std::time::Duration;
 
 // So many turns, 20 seconds and more, a call waits at most.
 const TURNS: u64 = 20_000;
@@ -174,31 +174,15 @@ fn both_sums<R: Threads + Wait + Sync>(rt: &R, alloc: Global) -> Result<usize, R
     Ok(count)
 }
 
-// Whether a hundred jobs of 12 ranks and 20 relays, in each of which rank 0 gives up at once, give an answer of each rank: as many of them as
-// 20 seconds allow.
-fn all_answer<R: Threads + Wait + Sync + Clock>(rt: &R, alloc: Global) -> Result<bool, RanksError> {
-    let start = Instant::now(rt).ok();
-    for _ in 0..100 {
-        if is_late(rt, start) {
-            break;
-        }
+// Whether forty jobs of 12 ranks and 20 relays, in each of which rank 0 gives up at once, give an answer of each rank.
+fn all_answer<R: Threads + Wait + Sync>(rt: &R, alloc: Global) -> Result<bool, RanksError> {
+    for _ in 0..40 {
         let answers = answers_of(rt, alloc, (12, 20), &LeavesAtOnce)?;
         if answers.len() != 12 {
             return Ok(false);
         }
     }
     Ok(true)
-}
-
-// Whether it is 20 seconds later.
-fn is_late<R: Clock>(rt: &R, start: Option<Instant>) -> bool {
-    let Some(start) = start else {
-        return false;
-    };
-    match start.elapsed(rt) {
-        Ok(spent) => spent >= Duration::from_secs(20),
-        Err(_) => false,
-    }
 }
 
 // Whether a board has a post of a first call, or had one.
