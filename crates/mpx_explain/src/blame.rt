@@ -1,5 +1,6 @@
 //! Which word of a refused line is to blame, found by trials of the line with other words. Nothing is claimed of it.
 use crate::forms::{Misfit, form_of, misfit_of};
+use crate::meant::is_foreign_type;
 use join_core::OutOfMemory;
 use mpx_num::Ops;
 use mpx_script::{ReadScriptError, ScriptError, ScriptFault, read_script};
@@ -21,6 +22,8 @@ enum Change {
     One(usize, &'static str),
     /// One more word, before that at this place.
     More(usize, &'static str),
+    /// The same, and a type of scripts for each of programs.
+    MoreTyped(usize, &'static str),
     /// A number at this place and in each one behind it, but for operations and types.
     Numbers(usize),
     /// A number at this place and in each one behind it up to an arrow, but for operations and types.
@@ -172,12 +175,30 @@ pub(crate) fn missing_part(
     words: &[&str],
     ops: &Ops,
 ) -> Result<Option<(&'static str, usize)>, OutOfMemory> {
+    missing_in(alloc, words, false, ops)
+}
+
+/// The same of a line that has a type of programs besides.
+pub(crate) fn missing_beside_type(
+    alloc: Global,
+    words: &[&str],
+    ops: &Ops,
+) -> Result<Option<(&'static str, usize)>, OutOfMemory> {
+    missing_in(alloc, words, true, ops)
+}
+
+fn missing_in(
+    alloc: Global,
+    words: &[&str],
+    is_typed: bool,
+    ops: &Ops,
+) -> Result<Option<(&'static str, usize)>, OutOfMemory> {
     let Some(form) = words.get(1).and_then(|word| form_of(word)) else {
         return Ok(None);
     };
     let mut place = 2usize;
     for part in form.parts.split_whitespace() {
-        if lacks(alloc, words, part, place, ops)? {
+        if lacks(alloc, words, part, place, is_typed, ops)? {
             return Ok(Some((part, place)));
         }
         place = place.saturating_add(1);
@@ -191,6 +212,7 @@ fn lacks(
     words: &[&str],
     part: &str,
     place: usize,
+    is_typed: bool,
     ops: &Ops,
 ) -> Result<bool, OutOfMemory> {
     let Some(word) = words.get(place) else {
@@ -202,7 +224,12 @@ fn lacks(
     if *word == other {
         return Ok(false);
     }
-    let told = fault_of(alloc, RANKS, words, Change::More(place, other), ops)?;
+    let change = if is_typed {
+        Change::MoreTyped(place, other)
+    } else {
+        Change::More(place, other)
+    };
+    let told = fault_of(alloc, RANKS, words, change, ops)?;
     Ok(is_of_names(told))
 }
 
@@ -342,13 +369,14 @@ fn tried(
     let mut is_behind_arrow = false;
     for (place, word) in words.iter().enumerate() {
         is_behind_arrow |= *word == "->";
-        if let Change::More(at, other) = change {
+        if let Change::More(at, other) | Change::MoreTyped(at, other) = change {
             if place == at {
                 text.push_str(other)?;
                 text.push_str(" ")?;
             }
         }
         let word = match change {
+            Change::MoreTyped(_, _) if is_foreign_type(alloc, word)? => "i32",
             Change::Cut(count) if place >= count => "",
             Change::One(at, other) if place == at => other,
             Change::Numbers(from) if place >= from && !is_named(word, ops) => "0",

@@ -1,6 +1,6 @@
 //! What is told of a refused line beside its refusal: which word is missing, one too many or wrong, and what was meant, perhaps.
 
-use crate::blame::{Blamed, Line, blamed_at, line_in, missing_part, place_of};
+use crate::blame::{Blamed, Line, blamed_at, line_in, missing_beside_type, missing_part, place_of};
 use crate::forms::{Form, Misfit, form_of, misfit_of};
 use crate::meant::meant;
 use join_core::OutOfMemory;
@@ -137,6 +137,11 @@ fn wrong_word(
         return Ok(None);
     }
     let why = why_of(alloc, line, what, &blamed, ops)?;
+    if why.is_none() && what == ScriptFault::UnknownStatement {
+        if let Some(told) = beside_type(alloc, line.words.as_slice(), ops)? {
+            return Ok(Some(told));
+        }
+    }
     let (place, word) = (blamed.place, blamed.word.as_str());
     let more = match &why {
         Some(why) => why.as_str(),
@@ -144,6 +149,21 @@ fn wrong_word(
     };
     let between = if more.is_empty() { "" } else { "; " };
     Ok(Some(format!(in alloc; "word {place}: {word}{between}{more}")?))
+}
+
+// What a line lacks that has a type of programs besides, and what was meant by that.
+fn beside_type(alloc: Global, words: &[&str], ops: &Ops) -> Result<Option<String>, OutOfMemory> {
+    let Some((part, place)) = missing_beside_type(alloc, words, ops)? else {
+        return Ok(None);
+    };
+    let Some(told) = by_form(alloc, words, Misfit::Missing(part, place))? else {
+        return Ok(None);
+    };
+    let word = words.get(place).copied().unwrap_or("");
+    match meant(alloc, word, false)? {
+        Some(meant) => Ok(Some(format!(in alloc; "{told}; {meant}")?)),
+        None => Ok(Some(told)),
+    }
 }
 
 // What was meant by a word, perhaps, or its limits.

@@ -128,7 +128,7 @@ const FLOATING: [&str; 8] = [
     "complex",
 ];
 
-//// What a word was meant to be, perhaps, as a question or a sentence: the words that it is in small letters and without MPI's prefixes,
+/// What a word was meant to be, perhaps, as a question or a sentence: the words that it is in small letters and without MPI's prefixes,
 /// or from which one letter more, less or other, or two letters in another order, tell it apart; or that scripts have no such word. A
 /// statement was meant by a word where one stands, and else an operation or a type.
 pub(crate) fn meant(
@@ -147,6 +147,14 @@ pub(crate) fn meant(
         return Ok(None);
     }
     Ok(Some(told))
+}
+
+/// Whether a word is a type of programs, which scripts call otherwise or don't have.
+pub(crate) fn is_foreign_type(alloc: Global, word: &str) -> Result<bool, OutOfMemory> {
+    let small = in_small_letters(alloc, word)?;
+    let bare = without_prefix(small.as_str());
+    let is_floating = FLOATING.iter().any(|start| bare.starts_with(*start));
+    Ok(is_floating || another(&TYPES, bare.strip_suffix("_t").unwrap_or(bare)).is_some())
 }
 
 // Why scripts have nothing that a word without prefixes could be.

@@ -1,52 +1,34 @@
-//! Sums and products that are past the range of their signed type.
+//! Sums and products that are past the range of their signed type, perhaps: `overflows.rt` names those that are.
 
 use crate::numbering::marked;
+use crate::overflows::{posted_by, reduced};
 use join_core::OutOfMemory;
 use mpx_eval::Findings;
-use mpx_kind::{Call, Reduction};
-use mpx_num::{Op, Ty, into_range, is_in_range};
+use mpx_kind::Reduction;
+use mpx_num::{Op, is_in_range};
 use mpx_post::Draft;
-use mpx_script::{Posting, Script, Statement, statement_lines};
+use mpx_script::Script;
 use std::alloc::Global;
 
-// Of more results than these only how many they are is told.
-const MOST_RESULTS: usize = 100;
-
-// What a rank posts to a call on `world`, the place of its statement, and whether the call is a fault, be it told in a line or not.
+/// What a rank posts to a call on `world`, the place of its statement, and whether the call is a fault, be it told in a line or not.
 #[derive(Clone, Copy, Drop)]
-struct Part<'s> {
-    rank: u8,
-    statement: usize,
+pub(crate) struct Part<'s> {
+    pub(crate) rank: u8,
+    pub(crate) statement: usize,
     draft: &'s Draft,
     is_fault: bool,
 }
 
-// A result that is past its type, and at which statement of which rank; no number where it is past 128 bits too, as a product may be.
+/// A number of a rank's result that is past its type, perhaps: which call on `world` it is of, and at which place of all items.
 #[derive(Clone, Copy, Drop)]
-struct Past {
-    rank: u8,
-    statement: usize,
-    ty: Ty,
-    exact: Option<i128>,
+pub(crate) struct Candidate {
+    pub(crate) rank: u8,
+    pub(crate) row: usize,
+    pub(crate) index: usize,
 }
 
-/// Adds a line for each sum or product of signed numbers whose result is past its type: the first such number of each rank's
-/// result, and what the type makes of it. Behind a hundred lines one tells how many more there are. It is told of calls on `world` alone.
-pub fn explain_results(
-    alloc: Global,
-    text: &[u8],
-    script: &Script,
-    found: &Findings,
-    told: &mut Vec<u8>,
-) -> Result<(), OutOfMemory> {
-    let columns = columns_of(alloc, script, found)?;
-    let pushed = push_results(alloc, text, columns.as_slice(), told);
-    drop(columns);
-    pushed
-}
-
-// What each rank has posted on `world`.
-fn columns_of<'s>(
+/// What each rank has posted on `world`.
+pub(crate) fn columns_of<'s>(
     alloc: Global,
     script: &'s Script,
     found: &Findings,
@@ -58,18 +40,16 @@ fn columns_of<'s>(
     Ok(columns)
 }
 
-// Adds the lines of what is past its type in these columns.
-fn push_results(
+/// The first number of each rank's result that is past its type, of all calls in these columns.
+pub(crate) fn candidates_of(
     alloc: Global,
-    text: &[u8],
     columns: &[Vec<Part<'_>>],
-    told: &mut Vec<u8>,
-) -> Result<(), OutOfMemory> {
-    let mut results = Vec::new(alloc);
+) -> Result<Vec<Candidate>, OutOfMemory> {
+    let mut found = Vec::new(alloc);
     for row in 0..rows_of(columns) {
-        push_row(alloc, columns, row, &mut results)?;
+        push_row(alloc, columns, row, &mut found)?;
     }
-    push_lines(alloc, text, &results, told)
+    Ok(found)
 }
 
 // How many rows all columns have.
@@ -86,7 +66,7 @@ fn push_row(
     alloc: Global,
     columns: &[Vec<Part<'_>>],
     row: usize,
-    results: &mut Vec<Past>,
+    found: &mut Vec<Candidate>,
 ) -> Result<(), OutOfMemory> {
     let mut parts: Vec<Part<'_>> = Vec::new(alloc);
     for column in columns {
@@ -94,7 +74,7 @@ fn push_row(
             parts.push(*part)?;
         }
     }
-    push_past(alloc, &parts, results)
+    push_past(alloc, &parts, row, found)
 }
 
 // What a rank has posted on `world`, in its order.
@@ -104,22 +84,55 @@ fn posted<'s>(
     rank: u8,
     found: &Findings,
 ) -> Result<Vec<Part<'s>>, OutOfMemory> {
-    let statements = script.statements(rank);
-    let last = last_made(found, rank);
+    let marks = marks_of(alloc, script, rank, found)?;
+    let parts = parts_of(alloc, script, rank, last_made(found, rank), &marks);
+    drop(marks);
+    parts
+}
+
+// Of each statement of a rank whether it was refused, and whether it is a fault that a line tells, or one that none tells.
+#[derive(Drop)]
+struct Marks {
+    refused: Vec<bool>,
+    told: Vec<bool>,
+    unheard: Vec<bool>,
+}
+
+fn marks_of(
+    alloc: Global,
+    script: &Script,
+    rank: u8,
+    found: &Findings,
+) -> Result<Marks, OutOfMemory> {
     let refused = marked(alloc, script, rank, &found.complaints, b"refused ")?;
     let told = marked(alloc, script, rank, &found.complaints, b"fault ")?;
     let unheard = marked(alloc, script, rank, &found.unheard, b"fault ")?;
+    Ok(Marks {
+        refused,
+        told,
+        unheard,
+    })
+}
+
+// What a rank has posted on `world` up to its last statement.
+fn parts_of<'s>(
+    alloc: Global,
+    script: &'s Script,
+    rank: u8,
+    last: usize,
+    marks: &Marks,
+) -> Result<Vec<Part<'s>>, OutOfMemory> {
     let mut parts = Vec::new(alloc);
-    for (statement, made) in statements.iter().enumerate() {
-        if statement > last || is_marked(&refused, statement) {
+    for (statement, made) in script.statements(rank).iter().enumerate() {
+        if statement > last || is_marked(&marks.refused, statement) {
             continue;
         }
-        if let Some(draft) = on_world(made) {
+        if let Some(draft) = posted_by(made) {
             parts.push(Part {
                 rank,
                 statement,
                 draft,
-                is_fault: is_marked(&told, statement) || is_marked(&unheard, statement),
+                is_fault: is_marked(&marks.told, statement) || is_marked(&marks.unheard, statement),
             })?;
         }
     }
@@ -140,28 +153,12 @@ fn last_made(found: &Findings, rank: u8) -> usize {
     usize::MAX
 }
 
-// What a statement posts on `world`.
-fn on_world(statement: &Statement) -> Option<&Draft> {
-    let (on, draft) = match statement {
-        Statement::Post(Posting::Call { on, draft }) => (on, draft),
-        Statement::Post(Posting::Start { on, draft, .. }) => (on, draft),
-        Statement::Post(Posting::New { on, draft, .. }) => (on, draft),
-        Statement::Post(Posting::CreateGroup { .. }) => return None,
-        Statement::Wait(_) => return None,
-        Statement::Ask(_) => return None,
-    };
-    if on.as_bytes() == b"world".as_slice() {
-        Some(draft)
-    } else {
-        None
-    }
-}
-
 // Adds what is past its type of what all ranks post to a call.
 fn push_past(
     alloc: Global,
     parts: &[Part<'_>],
-    results: &mut Vec<Past>,
+    row: usize,
+    found: &mut Vec<Candidate>,
 ) -> Result<(), OutOfMemory> {
     let Some(first) = parts.first() else {
         return Ok(());
@@ -175,32 +172,20 @@ fn push_past(
     let mut sums: Vec<Option<i128>> = Vec::new(alloc);
     for part in parts {
         if reduction == Reduction::Exscan {
-            push_first(part, &sums, results)?;
+            push_first(part, row, &sums, 0, found)?;
         }
         add(part.draft, &mut sums)?;
         if reduction == Reduction::Scan {
-            push_first(part, &sums, results)?;
+            push_first(part, row, &sums, 0, found)?;
         }
     }
     for (rank, part) in parts.iter().enumerate() {
-        if let Some(block) = block_of(reduction, rank, part.draft, &sums) {
-            push_first(part, block, results)?;
+        if let Some((start, count)) = block_of(reduction, rank, part.draft, sums.len()) {
+            let end = start.saturating_add(count);
+            push_first(part, row, sums.get(..end).unwrap_or(&[]), start, found)?;
         }
     }
     Ok(())
-}
-
-// The kind of a sum or product of signed numbers.
-fn reduced(draft: &Draft) -> Option<Reduction> {
-    let Call::Reduction(reduction, _) = draft.call else {
-        return None;
-    };
-    let is_signed = matches!(draft.ty, Ty::I8 | Ty::I16 | Ty::I32 | Ty::I64);
-    if is_signed && matches!(draft.op, Op::Sum | Op::Prod) {
-        Some(reduction)
-    } else {
-        None
-    }
 }
 
 // Takes what a rank gives into the sums or products.
@@ -224,28 +209,28 @@ fn add(draft: &Draft, sums: &mut Vec<Option<i128>>) -> Result<(), OutOfMemory> {
     Ok(())
 }
 
-// The part of what all give that a rank gets; none of a scan, nor where a rank gets nothing.
-fn block_of<'a>(
+// Where the part begins of what all give that a rank gets, and how many numbers it has; none of a scan, nor where a rank gets nothing.
+fn block_of(
     reduction: Reduction,
     rank: usize,
     draft: &Draft,
-    sums: &'a [Option<i128>],
-) -> Option<&'a [Option<i128>]> {
+    numbers: usize,
+) -> Option<(usize, usize)> {
     let counts = draft.rcounts.as_slice();
     match reduction {
-        Reduction::Allreduce => Some(sums),
-        Reduction::Reduce if draft.root == rank as i128 => Some(sums),
+        Reduction::Allreduce => Some((0, numbers)),
+        Reduction::Reduce if draft.root == rank as i128 => Some((0, numbers)),
         Reduction::Reduce | Reduction::Scan | Reduction::Exscan => None,
         Reduction::ReduceScatterBlock => {
             let count = length_of(counts.first());
-            sums.get(rank.saturating_mul(count)..)?.get(..count)
+            Some((rank.saturating_mul(count), count))
         }
         Reduction::ReduceScatter => {
             let before = counts.iter().take(rank).fold(
                 0usize,
                 |sum, count| sum.saturating_add(length_of(Some(count))),
             );
-            sums.get(before..)?.get(..length_of(counts.get(rank)))
+            Some((before, length_of(counts.get(rank))))
         }
     }
 }
@@ -257,66 +242,28 @@ fn length_of(count: Option<&i128>) -> usize {
     }
 }
 
-// Adds the first number of a rank's result that is past its type.
+// Adds the first of these numbers, from one on, that is past its type; one that is past 128 bits too has none.
 fn push_first(
     part: &Part<'_>,
+    row: usize,
     numbers: &[Option<i128>],
-    results: &mut Vec<Past>,
+    start: usize,
+    found: &mut Vec<Candidate>,
 ) -> Result<(), OutOfMemory> {
     let ty = part.draft.ty;
-    for exact in numbers {
+    for (index, exact) in numbers.iter().enumerate().skip(start) {
         let is_past = match exact {
             Some(exact) => !is_in_range(ty, *exact),
             None => true,
         };
         if is_past {
-            results.push(Past {
+            found.push(Candidate {
                 rank: part.rank,
-                statement: part.statement,
-                ty,
-                exact: *exact,
+                row,
+                index,
             })?;
             return Ok(());
         }
     }
     Ok(())
-}
-
-// Adds a line for each of the first of these, and how many more there are.
-fn push_lines(
-    alloc: Global,
-    text: &[u8],
-    results: &[Past],
-    told: &mut Vec<u8>,
-) -> Result<(), OutOfMemory> {
-    for past in results.iter().take(MOST_RESULTS) {
-        let lines = statement_lines(alloc, text, past.rank)?;
-        let (rank, ty) = (past.rank, name_of(past.ty));
-        let line = lines.get(past.statement).copied().unwrap_or(0);
-        let text = match past.exact {
-            Some(exact) => {
-                let gives = into_range(past.ty, exact);
-                format!(in alloc;
-                    "rank {rank}, line {line}: {exact} is past {ty}, which gives {gives}\n"
-                )?
-            }
-            None => format!(in alloc; "rank {rank}, line {line}: the result is past {ty}\n")?,
-        };
-        told.extend_from_slice(text.as_bytes())?;
-    }
-    let more = results.len().saturating_sub(MOST_RESULTS);
-    if more > 0 {
-        let text = format!(in alloc; "and {more} more\n")?;
-        told.extend_from_slice(text.as_bytes())?;
-    }
-    Ok(())
-}
-
-fn name_of(ty: Ty) -> &'static str {
-    match ty {
-        Ty::I8 => "i8",
-        Ty::I16 => "i16",
-        Ty::I32 => "i32",
-        _ => "i64",
-    }
 }

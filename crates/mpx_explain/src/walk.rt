@@ -18,12 +18,22 @@ pub(crate) struct Awaited {
     pub(crate) call: u32,
 }
 
-/// What a rank's words stand for behind some of its statements: communicators, open requests, and how many calls each context has.
+// A call that a rank has made, and the place of its statement.
+#[derive(Drop)]
+struct Placed {
+    name: Name,
+    call: u32,
+    statement: usize,
+}
+
+/// What a rank's words stand for behind some of its statements: communicators, open requests, how many calls each context has, and which
+/// statements made them.
 #[derive(Drop)]
 pub(crate) struct Walk {
     names: BTreeMap<Word, Name>,
     open: BTreeMap<Word, (Name, u32)>,
     counts: BTreeMap<Name, u32>,
+    made: Vec<Placed>,
 }
 
 impl Walk {
@@ -35,18 +45,20 @@ impl Walk {
             names,
             open: BTreeMap::new(alloc),
             counts: BTreeMap::new(alloc),
+            made: Vec::new(alloc),
         })
     }
 
-    /// Behind a statement that wasn't refused, by the results that the rank's node keeps.
+    /// Behind a statement at this place that wasn't refused, by the results that the rank's node keeps.
     pub(crate) fn pass(
         &mut self,
         alloc: Global,
         node: &Node,
+        place: usize,
         statement: &Statement,
     ) -> Result<(), OutOfMemory> {
         match statement {
-            Statement::Post(posting) => self.post(alloc, node, posting),
+            Statement::Post(posting) => self.post(alloc, node, place, posting),
             Statement::Wait(words) => {
                 for word in words.as_slice() {
                     let _ = self.open.remove(word);
@@ -85,6 +97,16 @@ impl Walk {
         Ok(found)
     }
 
+    /// The place of the statement that has made the call with this number on a context.
+    pub(crate) fn statement_of(&self, name: &Name, call: u32) -> Option<usize> {
+        for placed in &self.made {
+            if placed.call == call && placed.name == *name {
+                return Some(placed.statement);
+            }
+        }
+        None
+    }
+
     // Adds the call of a request, where it is open, and closes it.
     fn push_open(
         &mut self,
@@ -104,18 +126,41 @@ impl Walk {
     }
 
     // Behind a call that wasn't refused.
-    fn post(&mut self, alloc: Global, node: &Node, posting: &Posting) -> Result<(), OutOfMemory> {
+    fn post(
+        &mut self,
+        alloc: Global,
+        node: &Node,
+        place: usize,
+        posting: &Posting,
+    ) -> Result<(), OutOfMemory> {
         let Some((name, call)) = self.call_of(alloc, node, posting)? else {
             return Ok(());
         };
-        self.counts
-            .insert(name.copy(alloc)?, call.saturating_add(1))?;
+        self.count(alloc, &name, call, place)?;
         if let Some(target) = posting.target() {
             return self.bind(alloc, node, target, &name, call);
         }
         if let Some(request) = posting.request() {
             self.open.insert(request.copy(alloc)?, (name, call))?;
         }
+        Ok(())
+    }
+
+    // The statement at this place has made the call with this number.
+    fn count(
+        &mut self,
+        alloc: Global,
+        name: &Name,
+        call: u32,
+        statement: usize,
+    ) -> Result<(), OutOfMemory> {
+        self.counts
+            .insert(name.copy(alloc)?, call.saturating_add(1))?;
+        self.made.push(Placed {
+            name: name.copy(alloc)?,
+            call,
+            statement,
+        })?;
         Ok(())
     }
 

@@ -12,11 +12,11 @@ use mpx_eval::Complaint;
 use mpx_script::statement_lines;
 use std::alloc::Global;
 
-// A rank, and the lines of its statements.
+/// A rank, and the lines of its statements.
 #[derive(Drop)]
-struct RankLines {
-    rank: u8,
-    numbers: Vec<u32>,
+pub struct RankLines {
+    pub rank: u8,
+    pub numbers: Vec<u32>,
 }
 
 /// Adds a line for each of them. Where those of a rank stand together its lines are looked for once.
@@ -39,16 +39,16 @@ pub fn push_complaints(
     Ok(())
 }
 
-// Those of this rank.
-fn lines_of(alloc: Global, text: &[u8], rank: u8) -> Result<RankLines, OutOfMemory>
+/// Those of this rank.
+pub fn lines_of(alloc: Global, text: &[u8], rank: u8) -> Result<RankLines, OutOfMemory>
     ensures { IfOk result (λ lines. AreLinesOf text.now rank lines) }
 {
     let numbers = statement_lines(alloc, text, rank)?;
     Ok(RankLines { rank, numbers })
 }
 
-// The lines of this rank's statements: those at hand, where they are of this rank, else they are found.
-fn lines_now(
+/// The lines of this rank's statements: those at hand, where they are of this rank, else they are found.
+pub fn lines_now(
     alloc: Global,
     text: &[u8],
     rank: u8,

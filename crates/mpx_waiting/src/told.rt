@@ -123,8 +123,8 @@ fn calls_in(found: &[WaitingRank]) -> u128
     calls
 }
 
-// Adds that there are so many more.
-fn push_more(alloc: Global, more: u128, told: &mut Vec<u8>) -> Result<(), OutOfMemory>
+/// Adds that there are so many more, where there are some.
+pub fn push_more(alloc: Global, more: u128, told: &mut Vec<u8>) -> Result<(), OutOfMemory>
     ensures { OnOk result (told.new.items ≡ told.old.items ++ more_text more) }
 {
     if more == 0 {

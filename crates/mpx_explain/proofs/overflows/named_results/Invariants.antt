@@ -1,0 +1,6 @@
+use Rattle.std.specs.List.{All}
+use Rattle.mpx_explain.specs.Overflows.{IsOverflow}
+use Rattle.mpx_explain.proofs.overflows.named_results.Given as goal
+
+abbrev pub invariant-loop-candidate : goal.invariant-loop-candidate
+invariant-loop-candidate l = All (IsOverflow l.script.statements) l.named.items
