@@ -1,5 +1,5 @@
 -- What the desk harvests.
-use Rattle.std.proofs.Common.{◌≡◌, ℕ, zero, suc, List, Option, Some, None, refl, sym, ap, ◌∙◌}
+use Rattle.std.proofs.Common.{◌≡◌, ℕ, zero, suc, List, Option, Some, None, refl, sym, ap, ◌∙◌, subst}
 use Rattle.mpx_name.specs.Name.{Name}
 use Rattle.mpx_num.specs.declared.own.Operation.{Operation}
 use Rattle.mpx_value.specs.declared.outcomes.Outcome.{Outcome}
@@ -14,7 +14,7 @@ found None outcome e = cc e
 found (Some f) outcome e = (f, refl)
 
 -- so many calls on a context are harvested, one after the other
-pub harvests_all : (ops : List Operation) (name : Name) (n : ℕ) (old : NodeView) → Harvests ops old (harvested ops n name old)
+harvests_all : (ops : List Operation) (name : Name) (n : ℕ) (old : NodeView) → Harvests ops old (harvested ops n name old)
 harvests_all ops name zero old = harvests_none ops old
 harvests_all ops name (suc n) old =
     let mid = harvested ops n name old in
@@ -25,3 +25,7 @@ harvests_all ops name (suc n) old =
           let f = found (stored_at mid m k) outcome e in
           ap outcome_in (one.1 m k f.0 f.1 ∙ sym f.1) ∙ e,
     )
+
+-- the same of a node that they leave
+pub harvests_to : (ops : List Operation) (name : Name) (n : ℕ) (old new : NodeView) → new ≡ harvested ops n name old → Harvests ops old new
+harvests_to ops name n old new e = subst (Harvests ops old) (sym e) (harvests_all ops name n old)

@@ -79,9 +79,8 @@ impl RunDesk {
         ensures { OnOk result (Harvests (⟦<Ops as Listing>⟧.operations ops.now) (node_of self.old.node) (node_of self.new.node)) }
     {
         for name in &self.contexts {
-            if let Some(newest) = self.node.posted(name).checked_sub(1) {
-                harvest_to(alloc, &mut self.node, name, newest, ops)?;
-            }
+            let newest = self.node.posted(name).saturating_sub(1);
+            harvest_to(alloc, &mut self.node, name, newest, ops)?;
         }
         Ok(())
     }

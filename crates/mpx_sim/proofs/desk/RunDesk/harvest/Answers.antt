@@ -5,8 +5,8 @@ use Rattle.mpx_sim.proofs.desk.RunDesk.harvest.Goals as goal
 pub loop-name-init : goal.loop-name-init
 loop-name-init g c = harvests_none _ (node_of c.args.self.now.node)
 
-pub loop-name-preserved-in-Some : goal.loop-name-preserved-in-Some
-loop-name-preserved-in-Some g c = harvests_then _ (node_of c.args.self.now.node) (node_of c.loop-name.self.1.0) (node_of c.harvest_to.new.node) c.loop-name.invariant c.in_ok-harvest_to.ensures.harvested
+pub loop-name-preserved : goal.loop-name-preserved
+loop-name-preserved g c = harvests_then _ (node_of c.args.self.now.node) (node_of c.loop-name.self.1.0) (node_of c.harvest_to.new.node) c.loop-name.invariant c.in_ok-harvest_to.ensures.harvested
 
 pub returns : goal.returns
 returns g c = c.loop-name.invariant
