@@ -355,7 +355,7 @@ fn asks(alloc: Global, desk: &Desk<Node>, comm: &Comm) -> Result<bool, Fail> {
         && desk.compare(comm, &twin)? == Relation::Ident
         && desk.compare(comm, &world)? == Relation::Congruent;
     let ranks = desk.translate(alloc, comm, &[Rank::At(0), Rank::At(1)], &world)?;
-    let is_translated = ranks.as_slice() == [Rank::At(0), Rank::Undefined];
+    let is_translated = ranks.as_slice() == [Rank::At(0), Rank::Undefined].as_slice();
     let (sources, destinations) = (desk.sources(comm)?, desk.destinations(comm)?);
     let is_graph = sources.len() == 1 && sources[0].weight == 4 && destinations.len() == 1;
     Ok(
