@@ -8,11 +8,11 @@ returns-clause-input g c = (
   c.loop-piece.invariant.had,
 )
 
-pub returns-in_default-clause-part : goal.returns-in_default-clause-part
-returns-in_default-clause-part g c = (
+pub returns-in-Err-clause-part : goal.returns-in-Err-clause-part
+returns-in-Err-clause-part g c = (
   c.loop-piece.bytes.items,
   c.loop-piece.invariant.most,
-  consumes_keeps (g.R.Read.remaining c.args.reader.now) (g.R.Read.remaining c.loop-piece.reader) (g.R.Read.remaining c.read.new.self) c.loop-piece.bytes.items c.loop-piece.invariant.had c.in_default.ensures.bytes,
+  consumes_keeps (g.R.Read.remaining c.args.reader.now) (g.R.Read.remaining c.loop-piece.reader) (g.R.Read.remaining c.read.new.self) c.loop-piece.bytes.items c.loop-piece.invariant.had c.in-Err.ensures.bytes,
 )
 
 pub returns-then-count-eq0-clause-input : goal.returns-then-count-eq0-clause-input
