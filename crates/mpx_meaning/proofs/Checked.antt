@@ -30,7 +30,7 @@ use Rattle.mpx_group.specs.Group.{has_twice}
 use Rattle.mpx_post.specs.declared.draft.At.{At}
 use Rattle.mpx_post.specs.declared.draft.Draft.{Draft}
 use Rattle.mpx_post.specs.declared.draft.PostError.{PostError}
-use Rattle.mpx_post.specs.declared.draft.PostError.TheVariants.{ItemOutOfRange, TooManyItems, NoTopology, CallsUsedUp, DepthUsedUp, BadGroup, BadEdge, TooManyEdges, BadTag}
+use Rattle.mpx_post.specs.declared.draft.PostError.TheVariants.{CallsUsedUp, DepthUsedUp, BadGroup, BadEdge, TooManyEdges, BadTag}
 use Rattle.mpx_post.specs.declared.drafted_edges.DraftedEdge.{DraftedEdge}
 use Rattle.mpx_post.specs.declared.drafted_edges.DraftedNeighbour.{DraftedNeighbour}
 use Rattle.mpx_post.specs.Drafts.{are_edges, are_ranks, checked, checked_as, checked_at, checked_in, drafted_numbers, drafted_seat, edge_count, edge_of, first_that_holds, given_by, graph_of, has_bad_group, has_colour_and_key, has_its_counts, is_count, is_drafted_root, is_edge, is_misfilled, is_misplaced, is_neighbour, is_of, is_rank, is_weight, making_of, misfill, most_calls, most_steps, natural, naturals, neighbour_of, ranks_in, received_counts, refusals, sent_counts, stray_refusals, unless, where_had}
@@ -39,7 +39,7 @@ use Rattle.mpx_post.specs.Posts.{Given, destinations_in, edges_in, group_in, sou
 use Rattle.mpx_post.specs.Seats.{lacks_topology, seat_at}
 use Rattle.mpx_post.specs.Blocks.{blocks_sent, repeated}
 use Rattle.mpx_post.specs.Agreement.{blocks_of, fill, fits_counts, fits_edges, fits_group, is_fit, is_root, seat_of}
-use Rattle.mpx_post.proofs.Checks.{closed_first}
+use Rattle.mpx_post.proofs.Checks.{closed_first, never}
 use Rattle.mpx_post.proofs.Limits.{from_not, is_for-fits, right, right_more, type_given}
 use Rattle.mpx_match.specs.Questions.{fits_there}
 
@@ -52,11 +52,6 @@ passed_first false e rest h = (refl, h)
 none_told : (o : Option PostError) (x given : Given) → unless o x ≡ Ok given → (o ≡ None) × (x ≡ given)
 none_told None x given h = (refl, cc)
 none_told (Some e) x given h = cc
-
-never : (r t : Bool) (x y : Given) → unless (first_that_holds ((r, ItemOutOfRange) ∷ (t, TooManyItems) ∷ (true, NoTopology) ∷ [])) x ≡ Ok y → ⊥
-never true t x y h = cc
-never false true x y h = cc
-never false false x y h = cc
 
 -- ITEMS AND COUNTS
 

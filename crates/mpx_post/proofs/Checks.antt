@@ -222,7 +222,7 @@ module _ (seat : Seat) (at : At) (draft : Draft) where
     call_below : (given : Given) → answer ≡ Ok given → (at.call == most_calls) ≡ false
     call_below given h = (place_parts (accepted_place given h)).calls
 
-never : (r t : Bool) (x y : Given) → unless (first_that_holds ((r, ItemOutOfRange) ∷ (t, TooManyItems) ∷ (true, NoTopology) ∷ [])) x ≡ Ok y → ⊥
+pub never : (r t : Bool) (x y : Given) → unless (first_that_holds ((r, ItemOutOfRange) ∷ (t, TooManyItems) ∷ (true, NoTopology) ∷ [])) x ≡ Ok y → ⊥
 never true t x y h = cc
 never false true x y h = cc
 never false false x y h = cc
