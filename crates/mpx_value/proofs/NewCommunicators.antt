@@ -88,7 +88,7 @@ pub children_exact : (ops : List Operation) (birth : BirthView) (row : RowView) 
 children_exact ops birth row name call place x e = exact (children ops birth row name call) place x (colours_rise ops birth row name call) e
 
 -- where the name has room, a fine row makes all that it may
-pub children_are : (ops : List Operation) (birth : BirthView) (row : RowView) (name : Name) (call : ℕ) → has_room name ≡ true → verdict ops birth.topology row ≡ V.Fine → children ops birth row name call ≡ children_made birth row
+pub children_are : (ops : List Operation) (birth : BirthView) (row : RowView) (name : Name) (call : ℕ) → has_room name ≡ true → verdict ops birth.topology row ≡ V.Fine → children ops birth row name call ≡ children_in (first_of row).kind birth row
 unfolding children
 children_are ops birth row name call room fine =
     ap (λ (b : Bool). cond b (unless_fault (verdict ops birth.topology row) (children_in (first_of row).kind birth row)) []) room

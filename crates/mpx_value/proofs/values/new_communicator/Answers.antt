@@ -6,6 +6,7 @@ use Rattle.mpx_match.specs.declared.faults.FaultKind.TheVariants.{Amount}
 use Rattle.mpx_birth.specs.Births.{BirthView, rank_in}
 use Rattle.mpx_value.specs.declared.outcomes.Outcome.{Outcome}
 use Rattle.mpx_value.specs.declared.outcomes.Outcome.TheVariants.{Fault, NewComm}
+use Rattle.mpx_post.specs.Agreement.{first_of}
 use Rattle.mpx_value.specs.Children.{children_in, has_room, named_children}
 use Rattle.mpx_value.specs.Values.{IsMade, new_communicator, place_among}
 use Rattle.mpx_value.proofs.values.new_communicator.Goals as goal
