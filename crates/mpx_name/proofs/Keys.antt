@@ -1,10 +1,9 @@
--- Names as keys of maps, and names without steps.
-use Rattle.std.proofs.Common.{◌≡◌, List, [], ◌∷◌, length, refl, ap, arith}
+-- Names as keys of maps.
+use Rattle.std.proofs.Common.{◌≡◌, ap}
 use Rattle.std.specs.BTreeMap.{is_at}
 use Rattle.std.specs.Ordering.{is_eq, ordering_reverse}
 use Rattle.std.specs.declared.cmp.Ordering.{Ordering}
 use Rattle.std.specs.declared.cmp.Ordering.TheVariants.{Less, Equal, Greater}
-use Rattle.mpx_name.specs.declared.steps.Step.{Step}
 use Rattle.mpx_name.specs.Name.{Name, same_name}
 use Rattle.mpx_name.specs.Order.{name_cmp, name_total}
 
@@ -16,7 +15,3 @@ tied_either Greater s e = ap is_eq e
 -- either order of two names
 pub either : (n name : Name) → same_name n name ≡ is_at (name_cmp name) n
 either n name = tied_either (name_cmp name n) (name_cmp n name) (name_total.antisymm n name)
-
-pub no_step : (ss : List Step) → length ss ≡ 0 → ss ≡ []
-no_step [] len = refl
-no_step (s ∷ ss) len = absurd (omega (arith, len))
