@@ -4,33 +4,33 @@
     bench/trusted.py                        the promises of README, those of the table PROMISES below
     bench/trusted.py NAME..                 what these say together: a promise of the table, as "the headline", or a public function
     bench/trusted.py --text NAME..          its definitions as one text, in chapters: each in front of those that name it, where that can be
-    bench/trusted.py -v ..                  with the lines of each file, the lemmas by which equality tests aren't entered, the names that stand in
-                                            two files, the constructors that stand for two things, and who names what stands further on
+    bench/trusted.py -v ..                  with the lines of each file, the lemmas by which equality tests aren't entered, the names that mean two
+                                            things, the constructors whose name two types have, and who names what stands further on
 
 A function is named as FUNCTION, or with what it stands in, as TYPE::FUNCTION or CRATE::FILE::FUNCTION; FUNCTION.CLAUSE is one clause of it, as
 `run_job.done`. Of a function of a trait, as `Board::joined`, it takes the trait's clauses, and what the type says that the trait's members are.
 
 It follows names: from the clauses, and the types that the function takes, to the definitions that they name in `specs/` of any crate; from these to
-the types of `src/`; and from these to the types in their fields and variants. A type with private fields counts as one line: as what contracts see
+the types of `src/`; and from these to the types in their fields and variants. A type with an `impl Model` counts as one line: as what contracts see
 it. Words inside texts are no names, nor are fields: the record that a field belongs to is named by the type of what has it.
 
-Lines count that have something in them, without comments, `use` and attributes. A `ghost` field, which says what
-is always so of a type's values, stands there where a definition names it, and in the type of an asked function whose clauses ask for it. The others don't, nor does the
-invariant of a type with private fields: each function that makes such a value has to prove them. An enum of which nothing names a variant is one line.
+Lines count that have something in them, without comments, `use` and attributes: also those that say how contracts see boards and nodes, and what only
+the crates of threads lead to. A `ghost` or private field stands there where a definition names it, and a `ghost` one in the type of an asked function
+whose clauses ask for it. The others don't, nor does the invariant of a type with an `impl Model`: each function that makes such a value has to prove them.
+An enum of which nothing names a variant is one line, and so is a struct of which nothing names a field.
 
-An equality test is not entered where a lemma of `specs/`, which the prover has checked, says that it is true of equal values alone: its signature
-counts, and `IsEquality`, and no more of it. How many tests that are is told with the count, and which lemmas by -v and in the text. Nor is a definition
-entered where a law that is asked for too says all of it that the clauses need.
-
-What is counted apart is told with the count, and stands in the text: what only the crates of threads lead to, the tables of names, and how contracts see
-boards, nodes and a job's own operations."""
+A lemma of `specs/`, whose type is an equation or that a test holds, counts as its statement: its proof is the prover's. An equality test is not entered
+where a lemma of `specs/` says that it is true of equal values alone: its signature counts, and `IsEquality`, and no more of it. How many tests that are is
+told with the count, and which lemmas by -v and in the text. Nor is a definition entered where a law that is asked for too says all of it that the
+clauses need. Counted apart are the tables of names alone, which stand in the text too."""
 import collections
 import os
+import re
 import sys
 
 from trusted_names import House, Text
-from trusted_sources import ROOT
-from trusted_text import counted, jumps, place, print_text, two_things
+from trusted_sources import ROOT, counted
+from trusted_text import jumps, place, print_text, two_things
 
 # Joining boards is a semilattice; and after all that can happen what boards and results tell is so, processes agree, and results stay. A law says which
 # gatherings and prunings can happen.
@@ -49,12 +49,8 @@ PROMISES = {
     "what is printed": [*EVALUATION, "run_text.prints"],
     "its words and status": [*EVALUATION, "run_job.prints"],
 }
-# What is counted apart: what only the crates of threads, and gates of threads, lead to; which name or word stands for what, of each table its first line aside; and how contracts
-# see boards, nodes and lists of a job's own operations, whose fields are private.
-THREADS = {"mpx_bus", "mpx_shared", "mpx_threads"}
+# The tables of names, which say which name or word stands for what: of each what stands behind its first line is counted apart.
 TABLES = {"kind_named", "local_named", "predefined_named", "type_named", "refusal_name", "fault_name", "script_fault_name", "relation_text"}
-VIEWS = {"look", "look_of", "parts_of", "node_of", "PartsView", "Ops.operations"}
-APART = {"for threads": (THREADS, {"IsGivenUp"}), "in tables of names": (set(), TABLES), "for how values with private fields are seen": (set(), VIEWS)}
 
 
 def by_file(text):
@@ -65,34 +61,26 @@ def by_file(text):
 
 
 def twice(text):
-    """Names that stand in two files, and these files."""
-    found = collections.defaultdict(set)
+    """Names that mean two things, and the files in which they stand. A type that is seen as just what a definition of its name is means the same."""
+    found = collections.defaultdict(dict)
     for it in text:
         if it.kind != "promise":
-            found[it.name].add(place(it))
-    return {name: sorted(files) for name, files in sorted(found.items()) if len(files) > 1}
+            found[it.name][place(it)] = re.sub(rf"^{it.name} (?:is seen as|=) ", "", it.lines[-1])
+    return {name: sorted(files) for name, files in sorted(found.items()) if len(files) > 1 and len(set(files.values())) > 1}
 
 
-def lines_apart(house, functions):
-    """The lines and files without what is counted apart, and of that each sort's lines, where it has any."""
-    left, counts = dict(APART), []
-    while True:
-        crates, names = (set().union(*(it[place] for it in left.values())) for place in (0, 1))
-        counts.append(by_file(Text(house, functions, crates, names)))
-        if not left:
-            break
-        left.pop(next(iter(left)))
-    sums = [sum(it.values()) for it in counts]
-    more = [f"{after - before} {sort}" for sort, before, after in zip(APART, sums, sums[1:]) if after > before]
-    return sums[0], len(counts[0]), more
+def lines_apart(house, functions, text):
+    """The lines and files without the tables of names, and the lines of these."""
+    counts = by_file(Text(house, functions, TABLES))
+    return sum(counts.values()), len(counts), sum(by_file(text).values()) - sum(counts.values())
 
 
 def print_count(what, text, house, functions):
-    lines, files, more = lines_apart(house, functions)
+    lines, files, names = lines_apart(house, functions, text)
     tests = sum(1 for it in text if it.lemma)
-    print(f"{what}: {lines} lines in {files} files{', and apart ' * bool(more)}{', '.join(more)}; {len(text.definitions)} definitions in all", end="")
-    print(f", {tests} equality tests decided by lemmas, {len(twice(text))} names in two files", end="")
-    print(f", {len(two_things(text))} constructors that stand for two or more things", flush=True)
+    print(f"{what}: {lines} lines in {files} files{f', and apart {names} in tables of names' * bool(names)}; {len(text.definitions)} definitions in all", end="")
+    print(f", {tests} equality tests decided by lemmas, {len(twice(text))} names that mean two things", end="")
+    print(f", {len(two_things(text))} constructors' names that two types have, each told at its file's head", flush=True)
 
 
 def print_more(text):
@@ -104,9 +92,9 @@ def print_more(text):
         if it.law:
             print(f"    not entered: {it.name}, by the law {it.law}")
     for name, files in twice(text).items():
-        print(f"    in two files: {name}, in {' and '.join(files)}")
+        print(f"    means two things: {name}, in {' and '.join(files)}")
     for name, types in two_things(text).items():
-        print(f"    two things: {name}, {', '.join(types)}")
+        print(f"    of two types: {name}, {', '.join(types)}")
     for (file, name), (there, other) in jumps(text):
         print(f"    further on: {name} of {place(text.definitions[file, name])} names {other} of {place(text.definitions[there, other])}")
 

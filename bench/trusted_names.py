@@ -2,7 +2,7 @@
 import re
 from collections import defaultdict
 
-from trusted_sources import NO_NAMES, ROOT, WORD, Definition, Sources, imports
+from trusted_sources import NO_NAMES, ROOT, WORD, Definition, Sources, counted, imports
 
 # A lemma that decides an equality test, and the test in it: its name, or in brackets what it is by definition. One of the third form says of what the two have
 # to be equal, so its own line is kept.
@@ -20,6 +20,8 @@ LIBRARYS = {"nat_eq"}
 # A definition that isn't entered where this law is asked for too, since the law says all of it that the clauses need.
 BY_LAW = {"parts_joining": "boards_are_joined_by_their_facts.shown", "gathers_on": "what_may_be_opened_and_dropped.gathers",
           "pruned_on": "what_may_be_opened_and_dropped.prunes", "fits_there": "checked_posts_fit"}
+# The statement of a lemma, which ends in an equation or in that a test holds.
+STATEMENT = re.compile(r"^\s*(?:(?:abbrev|pub) )*[\w'-]+ : (?:.* → )?(?:T \([^→]*\)|(?!.* → )[^→]* ≡ [^→]*)$")
 # What stands before the name on a definition's first line.
 BEFORE = re.compile(r"^\s*(?:(?:abbrev|unfoldable|pattern|pub|data|record) +)*")
 
@@ -131,7 +133,7 @@ class House:
             path, there = specs.imports.get(name, (None, None))
             return self.found(("specs", path, there)) if path and there else None
         lines, lemma = specs.lines[name], self.lemma_of(specs, name)
-        lines = lines[:1] + [lemma[2]] * bool(lemma[2]) if lemma else lines
+        lines = lines[:1] + [lemma[2]] * bool(lemma[2]) if lemma else lines[:1] if STATEMENT.match(lines[0]) else lines
         used = names_in("\n".join([*lines[:1], lemma[2].partition(" : ")[2]] if lemma and lemma[2] else lines), specs, module)
         used += [("specs", "Rattle.join_core.specs.Joins", "IsEquality")] if lemma else []
         above, comment = specs.above[name]
@@ -163,11 +165,6 @@ def names_in(text, specs, module):
     return found
 
 
-def crate_of(name):
-    """The crate in which a name stands."""
-    return name[1].split(".")[1] if name[0] == "specs" and "." in name[1] else "" if name[0] == "specs" else name[1].relative_to(ROOT).parts[0]
-
-
 def entered(definition, used, law, is_cut):
     """A definition and what it names; where a law says all of it, or it is counted apart, its first line and what that names."""
     if not law and not is_cut:
@@ -184,11 +181,11 @@ def names_a_variant(name):
 
 
 class Text:
-    """The definitions that functions lead to, each behind the first that names it, and which of them names which; none of the crates `without`, and of the
-    definitions `cut` the first lines alone. An enum of which nothing names a variant is one line."""
+    """The definitions that functions lead to, each behind the first that names it, and which of them names which; of the definitions `cut` the first lines
+    alone. An enum of which nothing names a variant is one line, and so is a struct of which nothing names a field."""
 
-    def __init__(self, house, functions, without=(), cut=()):
-        self.house, self.without, self.cut = house, without, cut
+    def __init__(self, house, functions, cut=()):
+        self.house, self.cut = house, cut
         self.definitions, self.names, self.shut, promised = {}, defaultdict(list), {}, ""
         self.said = {name: law for name, law in BY_LAW.items() if law in functions}
         for asked in functions:
@@ -200,15 +197,18 @@ class Text:
             promised += "\n".join(promise.lines) + "\n"
             own = {asked.partition(".")[0].split("::")[-2]} if "::" in asked else set()
             self.follow([(key, name) for name in reversed(used)])
-            while self.add_ghosts(own, {name[-1] for name in used}):
+            while self.add_fields(own, {name[-1] for name in used}):
                 pass
         for key in [key for key in self.shut if re.search(rf"\b{key[1]}\.[A-Z]", promised)]:
             self.open(key)
+        for key, it in self.definitions.items():
+            if it.fields and len(counted(it)) == 2:
+                self.definitions[key] = it._replace(lines=[f"{it.lines[0]} .. {it.lines[-1]}"])
 
     def follow(self, todo):
         while todo:
             by, name = todo.pop()
-            came = self.house.found(name) if name[1] and crate_of(name) not in self.without else None
+            came = self.house.found(name) if name[1] else None
             if not came:
                 continue
             key = (came[0].file, came[0].name)
@@ -229,16 +229,17 @@ class Text:
         self.definitions[key], its = self.shut.pop(key)
         self.follow([(key, name) for name in reversed(its)])
 
-    def add_ghosts(self, own, asked):
-        """Adds to types the ghost fields that a definition or a clause names, and those of the asked function's own type that say what its clauses ask."""
-        named = {word for it in self for line in it.lines if it.kind != "type" for word in re.findall(r"\.([a-z]\w*)", line)}
+    def add_fields(self, own, asked):
+        """Adds to types the ghost and private fields that a definition or a clause names, and the ghost ones of the asked function's own type that say what its
+        clauses ask."""
+        named = {word for it in self if it.kind != "type" for line in it.lines for word in re.findall(r"\.([a-z]\w*)", line)}
         added = False
         for key, it in list(self.definitions.items()):
-            new = [ghost for ghost in it.ghosts if ghost[0] in named or it.name in own and asked & {name[-1] for name in ghost[2]}]
+            new = [field for field in it.fields if field[0] in named or it.name in own and field[1][0].strip().startswith("ghost ") and asked & {name[-1] for name in field[2]}]
             if new:
-                lines = [*it.lines[:-1], *(line for ghost in new for line in ghost[1]), it.lines[-1]]
-                self.definitions[key] = it._replace(lines=lines, ghosts=tuple(ghost for ghost in it.ghosts if ghost not in new))
-                self.follow([(key, name) for ghost in new for name in ghost[2]])
+                lines = [*it.lines[:-1], *(line for field in new for line in field[1]), it.lines[-1]]
+                self.definitions[key] = it._replace(lines=lines, fields=tuple(field for field in it.fields if field not in new))
+                self.follow([(key, name) for field in new for name in field[2]])
                 added = True
         return added
 

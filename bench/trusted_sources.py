@@ -13,10 +13,15 @@ MEMBER = re.compile(r"⟦<(\w+)[^⟧]* as (\w+)>⟧\.(\w+)")
 DECLARED = r"^(?:pub(?:\(crate\))? )?(struct|enum|type|trait) {}\b"
 
 # One definition: its file and name there, its lines, the comment above, the parameters of its module, the lemma that decides it (its name and file), the
-# names of its constructors, whether it is a definition of specs, a type or a promise, the law for which it isn't entered, and the ghost fields of a type: each
-# with its lines and what these name.
-Definition = collections.namedtuple("Definition", "file name lines comment module lemma constructors kind law ghosts",
+# names of its constructors, whether it is a definition of specs, a type or a promise, the law for which it isn't entered, and the ghost and private fields of a
+# type: each with its lines and what these name.
+Definition = collections.namedtuple("Definition", "file name lines comment module lemma constructors kind law fields",
                                     defaults=[(), (), None, (), "definition", None, ()])
+
+
+def counted(definition):
+    """The lines of a definition that count."""
+    return [line for line in definition.lines if line.strip() and not line.strip().startswith(("//", "--"))]
 
 
 def imports(text):
@@ -132,12 +137,16 @@ class Sources:
         bare = "\n".join(line for line in lines if not line.strip().startswith("//"))
         constructors = tuple(re.findall(r"^    ([A-Z]\w*)", bare, re.M)) if kind == "enum" else ()
         found = list(re.finditer(r"^ +ghost (\w+): (\{.*?\}),?(?: by \{.*?\},?)?\n", bare + "\n", re.S | re.M))
-        ghosts = tuple((it.group(1), it.group(0).splitlines(), of_specs(it.group(2), imports(text))) for it in found)
-        hidden = {line for _, its, _ in ghosts for line in its}
+        fields = [(it.start(), it.group(1), it.group(0).splitlines(), of_specs(it.group(2), imports(text))) for it in found]
+        if kind == "struct":
+            private = re.finditer(r"^    (?:pub\(crate\) )?(\w+): (.*),$", bare, re.M)
+            fields += [(it.start(), it.group(1), [it.group(0)], self.types_in(file, it.group(2))) for it in private]
+        fields = tuple(it[1:] for it in sorted(fields, key=lambda it: it[0]))
+        hidden = {line for _, its, _ in fields for line in its}
         bare = "\n".join(line for line in bare.splitlines() if line not in hidden)
         lines = [line for line in lines if line not in hidden]
         used = bare.partition(name)[2] if kind != "enum" else re.sub(r"^    [A-Z]\w*", "", bare, flags=re.M)
-        return Definition(file, name, lines, comment, constructors=constructors, kind="type", ghosts=ghosts), self.types_in(file, used)
+        return Definition(file, name, lines, comment, constructors=constructors, kind="type", fields=fields), self.types_in(file, used)
 
     def trait_at(self, file, name, members):
         """A trait's ghost members: all, or these."""

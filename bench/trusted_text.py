@@ -3,7 +3,7 @@ import itertools
 import re
 from collections import defaultdict
 
-from trusted_sources import NO_NAMES, ROOT, imports
+from trusted_sources import NO_NAMES, ROOT, counted, imports
 
 CHAPTERS = ["joins", "numbers", "posts and rows", "verdicts", "values", "children and histories", "boards", "nodes", "worlds", "programs of one's own",
             "scripts", "runs", "the program", "what is promised"]
@@ -17,12 +17,9 @@ HEAD = """The text to trust for {what}, in chapters: what a name means stands in
 - `module _ (x : X) where`: what stands under it takes `x` first. Inside that file it isn't written, elsewhere it is.
 - `Post is seen as Given`: in contracts a value of `Post` is a `Given`. Its own fields are private, and no clause names them.
 - A `ghost` field says what is always so of a type's values. It stands there where a definition names it, and in the type of an asked function whose
-  clauses ask for it. The others are left out: each function that makes such a value has to prove them."""
-
-
-def counted(definition):
-    """The lines of a definition that count."""
-    return [line for line in definition.lines if line.strip() and not line.strip().startswith(("//", "--"))]
+  clauses ask for it. The others are left out: each function that makes such a value has to prove them. A private field stands there where a
+  definition names it, and `..` where none is named.
+- A definition whose type is an equation, or that a test holds, is a lemma: it stands with its statement alone, since the prover has checked it."""
 
 
 def place(definition):
@@ -105,7 +102,9 @@ def two_things(text):
 def aliases(file, definitions, unclear, owner):
     """What the short names of a file stand for, those that its definitions use; and of which type constructors are whose names other types have too."""
     used = NO_NAMES.sub("", "\n".join(line for it in definitions for line in it.lines))
-    found = []
+    # its own constructors, where another type has one of the name
+    own = {name: it.name for it in definitions if it.kind == "definition" for name in it.constructors if name in unclear}
+    found = [f"{name} = {of}.{name}" for name, of in own.items()]
     for here, (path, there) in imports(file.read_text()).items():
         parts = path.split(".")
         if there is None and re.search(rf"(?<![\w'.-]){re.escape(here)}\.", used):
