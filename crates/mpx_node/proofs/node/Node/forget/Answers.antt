@@ -1,7 +1,6 @@
 use Rattle.std.proofs.Common.{◌≡◌, ◌∙◌, None, sym, ap, rules}
 use Rattle.std.specs.Option.{option_map}
-use Rattle.mpx_node.specs.Forgetting.{lets_go}
-use Rattle.mpx_node.specs.Opened.{opened_of}
+use Rattle.mpx_node.specs.Opened.{lets_go, opened_of}
 use Rattle.mpx_node.specs.Shown.{node_of}
 use Rattle.mpx_node.proofs.Forgotten.{forgets_nothing}
 use Rattle.mpx_node.proofs.Stepping.{Contexts, does}
