@@ -56,7 +56,7 @@ module _ (below : ℕ) where
   or_gone_by_test false xs k x e = inl e
 
   past_by_test : (b : Bool) (xs : List (Option Finished)) (number : ℕ) → is_past_free (cond b (let_go below xs) xs) number ≡ is_past_free xs number
-  past_by_test true xs number i = option_map_or is_fine_free (last_stays below xs i) false && nat_le (length_lets below xs i) number
+  past_by_test true xs number = λ i. option_map_or is_fine_free (last_stays below xs i) false && nat_le (length_lets below xs i) number
   past_by_test false xs number = refl
 
 module _ (name : Name) (below : ℕ) (node : NodeView) where
