@@ -25,12 +25,12 @@ all_makes name given v h n = subst AllThere (sym (results_posted name n given v.
 
 pub all_stores : (ops : List Operation) (name : Name) (o : Option Finished) (v : ProcessView) → HasAll v.node → HasAll (stores ops name o v).node
 all_stores ops name None v h = h
-all_stores ops name (Some finished) v h n = subst AllThere (sym (results_added name finished (made_next ops name v.node) v.node n))
+all_stores ops name (Some finished) v h = λ n. subst AllThere (sym (results_added name finished (made_next ops name v.node) v.node n))
     (results_stored name n finished v.node AllThere (λ same. all_push (results_on v.node n) finished (h n)) (h n))
 
 pub all_opens : (parent : Name) (r : Result GatheringView PostError) (v : ProcessView) → HasAll v.node → HasAll (opens_gathering parent r v).node
 all_opens parent (Err refusal) v h = h
-all_opens parent (Ok g) v h n = subst AllThere (sym (results_opened (λ m. same_name m (gathering_name parent g)) (learn (gathering_fact parent g) v.node) n)) (h n)
+all_opens parent (Ok g) v h = λ n. subst AllThere (sym (results_opened (λ m. same_name m (gathering_name parent g)) (learn (gathering_fact parent g) v.node) n)) (h n)
 
 pub all_takes : (o : Option Look) (v : ProcessView) → HasAll v.node → HasAll (takes o v).node
 all_takes None v h = h

@@ -5,8 +5,8 @@ use Rattle.mpx_world.specs.declared.processes.Processes.{Processes}
 use Rattle.mpx_world.proofs.Showing.{writes_at, forget_done}
 use Rattle.mpx_world.proofs.processes.Processes.forget.Goals as goal
 
-pub returns-else-at-len : goal.returns-else-at-len
-returns-else-at-len c =
+pub returns : goal.returns
+returns c =
     let nodes = c.args.self.now.nodes.items in
     let lt : c.from-at.result < length nodes = omega (arith, c.if-at-len.false, c.len.ensures, c.args.self.now.nodes.ok.0) in
     let at = slice_get_read nodes (length nodes) c.from-at.result c.index_mut.result.now refl lt c.index_mut.ensures.value in
