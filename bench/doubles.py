@@ -5,7 +5,7 @@
     bench/doubles.py --over 4   of the first only those of more lines
 
 A lemma is cited where its name stands in another place of any source, definition, proof or attribute; one of a file of examples is a
-row, which nobody need cite. What a function's own proof files answer (`returns`, `loop-i-init` ..) isn't looked at."""
+row, which nobody need cite, and what two such files say alike is how they write their rows. What a function's own proof files answer (`returns`, `loop-i-init` ..) isn't looked at."""
 import collections
 import pathlib
 import re
@@ -51,7 +51,7 @@ def main(words):
         if file.suffix == ".antt" and not ANSWERS.search(str(file)) and file.name != "Lib.antt":
             for name, lines in blocks(text).items():
                 places["\n".join(re.sub(r"^pub ", "", line) for line in lines)].append((name, file, len(lines)))
-    twice = [found for found in places.values() if len(found) > 1 and found[0][2] > over]
+    twice = [found for found in places.values() if sum("Examples" not in file.name for _, file, _ in found) > 1 and found[0][2] > over]
     for found in sorted(twice, key=lambda found: -found[0][2]):
         print(f"{found[0][2]:3} lines of {found[0][0]}: " + ", ".join(str(file.relative_to(ROOT)) for _, file, _ in found))
     uses = collections.Counter()

@@ -1,5 +1,5 @@
 //! The composition of affine maps.
-ghost use Rattle.std.specs.Prelude.{◌≡◌, IsTrue, codes, true};
+ghost use Rattle.std.specs.Prelude.{◌≡◌, codes, true};
 ghost use Rattle.mpx_num.specs.Types.{is_paired};
 ghost use Rattle.mpx_num.specs.Own.{IsItem};
 ghost use Rattle.mpx_affine.specs.Composition.{composed};

@@ -5,7 +5,11 @@ use Rattle.std.proofs.lemmas.List.Filters.{length-filter_more}
 use Rattle.std.proofs.lemmas.List.Sums.{length-filter, sum_by-cons, sum_by_more_le}
 use Rattle.mpx_birth.specs.declared.edges.Neighbour.{Neighbour}
 use Rattle.mpx_birth.specs.Edges.{has_rank, often}
-use Rattle.mpx_birth.specs.Ends.{no_neighbour, place_of, rank_at, turn}
+use Rattle.mpx_birth.specs.Ends.{place_of, rank_at, turn}
+
+-- whoever stands past the end
+abbrev no_neighbour : Neighbour
+no_neighbour = record { rank = 0; weight = 0 }
 
 -- 1 where the rank stands there
 abbrev one : (rank : ℕ) → Neighbour → ℕ

@@ -4,12 +4,9 @@ use Rattle.mpx_birth.specs.declared.edges.Neighbour.{Neighbour}
 use Rattle.mpx_birth.specs.Edges.{has_rank, often}
 use Rattle.mpx_birth.specs.Topologies.{TopologyView, destinations_at, sources_at}
 
-abbrev pub no_neighbour : Neighbour
-no_neighbour = record { rank = 0; weight = 0 }
-
 -- the rank at a place
 abbrev pub rank_at : List Neighbour → ℕ → ℕ
-rank_at ns place = (slice_index_or ns place no_neighbour).rank
+rank_at ns place = (slice_index_or ns place (record { rank = 0; weight = 0 })).rank
 
 -- how often the rank of this place stands before it
 abbrev pub turn : List Neighbour → ℕ → ℕ

@@ -30,10 +30,10 @@ abbrev pub destinations_near : List Near → ℕ → List Neighbour
 destinations_near ranks rank = (slice_index_or ranks rank nobody).destinations
 
 abbrev pub sources_at : TopologyView → ℕ → List Neighbour
-sources_at topology rank = sources_near topology.ranks rank
+sources_at topology rank = (slice_index_or topology.ranks rank nobody).sources
 
 abbrev pub destinations_at : TopologyView → ℕ → List Neighbour
-destinations_at topology rank = destinations_near topology.ranks rank
+destinations_at topology rank = (slice_index_or topology.ranks rank nobody).destinations
 
 -- j stands among i's destinations as often as i among j's sources. So no rank stands there that is none of the ranks.
 pub record AgreesAtBothEnds (ranks : List Near) : Type 0 where

@@ -1,5 +1,5 @@
 //! Whether lists of neighbours are within the limits of a topology.
-ghost use Rattle.std.specs.Prelude.{◌≡◌, ◌≤◌, ◌^◌, length, nat_le};
+ghost use Rattle.std.specs.Prelude.{◌≡◌, length, nat_le};
 ghost use Rattle.std.specs.List.{list_all};
 ghost use Rattle.mpx_birth.specs.Topologies.{destinations_in_all, is_near, fits_neighbour, is_topology, fits_weight, most_neighbours, sources_in_all};
 

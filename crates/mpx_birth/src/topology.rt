@@ -1,5 +1,5 @@
 //! The neighbours of each rank of a distributed graph.
-ghost use Rattle.std.specs.Prelude.{◌≡◌, ◌≤◌, ◌++◌, ◌∷◌, ◌&&◌, [], IfOk, OnOk, OnErr, length, nat_eq, true};
+ghost use Rattle.std.specs.Prelude.{◌≡◌, ◌≤◌, ◌++◌, ◌∷◌, [], IfOk, OnOk, OnErr, length, true};
 ghost use Rattle.std.specs.Arc.{arc_value};
 ghost use Rattle.mpx_birth.specs.Topologies.{AgreesAtBothEnds, IsTopology, IsTopologyOf, destinations_at, is_topology, most_neighbours, nobody, same_near, same_nears, same_topology, sources_at};
 

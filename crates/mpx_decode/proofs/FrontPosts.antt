@@ -1,8 +1,7 @@
 -- A post whose fields stand at the front.
-use Rattle.std.proofs.Common.{◌≡◌, ℕ, ◌*◌, ℤ, Bool, true, false, List, [], ◌++◌, length, Option, Some, None, Result, Ok, IfSome, refl, sym, ap, ◌∙◌}
+use Rattle.std.proofs.Common.{◌≡◌, ℕ, ◌*◌, ℤ, Bool, true, false, List, [], ◌++◌, length, Option, Some, None, Ok, IfSome, refl, sym, ap, ◌∙◌}
 use Rattle.std.specs.Int.{w16}
 use Rattle.std.specs.Bool.{OnTrue}
-use Rattle.std.specs.Option.{option_map}
 use Rattle.join_core.specs.Flat.{known}
 use Rattle.mpx_num.specs.ItemList.{ItemList}
 use Rattle.std.specs.List.{All, flat_map}
@@ -18,7 +17,6 @@ use Rattle.mpx_post.specs.declared.making.Making.{Making}
 use Rattle.mpx_post.specs.declared.making.Making.TheVariants.{Nothing, Split, Group, Edges, Neighbours}
 use Rattle.mpx_post.specs.Equality.{operations_decided, same_operations}
 use Rattle.mpx_post.specs.Posts.{Given, IsPost, NoneUnless, makes_of}
-use Rattle.mpx_format.specs.declared.defects.Defect.{Defect}
 use Rattle.mpx_format.specs.declared.versions.Version.{Version}
 use Rattle.mpx_format.specs.Codes.{kind, mode, operation, when}
 use Rattle.mpx_format.specs.Fields.{process}
@@ -26,7 +24,7 @@ use Rattle.mpx_format.specs.Contexts.{posted}
 use Rattle.mpx_format.specs.Format.{byte, many_read, number}
 use Rattle.mpx_format.specs.Posts.{count, counts, counts_if, given_from, integer, item_count, items as items_format, items_for, nums_of, post, type_for}
 use Rattle.mpx_format.proofs.Integers.{numbers_stand}
-use Rattle.mpx_decode.proofs.PostLimits.{post_whole}
+use Rattle.mpx_decode.proofs.PostLimits.{post_whole, type_in, whole}
 
 nothing_made : (m : Making) → makes_of m ≡ M.Nothing → m ≡ Nothing
 nothing_made Nothing e = refl
@@ -41,12 +39,6 @@ same_op_is None None t = refl
 same_op_is None (Some b) t = absurd cc
 same_op_is (Some a) None t = absurd cc
 same_op_is (Some a) (Some b) t = ap Some ((operations_decided a b).0 t)
-
-abbrev type_in : Option ItemList → Option Ty
-type_in items = option_map (λ (i : ItemList). i.ty) items
-
-abbrev whole : Given × List ℕ → Result (Given × List ℕ) Defect
-whole x = Ok x
 
 pub on_true : {P : Type 0} (b : Bool) → b ≡ true → OnTrue b P → P
 on_true true e h = h

@@ -30,11 +30,6 @@ pub step_behind : {T : Type 0} (r : Option T) (left : T → List ℕ) (bytes aft
 step_behind None left bytes after n s e one h = h
 step_behind (Some x) left bytes after n s e one h = steps_read bytes after (left x) n (s ∷ []) (omega arith) e one (one_read after (left x) s h)
 
--- no step
-pub no_step : (ss : List Step) → length ss ≡ 0 → ss ≡ []
-no_step [] len = refl
-no_step (s ∷ ss) len = absurd (omega (arith, len))
-
 -- one step alone
 pub one_alone : (ss : List Step) (s : Step) → length ss ≡ 1 → s ≡ get_or ss 0 s → ss ≡ s ∷ []
 one_alone [] s len is = absurd (omega (arith, len))

@@ -16,7 +16,7 @@ use Rattle.mpx_format.specs.declared.defects.Defect.{Defect}
 use Rattle.mpx_format.specs.Posts.{nums_of, given_from}
 use Rattle.mpx_format.proofs.CodeLaws.{each_kind}
 
-abbrev type_in : Option ItemList → Option Ty
+abbrev pub type_in : Option ItemList → Option Ty
 type_in items = option_map (λ (i : ItemList). i.ty) items
 
 abbrev as_items : List ℤ → Ty → ItemList
@@ -49,7 +49,7 @@ operation_fits k op items ty e has_op has_type h =
     fits_by_type op items (ap (λ t. option_map_or (λ t. option_map_or (λ o. fits o t) op true) t true) e ∙ h)
     (λ some. items_there items ty true e (has_type ∙ op_needs_items k (sym has_op ∙ some)))
 
-abbrev whole : Given × List ℕ → Result (Given × List ℕ) Defect
+abbrev pub whole : Given × List ℕ → Result (Given × List ℕ) Defect
 whole x = Ok x
 
 -- the fields that were read make the post

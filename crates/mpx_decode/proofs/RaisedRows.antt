@@ -10,7 +10,7 @@ use Rattle.std.specs.FinMap.{FinMap, find, is_sorted, from_sorted, get-from_sort
 use Rattle.std.specs.FinMap.Entries.{below_all}
 use Rattle.join_core.specs.Joins.{Joining, JoinLaws, BetweenLaws}
 use Rattle.join_core.specs.laws.Cases.{answer, yes, no, is_tied}
-use Rattle.join_nest.specs.Optional.{option_join, option_joining}
+use Rattle.join_nest.specs.Optional.{option_join}
 use Rattle.join_nest.specs.Between.{option_between, keyed_between}
 use Rattle.join_nest.specs.laws.Between.{option_between_laws}
 use Rattle.join_nest.specs.Keyed.{keyed_joining}
@@ -208,9 +208,6 @@ module _ {K J V : Type 0} {R : K → K → Ordering} (o : IsTotalOrder R) (exact
       }
 
   module _ (p : JoinLaws j) {between : V → V → V → Type 0} (s : BetweenLaws j between) where
-    at_key : BetweenLaws (option_joining j) (option_between between)
-    at_key = option_between_laws p s
-
     -- a row was joined in in part, and those behind it not at all
     pub stops_there : (i : ℕ) (left : List ℕ) (now next : List (K × J)) → i < count → is_sorted R old ≡ true → is_sorted R next ≡ true → SoFar R key value view j count i left bytes old now → StandsInFront (rows R key value count) bytes → StopsRow R view (row key value) between left now next
         → StopsBetween (rows R key value count) (keyed_between between) bytes (keyed_view R view old) (keyed_view R view next)
@@ -257,5 +254,5 @@ module _ {K J V : Type 0} {R : K → K → Ordering} (o : IsTotalOrder R) (exact
         ]
           where
             passed : (a f m : Option V) → option_between between a (either f m) (option_join j a f)
-            passed a None m = subst (option_between between a m) (sym (join_none j a)) (at_key.old a m)
-            passed a (Some w) m = at_key.whole a (Some w)
+            passed a None m = subst (option_between between a m) (sym (join_none j a)) ((option_between_laws p s).old a m)
+            passed a (Some w) m = (option_between_laws p s).whole a (Some w)

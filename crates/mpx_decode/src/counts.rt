@@ -7,9 +7,10 @@ ghost use Rattle.mpx_format.specs.Format.{Gives};
 ghost use Rattle.mpx_format.specs.Posts.{count, counts, counts_if, items_for, nums_of};
 
 use crate::big_endian::read_u16;
+use crate::fields::read_at_most;
 use crate::items::read_items;
 use crate::lists::{Repeated, read_list};
-use mpx_format::{ReadError, out_of_limits};
+use mpx_format::ReadError;
 use mpx_num::{Spelled, Ty};
 use mpx_post::Counts;
 use mpx_rope::Source;
@@ -40,12 +41,7 @@ pub fn read_count(bytes: &[u8]) -> Result<(u16, &[u8]), ReadError>
     ensures read { Gives (λ x. (x.0, x.1.now)) result (count.read bytes.now) }
     ensures small { IfOk result (λ x. x.0 ≤ 4096) }
 {
-    let (number, rest) = read_u16(bytes)?;
-    if number <= 4096 {
-        Ok((number, rest))
-    } else {
-        Err(out_of_limits(bytes))
-    }
+    read_at_most(4096, bytes)
 }
 
 #[tactic(auto, unfolding(mpx_format::specs::Posts::counts))]

@@ -1,7 +1,7 @@
 //! Reading the fields of frames that are one number each.
-ghost use Rattle.std.specs.Prelude.{◌≡◌, ◌<◌, ◌-◌, ◌^◌, ◌≢◌, IfErr, IfOk};
+ghost use Rattle.std.specs.Prelude.{◌≡◌, ◌<◌, ◌≤◌, ◌-◌, ◌^◌, ◌≢◌, IfErr, IfOk, nat_le};
 ghost use Rattle.std.specs.Int.{w16, w32};
-ghost use Rattle.mpx_format.specs.Format.{Gives};
+ghost use Rattle.mpx_format.specs.Format.{Gives, number, only, out_of_limits};
 ghost use Rattle.mpx_format.specs.Fields.{process, call, colour, tag, some_calls, some_byte, name_count, some_names};
 
 use crate::big_endian::{read_u8, read_u16, read_u32};
@@ -86,17 +86,26 @@ pub fn read_some_byte(bytes: &[u8]) -> Result<(u8, &[u8]), ReadError>
     }
 }
 
+// A number of two bytes, at most so great.
+pub fn read_at_most(most: usize, bytes: &[u8]) -> Result<(u16, &[u8]), ReadError>
+    ensures gives { Gives (λ x. (x.0, x.1.now)) result ((only out_of_limits (λ n. nat_le n most) (number w16)).read bytes.now) }
+    ensures small { IfOk result (λ x. x.0 ≤ most) }
+    ensures memory { IfErr result (λ e. e ≢ ReadError.OutOfMemory) }
+{
+    let (number, rest) = read_u16(bytes)?;
+    if number as usize <= most {
+        Ok((number, rest))
+    } else {
+        Err(out_of_limits(bytes))
+    }
+}
+
 #[tactic(auto, unfolding(mpx_format::specs::Fields::name_count))]
 pub fn read_name_count(bytes: &[u8]) -> Result<(u16, &[u8]), ReadError>
     ensures gives { Gives (λ x. (x.0, x.1.now)) result (name_count.read bytes.now) }
     ensures memory { IfErr result (λ e. e ≢ ReadError.OutOfMemory) }
 {
-    let (number, rest) = read_u16(bytes)?;
-    if number <= 4096 {
-        Ok((number, rest))
-    } else {
-        Err(out_of_limits(bytes))
-    }
+    read_at_most(4096, bytes)
 }
 
 #[tactic(auto, unfolding(mpx_format::specs::Fields::some_names))]

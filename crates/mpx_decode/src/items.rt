@@ -4,8 +4,8 @@ ghost use Rattle.mpx_num.specs.Types.{item_len};
 ghost use Rattle.mpx_format.specs.Format.{Gives, many_read};
 ghost use Rattle.mpx_format.specs.Posts.{integer, item_count, items};
 
-use crate::big_endian::read_u16;
-use mpx_format::{ReadError, SHORT, out_of_limits};
+use crate::fields::read_at_most;
+use mpx_format::{ReadError, SHORT};
 use mpx_num::{MOST_ITEMS, Spelled, Ty};
 use mpx_rope::Source;
 
@@ -14,12 +14,7 @@ pub fn read_item_count(bytes: &[u8]) -> Result<(u16, &[u8]), ReadError>
     ensures read { Gives (λ x. (x.0, x.1.now)) result (item_count.read bytes.now) }
     ensures few { IfOk result (λ x. x.0 ≤ 4096) }
 {
-    let (number, rest) = read_u16(bytes)?;
-    if number <= 4096 {
-        Ok((number, rest))
-    } else {
-        Err(out_of_limits(bytes))
-    }
+    read_at_most(4096, bytes)
 }
 
 // So many numbers of the type, which are whole items.

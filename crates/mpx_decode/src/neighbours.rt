@@ -7,7 +7,7 @@ ghost use Rattle.mpx_format.specs.Births.{near, neighbour, neighbours, weight};
 ghost use Rattle.mpx_format.specs.Posts.{edge, edge_count, few_neighbours};
 
 use crate::big_endian::{read_u16, read_u32};
-use crate::fields::read_process;
+use crate::fields::{read_at_most, read_process};
 use crate::lists::{Repeated, read_list};
 use mpx_birth::{Edge, Neighbour, Neighbours};
 use mpx_format::{ReadError, out_of_limits};
@@ -70,12 +70,7 @@ pub fn read_edge_count(most: usize, bytes: &[u8]) -> Result<(u16, &[u8]), ReadEr
     ensures read { Gives (λ x. (x.0, x.1.now)) result ((edge_count most).read bytes.now) }
     ensures few { IfOk result (λ x. x.0 ≤ most) }
 {
-    let (number, rest) = read_u16(bytes)?;
-    if number as usize <= most {
-        Ok((number, rest))
-    } else {
-        Err(out_of_limits(bytes))
-    }
+    read_at_most(most, bytes)
 }
 
 // NEIGHBOURS

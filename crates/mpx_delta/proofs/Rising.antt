@@ -10,13 +10,10 @@ use Rattle.join_core.specs.laws.Cases.{first_true, second_true}
 use Rattle.std.proofs.lemmas.Cmp.{ranked}
 use Rattle.mpx_format.proofs.Rows.{is_less}
 
-less_than : (x y : ℕ) → nat_cmp x y ≡ Less → x < y
-less_than x y e = ranked x y Less (sym e)
-
 module _ {X : Type 0} where
   above : (k : ℕ) (es : List (ℕ × X)) → below_all nat_cmp k es ≡ true → All (λ e. suc k ≤ e.0) es
   above k [] h = All-nil (λ e. suc k ≤ e.0)
-  above k (e ∷ es) h = All-cons (λ e. suc k ≤ e.0) e es (less_than k e.0 (is_less (nat_cmp k e.0) (first_true (is_lt (nat_cmp k e.0)) (below_all nat_cmp k es) h))) (above k es (second_true (is_lt (nat_cmp k e.0)) (below_all nat_cmp k es) h))
+  above k (e ∷ es) h = All-cons (λ e. suc k ≤ e.0) e es (ranked k e.0 Less (sym (is_less (nat_cmp k e.0) (first_true (is_lt (nat_cmp k e.0)) (below_all nat_cmp k es) h)))) (above k es (second_true (is_lt (nat_cmp k e.0)) (below_all nat_cmp k es) h))
 
   few_from : (a b : ℕ) (es : List (ℕ × X)) → a ≤ b → is_sorted nat_cmp es ≡ true → All (λ e. a ≤ e.0) es → All (λ e. e.0 < b) es → length es + a ≤ b
   few_from a b [] le sorted low high = omega (arith, le)

@@ -1,5 +1,5 @@
 //! Pieces of a board: the smallest boards into which it is taken apart.
-ghost use Rattle.std.specs.Prelude.{◌≡◌, ◌∷◌, [], ◌<◌, ◌||◌, true, false, not, nat_lt, IfOk, IsTrue};
+ghost use Rattle.std.specs.Prelude.{◌≡◌, ◌∷◌, [], ◌<◌, ◌||◌, true, false, IfOk};
 ghost use Rattle.std.specs.FinMap.{from_sorted, empty};
 ghost use Rattle.join_core.specs.FlatSeen.{flat_view};
 ghost use Rattle.mpx_post.specs.Drafts.{most_calls};

@@ -24,11 +24,6 @@ pub length_each : {X : Type 0} (s : X → List ℕ) (n : ℕ) → ((x : X) → l
 length_each s n each [] = omega arith
 length_each s n each (x ∷ xs) = length-append (s x) (flat_map s xs) ∙ omega (arith, each x, length_each s n each xs)
 
--- none
-pub no_step : (ss : List Step) → length ss ≡ 0 → ss ≡ []
-no_step [] len = refl
-no_step (s ∷ ss) len = absurd (omega (arith, len))
-
 -- one alone
 pub one_alone : {X : Type 0} (xs : List X) (x : X) → length xs ≡ 1 → x ≡ get_or xs 0 x → xs ≡ x ∷ []
 one_alone [] x len is = absurd (omega (arith, len))

@@ -1,10 +1,9 @@
 -- Posts to a context.
-use Rattle.std.proofs.Common.{◌≡◌, ℕ, ◌<◌, ◌==◌, ◌||◌, List, [], ◌∷◌, ◌++◌, length, Some, None, ap, ◌∙◌}
+use Rattle.std.proofs.Common.{◌≡◌, ℕ, ◌||◌, List, [], ◌∷◌, ◌++◌, None, ap, ◌∙◌}
 use Rattle.std.specs.Prelude.{Err}
 use Rattle.std.specs.List.{list_any}
 use Rattle.std.proofs.Math.Bool.{or-false}
 use Rattle.std.proofs.lemmas.List.Folds.{list_any-append}
-use Rattle.std.proofs.lemmas.List.Quantifiers.{position-Some}
 use Rattle.mpx_num.specs.declared.own.Operation.{Operation}
 use Rattle.mpx_post.specs.declared.draft.At.{At}
 use Rattle.mpx_post.specs.declared.draft.Draft.{Draft}
@@ -24,6 +23,3 @@ pub checked_stranger : (ops : List Operation) (birth : BirthView) (me : ℕ) (at
 unfolding checked
 checked_stranger ops birth me at draft e = ap (λ o. checked_at ops o birth at draft) e
 
--- a member's rank is one of theirs
-pub rank_in-below : (me : ℕ) (members : List ℕ) (rank : ℕ) → rank_in me members ≡ Some rank → rank < length members
-rank_in-below me members rank e = (position-Some (λ q. q == me) members rank 0 e).0

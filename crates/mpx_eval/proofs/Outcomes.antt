@@ -7,6 +7,7 @@ use Rattle.std.proofs.lemmas.Option.{option_and_then_some}
 use Rattle.mpx_num.specs.declared.own.Operation.{Operation}
 use Rattle.mpx_name.specs.declared.steps.Step.TheVariants.{Child}
 use Rattle.mpx_name.specs.Name.{Name, same_name}
+use Rattle.mpx_name.specs.Order.{name_equality}
 use Rattle.mpx_birth.specs.Births.{BirthView, rank_in}
 use Rattle.mpx_post.specs.Posts.{Given}
 use Rattle.mpx_post.specs.Rows.{RowView, all_of}
@@ -18,7 +19,7 @@ use Rattle.mpx_value.specs.Values.{value}
 use Rattle.mpx_rank.specs.Carriers.{outcomes_of}
 use Rattle.mpx_eval.specs.Contexts.{ContextView, answer_by, answer_in, births_by, found, is_answered_in, row_in}
 use Rattle.mpx_eval.specs.Tables.{Posted, TableShows, Table, answer_on, is_answered}
-use Rattle.mpx_eval.proofs.Tables.{name_itself, same_is}
+use Rattle.mpx_eval.proofs.Tables.{same_is}
 use Rattle.mpx_value.proofs.Histories.{same_answer}
 
 all_of-map : {A B C : Type 0} (f : B → Option A) (g : C → B) (xs : List C) → all_of f (map g xs) ≡ all_of (λ x. f (g x)) xs
@@ -32,7 +33,7 @@ same_child name call a b = by_tests (same_name (Child call a ∷ name) (Child ca
   by_tests true true e f = e ∙ sym f
   by_tests false false e f = e ∙ sym f
   by_tests true false e f = let same : Child call a ∷ name ≡ Child call b ∷ name = same_is _ _ e in let is : a ≡ b = cc same in cc (f, (Decides-eqb a b).1 is)
-  by_tests false true e f = cc (e, name_itself (Child call a ∷ name), ap (λ c. same_name (Child call a ∷ name) (Child call c ∷ name)) ((Decides-eqb a b).0 f))
+  by_tests false true e f = cc (e, name_equality.reflexive (Child call a ∷ name), ap (λ c. same_name (Child call a ∷ name) (Child call c ∷ name)) ((Decides-eqb a b).0 f))
 
 found_child : (name : Name) (call colour : ℕ) (xs : List ChildView) → found (Child call colour ∷ name) (named_children name call xs) ≡ of_colour colour xs
 found_child name call colour [] = refl

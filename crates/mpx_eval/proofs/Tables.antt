@@ -1,12 +1,9 @@
 -- A table with a context more, and with a post more.
 use Rattle.std.proofs.Common.{◌≡◌, ℕ, zero, suc, ◌<◌, ◌==◌, Bool, true, false, cond, List, [], ◌∷◌, ◌++◌, length, map, set, get_or, Option, Some, None, refl, sym, ap, ◌∙◌, subst, arith}
-use Rattle.std.specs.Prelude.{Result, Ok, Err, is_some, IsSome, slice_get}
+use Rattle.std.specs.Prelude.{Result, Ok, Err, is_some, slice_get}
 use Rattle.std.specs.List.{list_any}
 use Rattle.std.specs.Option.{option_map_or}
-use Rattle.std.specs.BTreeMap.{BTreeMap, get, get_by, is_at, Updates, WritesThrough}
-use Rattle.std.specs.Ordering.{is_eq, ordering_reverse}
-use Rattle.std.specs.declared.cmp.Ordering.{Ordering}
-use Rattle.std.specs.declared.cmp.Ordering.TheVariants.{Less, Equal, Greater}
+use Rattle.std.specs.BTreeMap.{BTreeMap, get, get_by, Updates, WritesThrough}
 use Rattle.std.proofs.lemmas.Bool.{or_parts}
 use Rattle.std.proofs.lemmas.Bool.Decides.{Decides-eqb}
 use Rattle.std.proofs.lemmas.List.{get_or-map, append-nil}
@@ -17,7 +14,8 @@ use Rattle.join_core.specs.laws.Cases.{is_tied}
 use Rattle.mpx_num.specs.declared.own.Operation.{Operation}
 use Rattle.mpx_group.specs.Group.{has, has_twice}
 use Rattle.mpx_name.specs.Name.{Name, same_name}
-use Rattle.mpx_name.specs.Order.{name_cmp, name_total, name_exact, name_equality}
+use Rattle.mpx_name.specs.Order.{name_cmp, name_exact, name_equality}
+use Rattle.mpx_name.proofs.Keys.{either}
 use Rattle.mpx_post.specs.declared.draft.Draft.{Draft}
 use Rattle.mpx_post.specs.declared.draft.PostError.{PostError}
 use Rattle.mpx_post.specs.declared.draft.PostError.TheVariants.{NotMember}
@@ -30,33 +28,14 @@ use Rattle.mpx_meaning.specs.Ranks.{made_on, next_call, post_on}
 use Rattle.mpx_eval.specs.Contexts.{ContextView, ContextPosts, added_at, checked_there, count_in, freed_in, fresh, posts_at, with_post}
 use Rattle.mpx_eval.specs.Tables.{Posted, PostsOn, TableShows, Table, TableTries, freed_on, opened, or_fresh, with_made}
 use Rattle.mpx_eval.proofs.Contexts.{checked_stranger}
-use Rattle.mpx_post.proofs.Lists.{slice_get-append}
+use Rattle.mpx_post.proofs.Lists.{is_there, none_of, slice_get-append}
 
 -- NAMES
-
-tied_either : (r s : Ordering) → s ≡ ordering_reverse r → is_eq s ≡ is_eq r
-tied_either Less s e = ap is_eq e
-tied_either Equal s e = ap is_eq e
-tied_either Greater s e = ap is_eq e
-
--- either order of two names
-either : (n name : Name) → same_name n name ≡ is_at (name_cmp name) n
-either n name = tied_either (name_cmp name n) (name_cmp n name) (name_total.antisymm n name)
 
 pub same_is : (n name : Name) → same_name n name ≡ true → n ≡ name
 same_is n name t = sym (name_exact name n (is_tied _ (sym (either n name) ∙ t)))
 
-pub name_itself : (name : Name) → same_name name name ≡ true
-name_itself name = name_equality.reflexive name
-
 -- THE MAP
-
-is_there : {A : Type 0} (o : Option A) (x : A) → Some x ≡ o → IsSome o
-is_there o x e = subst IsSome e refl
-
-none_of : {A : Type 0} (o : Option A) → is_some o ≡ false → o ≡ None
-none_of None e = refl
-none_of (Some x) e = cc e
 
 pub some_of : {A : Type 0} (o : Option A) → is_some o ≡ true → (x : A) × (o ≡ Some x)
 some_of None e = cc e
@@ -253,7 +232,7 @@ module _ (ops : List Operation) (ranks : ℕ) (t : Table) (made : Posted) (s : T
       ap (λ o. added_at c.posts o given) ranked
       ∙ (λ j. set (posts_are j) i (counted me i member j ++ given ∷ []))
       ∙ set_column (λ q. posts_on name (made q)) (λ q. posts_on name (new q)) me (posts_on name (made me) ++ given ∷ [])
-      (sym (ap (posts_on name) (with_made-here me m made) ∙ posts_on-last name m (made me) (name_itself name)))
+      (sym (ap (posts_on name) (with_made-here me m made) ∙ posts_on-last name m (made me) (name_equality.reflexive name)))
       (λ q f. ap (posts_on name) (sym (with_made-other me m made q f)))
       birth.members distinct i at_place.0 at_place.1 in
       record {
@@ -307,7 +286,7 @@ module _ (ops : List Operation) (ranks : ℕ) (t : Table) (made : Posted) (s : T
 
 -- after it was opened a context is there
 pub opened_here : (name : Name) (birth : BirthView) (t : Table) → opened name birth t name ≡ Some (or_fresh birth (t name))
-opened_here name birth t = ap (λ b. cond b (Some (or_fresh birth (t name))) (t name)) (name_itself name)
+opened_here name birth t = ap (λ b. cond b (Some (or_fresh birth (t name))) (t name)) (name_equality.reflexive name)
 
 -- a post on a context that was lent
 pub posts_lent : (ops : List Operation) (me : ℕ) (name : Name) (draft : Draft) (answer : Result ℕ PostError) (o w : ContextView) (old new : Table) → old name ≡ Some o → ((q : Name) → new q ≡ cond (same_name q name) (Some w) (old q)) → has_twice o.birth.members ≡ false → ContextPosts ops me name draft answer o w → PostsOn ops me name draft answer o old new

@@ -11,6 +11,7 @@ use Rattle.std.proofs.lemmas.List.Elements.{filter-append}
 use Rattle.std.proofs.lemmas.Option.{same_Some}
 use Rattle.mpx_num.specs.declared.own.Operation.{Operation}
 use Rattle.mpx_name.specs.Name.{Name}
+use Rattle.mpx_name.specs.Order.{name_equality}
 use Rattle.mpx_post.specs.declared.draft.PostError.{PostError}
 use Rattle.mpx_post.specs.Posts.{Given}
 use Rattle.mpx_value.specs.Histories.{Made, Results, posts_on}
@@ -40,7 +41,6 @@ use Rattle.mpx_eval.specs.Tables.{Table, answer_on}
 use Rattle.mpx_eval.specs.Waiting.{Asked, MissingCallView, WaitingView, asked, asked_by, asked_of, asked_then, calls_of, is_unknown, missing_call, missing_of, missing_to, waiting_in_full, waits_at}
 use Rattle.mpx_eval.proofs.Outcomes.{given_there, results_same}
 use Rattle.mpx_eval.proofs.Reporting.{there, waits_same, which_same, at_index}
-use Rattle.mpx_eval.proofs.Tables.{name_itself}
 
 -- WHAT THE NEXT MOVE ASKS FOR
 
@@ -82,7 +82,7 @@ posts_kept name ms more k l = subst (λ xs. k < length xs) (sym (posts_on-append
 
 -- the last post is one to the call whose number is that of the posts before
 posted_last : (ms : List Made) (m : Made) → next_call m.name ms < length (posts_on m.name (ms ++ m ∷ []))
-posted_last ms m = subst (λ xs. next_call m.name ms < length xs) (sym (posts_on-append m.name ms (m ∷ []) ∙ ap (λ b. posts_on m.name ms ++ cond b (m.given ∷ []) []) (name_itself m.name))) (more (posts_on m.name ms)) where
+posted_last ms m = subst (λ xs. next_call m.name ms < length xs) (sym (posts_on-append m.name ms (m ∷ []) ∙ ap (λ b. posts_on m.name ms ++ cond b (m.given ∷ []) []) (name_equality.reflexive m.name))) (more (posts_on m.name ms)) where
   more : (xs : List Given) → length xs < length (xs ++ m.given ∷ [])
   more [] = omega arith
   more (x ∷ xs) = omega (arith, more xs)

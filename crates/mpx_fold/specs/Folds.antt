@@ -9,7 +9,7 @@ use Rattle.mpx_kind.specs.declared.kinds.Reduction.TheVariants.{Reduce, Allreduc
 use Rattle.mpx_post.specs.declared.value.Value.{Value}
 use Rattle.mpx_post.specs.declared.value.Value.TheVariants.{Nothing, Absent}
 use Rattle.mpx_kind.specs.Kinds.{fields_of}
-use Rattle.mpx_post.specs.Posts.{root_of, operation_of, type_of, numbers_of}
+use Rattle.mpx_post.specs.Posts.{root_of, operation_given, type_of, numbers_of}
 use Rattle.mpx_post.specs.Rows.{RowView}
 use Rattle.mpx_post.specs.Agreement.{first_of}
 use Rattle.mpx_post.specs.Blocks.{repeated, block_at}
@@ -22,20 +22,16 @@ reduces row = (fields_of (first_of row).kind).op
 -- what the first n members give, combined in rank order, item by item, by the operation and the type that rank 0 names and the
 -- job's own operations
 abbrev pub folded : List Operation → RowView → ℕ → List ℤ
-folded ops row n = fold_items ops (operation_of (first_of row)) (type_of (first_of row)) (map numbers_of (take n row))
+folded ops row n = fold_items ops (operation_given (first_of row)) (type_of (first_of row)) (map numbers_of (take n row))
 
--- what all members give, combined
-abbrev pub all_folded : List Operation → RowView → List ℤ
-all_folded ops row = folded ops row (length row)
-
--- the rank's block of it, where its blocks have so many items
+-- the rank's block of what all give, where its blocks have so many items
 abbrev pub folded_block : List Operation → RowView → List ℕ → ℕ → List ℤ
-folded_block ops row counts rank = block_at (type_of (first_of row)) counts (all_folded ops row) rank
+folded_block ops row counts rank = block_at (type_of (first_of row)) counts (folded ops row (length row)) rank
 
 -- what a reduction gives the member with this rank
 abbrev pub fold_of : List Operation → Reduction → RowView → ℕ → Value
-fold_of ops Reduce row rank = cond (rank == root_of (first_of row)) (as_items row (all_folded ops row)) Nothing
-fold_of ops Allreduce row rank = as_items row (all_folded ops row)
+fold_of ops Reduce row rank = cond (rank == root_of (first_of row)) (as_items row (folded ops row (length row))) Nothing
+fold_of ops Allreduce row rank = as_items row (folded ops row (length row))
 fold_of ops ReduceScatterBlock row rank = as_items row (folded_block ops row (repeated (length row) (first_of row).rcounts) rank)
 fold_of ops ReduceScatter row rank = as_items row (folded_block ops row (first_of row).rcounts rank)
 fold_of ops Scan row rank = as_items row (folded ops row (rank + 1))

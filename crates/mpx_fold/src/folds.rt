@@ -6,7 +6,7 @@ ghost use Rattle.mpx_post.specs.Agreement.{AllSuit, IsFine, first_of, post_at};
 ghost use Rattle.mpx_post.specs.Blocks.{IsBlock, part, repeated};
 ghost use Rattle.mpx_post.specs.Posts.{numbers_of, type_of};
 ghost use Rattle.mpx_post.specs.Values.{GivesValue, as_items};
-ghost use Rattle.mpx_fold.specs.Folds.{all_folded, fold_of, fold_value, folded, reduces};
+ghost use Rattle.mpx_fold.specs.Folds.{fold_of, fold_value, folded, reduces};
 
 use join_core::OutOfMemory;
 use mpx_kind::{Kind, Reduction};
@@ -102,7 +102,7 @@ fn block_value(alloc: Global, row: &Row<'_>, block: Block, ops: &Ops) -> Result<
     requires suits { AllSuit (⟦<Ops as Listing>⟧.operations ops.now) row.now }
     requires reduces { reduces row.now ≡ true }
     requires within { (block.first + block.count) * item_len (type_of (first_of row.now)) ≤ length (numbers_of (first_of row.now)) }
-    ensures { IfOk result (λ value. value ≡ as_items row.now (part (type_of (first_of row.now)) block (all_folded (⟦<Ops as Listing>⟧.operations ops.now) row.now))) }
+    ensures { IfOk result (λ value. value ≡ as_items row.now (part (type_of (first_of row.now)) block (folded (⟦<Ops as Listing>⟧.operations ops.now) row.now (length row.now)))) }
 {
     let all = fold_upto(alloc, row, row.len(), ops)?;
     let items = all.block(alloc, block.first, block.count)?;

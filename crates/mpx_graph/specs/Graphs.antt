@@ -5,7 +5,7 @@ use Rattle.mpx_birth.specs.declared.edges.Edge.{Edge}
 use Rattle.mpx_birth.specs.Births.{upto}
 use Rattle.mpx_birth.specs.Edges.{destinations_among, sources_among}
 use Rattle.mpx_birth.specs.Topologies.{Near, TopologyView, destinations_at, sources_at}
-use Rattle.mpx_post.specs.Posts.{Given, destinations_of, edges_of, sources_of, weighted_of}
+use Rattle.mpx_post.specs.Posts.{Given, destinations_in, edges_in, sources_in, weighted_in}
 use Rattle.mpx_post.specs.Rows.{RowView}
 use Rattle.mpx_post.specs.Agreement.{first_of}
 use Rattle.mpx_graph.specs.declared.reading.NeighbourCounts.{NeighbourCounts}
@@ -13,7 +13,7 @@ use Rattle.mpx_graph.specs.declared.reading.NeighbourCounts.{NeighbourCounts}
 -- MPI_DIST_GRAPH_CREATE: the edges of all members, by the contributor's rank, then by their place
 
 abbrev pub all_edges : RowView → List Edge
-all_edges row = flat_map edges_of row
+all_edges row = flat_map (λ (given : Given). edges_in given.making) row
 
 abbrev pub near_among : List Edge → ℕ → Near
 near_among edges rank = record { sources = sources_among rank edges; destinations = destinations_among rank edges }
@@ -31,15 +31,15 @@ pub record IsEdgeBetween (size : ℕ) (edge : Edge) : Type 0 where
   pub destination : edge.destination < size
 
 unfoldable pub general : RowView → TopologyView
-general row = record { weighted = weighted_of (first_of row); ranks = graph_among (length row) (all_edges row) }
+general row = record { weighted = weighted_in (first_of row).making; ranks = map (near_among (all_edges row)) (upto (length row)) }
 
 -- MPI_DIST_GRAPH_CREATE_ADJACENT: each member's own neighbours in its own order
 
 abbrev pub near_given : Given → Near
-near_given given = record { sources = sources_of given; destinations = destinations_of given }
+near_given given = record { sources = sources_in given.making; destinations = destinations_in given.making }
 
 unfoldable pub adjacent : RowView → TopologyView
-adjacent row = record { weighted = weighted_of (first_of row); ranks = map near_given row }
+adjacent row = record { weighted = weighted_in (first_of row).making; ranks = map near_given row }
 
 -- READING
 

@@ -1,13 +1,14 @@
 -- Lists in which no number stands twice.
-use Rattle.std.proofs.Common.{◌≡◌, ℕ, ◌+◌, ◌<◌, ◌≤◌, Bool, true, false, not, ◌||◌, ◌==◌, List, [], ◌∷◌, ◌++◌, length, take, drop, get_or, filter, map, All, ⊎_elim, refl, sym, ap, ◌∙◌, subst, eqb, arith}
+use Rattle.std.proofs.Common.{◌≡◌, ℕ, ◌+◌, ◌<◌, ◌≤◌, Bool, true, false, not, ◌||◌, ◌==◌, List, [], ◌∷◌, ◌++◌, length, take, drop, get_or, filter, map, All, Some, ⊎_elim, refl, sym, ap, ◌∙◌, subst, eqb, arith}
 use Rattle.std.specs.List.{IsDistinct, AllByRecursion}
 use Rattle.std.proofs.lemmas.Bool.{true≢false, or_parts, or_from, or_left, or_right, not_from_true, cond_both, eq-eqb, ne_eqb, eqb-true, eqb-false, cases_order}
 use Rattle.std.proofs.lemmas.List.{take-append-drop, take_more, length_push}
 use Rattle.std.proofs.lemmas.List.Folds.{list_any-append, Any-from_list_any}
+use Rattle.std.proofs.lemmas.List.Quantifiers.{position-Some}
 use Rattle.std.proofs.lemmas.List.Elements.{All-filter, All-append, All-push, All-head, All-tail, All-map, All-weaker}
 use Rattle.std.proofs.lemmas.Map.Keys.{apart_from_distinct}
 use Rattle.std.proofs.lemmas.Map.Steps.{length-le_from_distinct_below}
-use Rattle.mpx_group.specs.Group.{has, has_twice, IsGroup, union_of}
+use Rattle.mpx_group.specs.Group.{has, has_twice, IsGroup, rank_in, union_of}
 
 has-filter_out : (p : ℕ → Bool) (xs : List ℕ) (x : ℕ) → p x ≡ false → has (filter p xs) x ≡ false
 has-filter_out p [] x e = refl
@@ -140,3 +141,7 @@ pub IsGroup-map : (g rs : List ℕ) → IsGroup g → All (λ i. i < length g) r
 IsGroup-map g rs i all e =
     IsGroup-from _ (has_twice-map g rs i.distinct all e)
     (All-map (λ p. p < 64) (λ r. get_or g r 0) rs (All-weaker (λ r. r < length g) (λ r. get_or g r 0 < 64) (λ r l. i.below r 0 l) rs all))
+
+-- a member's rank is one of theirs
+pub rank_in-below : (me : ℕ) (members : List ℕ) (rank : ℕ) → rank_in me members ≡ Some rank → rank < length members
+rank_in-below me members rank e = (position-Some (λ q. q == me) members rank 0 e).0

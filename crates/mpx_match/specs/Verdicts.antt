@@ -11,7 +11,7 @@ use Rattle.mpx_match.specs.declared.faults.Verdict.TheVariants.{Fine, Fault}
 use Rattle.mpx_match.specs.declared.verdicts.RowQuestion.{RowQuestion}
 use Rattle.mpx_match.specs.declared.verdicts.RowQuestion.TheVariants.{Fit, Agree}
 use Rattle.mpx_match.specs.Faults.{AgreesIn, Differs}
-use Rattle.mpx_match.specs.Questions.{is_faulty, least_rank}
+use Rattle.mpx_match.specs.Questions.{is_faulty, least_from}
 
 -- what is asked of all posts, in this order
 abbrev pub questions : List RowQuestion
@@ -50,7 +50,7 @@ IsFirstFault ops topology (question ∷ more) row verdict = Tells ops topology q
 abbrev pub first_fault : List Operation → Option TopologyView → List RowQuestion → RowView → Verdict
 first_fault ops topology [] row = Fine
 first_fault ops topology (question ∷ more) row =
-    option_map_or (λ rank. Fault (record { what = told_as question; rank = rank })) (least_rank (is_faulty ops topology question row) row) (first_fault ops topology more row)
+    option_map_or (λ rank. Fault (record { what = told_as question; rank = rank })) (least_from (is_faulty ops topology question row) 0 row) (first_fault ops topology more row)
 
 -- the verdict of a row, in a communicator with this topology, by the job's own operations
 unfoldable pub verdict : List Operation → Option TopologyView → RowView → Verdict

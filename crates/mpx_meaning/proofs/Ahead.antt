@@ -1,5 +1,6 @@
 -- Whatever moves reach is on the way to the evaluation's end.
-use Rattle.std.proofs.Common.{◌≡◌, ℕ, Bool, true, false, cond, ◌==◌, List, [], ◌∷◌, Option, Some, None, refl, sym, ap, subst}
+use Rattle.std.proofs.Common.{◌≡◌, ℕ, ◌==◌, List, [], ◌∷◌, Option, Some, None, refl, sym, ap, subst}
+use Rattle.std.proofs.lemmas.Bool.{cond_both}
 use Rattle.std.proofs.lemmas.Bool.Decides.{Decides-eqb}
 use Rattle.mpx_num.specs.declared.own.Operation.{Operation}
 use Rattle.mpx_statement.specs.declared.statement.Statement.{Statement}
@@ -23,10 +24,6 @@ module _ (ops : List Operation) where
   on_way-knows : (ranks : ℕ) (end s : State) → IsOnWay ranks end s → (me : ℕ) → Within (known ops ranks s me) (known ops ranks end me)
   on_way-knows ranks end s w = knows_less ranks s end (λ p. (way-adds ops (known ops ranks end p) (s p) (end p) (w.each p)).0)
 
-  cond_cases : {A : Type 0} (P : A → Type 0) (b : Bool) (x y : A) → (b ≡ true → P x) → (b ≡ false → P y) → P (cond b x y)
-  cond_cases P true x y f g = f refl
-  cond_cases P false x y f g = g refl
-
   -- by whether a rank has a step
   or_stay_cases : (P : Local → Type 0) (s : Local) (o : Option Local) → (o ≡ None → P s) → ((t : Local) → o ≡ Some t → P t) → P (or_stay s o)
   or_stay_cases P s None f g = f refl
@@ -34,7 +31,7 @@ module _ (ops : List Operation) where
 
   -- and by which rank goes on
   pub goes_on_cases : (P : ℕ → Local → Type 0) (s : State) (p : ℕ) (told : Results) → ((q : ℕ) → P q (s q)) → ((t : Local) → step ops told (s p) ≡ Some t → P p t) → (q : ℕ) → P q (rank_goes_on ops s p told q)
-  goes_on_cases P s p told stays steps q = cond_cases (P q) (q == p) (or_stay (s q) (step ops told (s q))) (s q)
+  goes_on_cases P s p told stays steps q = cond_both (q == p) (or_stay (s q) (step ops told (s q))) (s q) (P q)
       (λ e. let same : q ≡ p = (Decides-eqb q p).0 e in
       subst (λ j. P j (or_stay (s j) (step ops told (s j)))) (sym same) (or_stay_cases (P p) (s p) (step ops told (s p)) (λ _. stays p) steps))
       (λ _. stays q)

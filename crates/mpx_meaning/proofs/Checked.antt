@@ -30,16 +30,16 @@ use Rattle.mpx_group.specs.Group.{has_twice}
 use Rattle.mpx_post.specs.declared.draft.At.{At}
 use Rattle.mpx_post.specs.declared.draft.Draft.{Draft}
 use Rattle.mpx_post.specs.declared.draft.PostError.{PostError}
-use Rattle.mpx_post.specs.declared.draft.PostError.TheVariants.{ItemOutOfRange, TooManyItems, NoTopology, CallsUsedUp, DepthUsedUp, BadGroup, BadEdge, TooManyEdges, BadTag}
+use Rattle.mpx_post.specs.declared.draft.PostError.TheVariants.{CallsUsedUp, DepthUsedUp, BadGroup, BadEdge, TooManyEdges, BadTag}
 use Rattle.mpx_post.specs.declared.drafted_edges.DraftedEdge.{DraftedEdge}
 use Rattle.mpx_post.specs.declared.drafted_edges.DraftedNeighbour.{DraftedNeighbour}
-use Rattle.mpx_post.specs.Drafts.{are_edges, are_ranks, checked, checked_as, checked_at, checked_in, drafted_making, drafted_numbers, drafted_seat, edge_count, edge_of, first_that_holds, given_by, graph_of, has_bad_group, has_colour_and_key, has_its_counts, is_count, is_drafted_root, is_edge, is_misfilled, is_misplaced, is_neighbour, is_of, is_rank, is_weight, misfill, most_calls, most_steps, natural, naturals, neighbour_of, ranks_in, received_counts, refusals, sent_counts, stray_refusals, unless, where_had}
+use Rattle.mpx_post.specs.Drafts.{are_edges, are_ranks, checked, checked_as, checked_at, checked_in, drafted_numbers, drafted_seat, edge_count, edge_of, first_that_holds, given_by, graph_of, has_bad_group, has_colour_and_key, has_its_counts, is_count, is_drafted_root, is_edge, is_misfilled, is_misplaced, is_neighbour, is_of, is_rank, is_weight, making_of, misfill, most_calls, most_steps, natural, naturals, neighbour_of, ranks_in, received_counts, refusals, sent_counts, stray_refusals, unless, where_had}
 use Rattle.mpx_post.specs.Graphs.{most_edges}
 use Rattle.mpx_post.specs.Posts.{Given, destinations_in, edges_in, group_in, sources_in, suits, fits_root, fits_type}
 use Rattle.mpx_post.specs.Seats.{lacks_topology, seat_at}
 use Rattle.mpx_post.specs.Blocks.{blocks_sent, repeated}
 use Rattle.mpx_post.specs.Agreement.{blocks_of, fill, fits_counts, fits_edges, fits_group, is_fit, is_root, seat_of}
-use Rattle.mpx_post.proofs.Checks.{closed_first}
+use Rattle.mpx_post.proofs.Checks.{closed_first, never}
 use Rattle.mpx_post.proofs.Limits.{from_not, is_for-fits, right, right_more, type_given}
 use Rattle.mpx_match.specs.Questions.{fits_there}
 
@@ -52,11 +52,6 @@ passed_first false e rest h = (refl, h)
 none_told : (o : Option PostError) (x given : Given) → unless o x ≡ Ok given → (o ≡ None) × (x ≡ given)
 none_told None x given h = (refl, cc)
 none_told (Some e) x given h = cc
-
-never : (r t : Bool) (x y : Given) → unless (first_that_holds ((r, ItemOutOfRange) ∷ (t, TooManyItems) ∷ (true, NoTopology) ∷ [])) x ≡ Ok y → ⊥
-never true t x y h = cc
-never false true x y h = cc
-never false false x y h = cc
 
 -- ITEMS AND COUNTS
 
@@ -135,7 +130,7 @@ ranks_below size (z ∷ zs) h =
     and_from _ _ (and_parts (int_le (pos 0) z) (nat_lt (natural z) size) parts.0).1 (ranks_below size zs parts.1)
 
 group_fits : (size : ℕ) (makes : Makes) (draft : Draft) → are_ranks size (ranks_in makes draft) ≡ true
-    → (not (has_twice (group_in (drafted_making makes draft))) && list_all (λ r. nat_lt r size) (group_in (drafted_making makes draft))) ≡ true
+    → (not (has_twice (group_in (making_of makes draft.colour draft.key draft.group (graph_of draft)))) && list_all (λ r. nat_lt r size) (group_in (making_of makes draft.colour draft.key draft.group (graph_of draft)))) ≡ true
 group_fits size M.Nothing draft h = refl
 group_fits size M.Colour draft h = refl
 group_fits size M.Group draft h = let parts = and_parts (list_all (is_rank size) draft.group) (not (has_twice (naturals draft.group))) h in and_from _ _ parts.1 (ranks_below size draft.group parts.0)
@@ -161,9 +156,9 @@ neighbours_below size weighted (n ∷ ns) h =
     and_from _ _ (and_parts (int_le (pos 0) n.rank) (nat_lt (natural n.rank) size) rank.0).1 (neighbours_below size weighted ns parts.1)
 
 edges_fit : (size : ℕ) (makes : Makes) (draft : Draft) → are_edges makes size (graph_of draft) ≡ true
-    → (list_all (λ (e : Edge). nat_lt e.source size && nat_lt e.destination size) (edges_in (drafted_making makes draft))
-    && (list_all (λ (n : Neighbour). nat_lt n.rank size) (sources_in (drafted_making makes draft))
-    && list_all (λ (n : Neighbour). nat_lt n.rank size) (destinations_in (drafted_making makes draft)))) ≡ true
+    → (list_all (λ (e : Edge). nat_lt e.source size && nat_lt e.destination size) (edges_in (making_of makes draft.colour draft.key draft.group (graph_of draft)))
+    && (list_all (λ (n : Neighbour). nat_lt n.rank size) (sources_in (making_of makes draft.colour draft.key draft.group (graph_of draft)))
+    && list_all (λ (n : Neighbour). nat_lt n.rank size) (destinations_in (making_of makes draft.colour draft.key draft.group (graph_of draft))))) ≡ true
 edges_fit size M.Nothing draft h = refl
 edges_fit size M.Colour draft h = refl
 edges_fit size M.Group draft h = refl

@@ -24,7 +24,7 @@ source_at topology rank place = rank_at (sources_at topology rank) place
 -- of what that source sends, the block at the place that meets this one
 abbrev pub block_met : TopologyView → RowView → (rank place : ℕ) → List ℤ
 block_met topology row rank place =
-    let sender = source_at topology rank place in
+    let sender = rank_at (sources_at topology rank) place in
     block_at (type_of (post_at row sender)) (counts_sent (Some topology) row sender) (numbers_of (post_at row sender)) (sent_at topology rank place)
 
 -- all that the member's sources give, in their order

@@ -1,9 +1,8 @@
 -- Members and calls.
-use Rattle.std.proofs.Common.{◌≡◌, ℕ, suc, ◌<◌, ◌==◌, List, [], ◌∷◌, length, Option, Some, sym, ap, ◌∙◌}
+use Rattle.std.proofs.Common.{◌≡◌, ℕ, suc, List, [], ◌∷◌, length, Option, Some, sym, ap, ◌∙◌}
 use Rattle.std.specs.Prelude.{option_and_then}
-use Rattle.std.proofs.lemmas.List.Quantifiers.{position-Some}
 use Rattle.std.proofs.lemmas.Option.{option_and_then_some, same_Some}
-use Rattle.mpx_birth.specs.Births.{BirthView, rank_in}
+use Rattle.mpx_birth.specs.Births.{BirthView}
 use Rattle.mpx_post.specs.Posts.{Given}
 use Rattle.mpx_post.specs.Rows.{RowView, all_of}
 
@@ -14,10 +13,6 @@ length-all_of {A} f (p ∷ ps) row e =
     option_and_then_some (λ x. option_and_then (λ xs. Some (x ∷ xs)) (all_of f ps)) (f p) row e (λ x fx g.
     option_and_then_some (λ xs. Some (x ∷ xs)) (all_of f ps) row g (λ xs fxs h.
     sym (ap length (same_Some (x ∷ xs) row h)) ∙ ap suc (length-all_of f ps xs fxs)))
-
--- a member's rank is one of theirs
-pub rank_in-below : (me : ℕ) (members : List ℕ) (rank : ℕ) → rank_in me members ≡ Some rank → rank < length members
-rank_in-below me members rank e = (position-Some (λ q. q == me) members rank 0 e).0
 
 -- a board's row has a post of each member
 pub members_of_row : (f : ℕ → Option Given) (told : Option BirthView) (birth : BirthView) (row : RowView) → Some birth ≡ told → Some row ≡ option_and_then (λ (b : BirthView). all_of f b.members) told → length row ≡ length birth.members

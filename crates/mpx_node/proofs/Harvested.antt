@@ -22,12 +22,12 @@ on_err (Err e) P p = p
 
 module _ (finished : Finished) where
   abbrev one_more : OpenedView → OpenedView
-  one_more o = record o { results = o.results ++ finished ∷ [] }
+  one_more o = record o { results = o.results ++ Some finished ∷ [] }
 
   longer : (new : Bool) (o : Option OpenedView) → is_some o ≡ true → length (results_by (cond new (Some (or_new (option_map one_more o))) (option_map one_more o))) ≡ length (results_by o) + 1
   longer new None t = cc t
-  longer true (Some o) t = length-append o.results (finished ∷ [])
-  longer false (Some o) t = length-append o.results (finished ∷ [])
+  longer true (Some o) t = length-append o.results (Some finished ∷ [])
+  longer false (Some o) t = length-append o.results (Some finished ∷ [])
 
 module _ (ops : List Operation) (name : Name) where
   is_opened : (o : Option OpenedView) (board : Look) (me : ℕ) (finished : Finished) → next_of ops o board name me ≡ Some finished → is_some o ≡ true

@@ -9,7 +9,9 @@ use Rattle.mpx_node.specs.declared.opened.Opened.{Opened}
 use Rattle.mpx_node.specs.Nodes.{OpenedView, or_new}
 use Rattle.mpx_node.specs.Opened.{opened_of, opened_by}
 use Rattle.mpx_node.proofs.Nexts.{is_some-map}
-use Rattle.mpx_node.proofs.Stepping.{either, same_is}
+use Rattle.mpx_name.proofs.Keys.{either}
+use Rattle.mpx_post.proofs.Lists.{none_of}
+use Rattle.mpx_node.proofs.Stepping.{same_is}
 
 -- what is opened stays as it is
 pub is_kept : (x : Option OpenedView) → is_some x ≡ true → Some (or_new x) ≡ x
@@ -27,10 +29,6 @@ new_where false x o h e = refl
 map_cond : {A B : Type 0} (f : A → B) (b : Bool) (x o : Option A) → option_map f (cond b x o) ≡ cond b (option_map f x) (option_map f o)
 map_cond f true x o = refl
 map_cond f false x o = refl
-
-none_of : {A : Type 0} (o : Option A) → is_some o ≡ false → o ≡ None
-none_of None e = refl
-none_of (Some x) e = cc e
 
 module _ (m : BTreeMap Name Opened) (name : Name) where
   at_name : (q : Name) → same_name q name ≡ true → opened_by m q ≡ opened_by m name

@@ -1,16 +1,13 @@
 -- What a write through the map of opened contexts does, and what the answers of a post and a harvest come to.
 use Rattle.std.proofs.Common.{◌≡◌, ℕ, Bool, true, false, cond, List, [], length, Option, Some, None, refl, sym, ap, ◌∙◌, subst}
 use Rattle.std.proofs.Math.Nat.{zero-max}
-use Rattle.std.specs.Prelude.{◌==◌, Result, Ok, Err, is_some, IsSome, nat_le, nat_lt}
+use Rattle.std.specs.Prelude.{◌==◌, Result, Ok, Err, is_some, nat_le, nat_lt}
 use Rattle.std.specs.Option.{option_map}
-use Rattle.std.specs.Ordering.{is_eq, ordering_reverse}
-use Rattle.std.specs.declared.cmp.Ordering.{Ordering}
-use Rattle.std.specs.declared.cmp.Ordering.TheVariants.{Less, Equal, Greater}
 use Rattle.std.specs.BTreeMap.{BTreeMap, get, get_by, is_at, WritesThrough}
 use Rattle.join_core.specs.declared.memory.OutOfMemory.{OutOfMemory}
 use Rattle.join_core.specs.laws.Cases.{yes, no, answer, is_tied}
 use Rattle.join_core.specs.Flat.{known, unknown}
-use Rattle.mpx_name.specs.Order.{name_cmp, name_total, name_exact}
+use Rattle.mpx_name.specs.Order.{name_cmp, name_exact}
 use Rattle.mpx_num.specs.declared.own.Operation.{Operation}
 use Rattle.mpx_post.specs.Posts.{Given}
 use Rattle.mpx_post.specs.declared.draft.PostError.{PostError}
@@ -19,6 +16,7 @@ use Rattle.mpx_birth.specs.Births.{BirthView}
 use Rattle.mpx_post.specs.declared.draft.Draft.{Draft}
 use Rattle.mpx_post.specs.Drafts.{Checks, at, checked}
 use Rattle.mpx_post.proofs.Checks.{checks_post}
+use Rattle.mpx_post.proofs.Lists.{is_there}
 use Rattle.mpx_name.specs.Name.{Name, same_name}
 use Rattle.mpx_board.specs.Boards.{Born, Front, only, told, join, join_contexts, empty, nothing}
 use Rattle.mpx_node.specs.declared.opened.Opened.{Opened}
@@ -36,15 +34,6 @@ same_either false x = refl
 
 -- NAMES
 
-tied_either : (r s : Ordering) → s ≡ ordering_reverse r → is_eq s ≡ is_eq r
-tied_either Less s e = ap is_eq e
-tied_either Equal s e = ap is_eq e
-tied_either Greater s e = ap is_eq e
-
--- either order of two names
-pub either : (n name : Name) → same_name n name ≡ is_at (name_cmp name) n
-either n name = tied_either (name_cmp name n) (name_cmp n name) (name_total.antisymm n name)
-
 pub same_is : (n name : Name) → is_at (name_cmp name) n ≡ true → n ≡ name
 same_is n name t = sym (name_exact name n (is_tied _ t))
 
@@ -59,9 +48,6 @@ seen = opened_by
 map_cond : {A B : Type 0} (f : A → B) (b : Bool) (x : A) (o : Option A) → option_map f (cond b (Some x) o) ≡ cond b (Some (f x)) (option_map f o)
 map_cond f true x o = refl
 map_cond f false x o = refl
-
-is_there : {A : Type 0} (o : Option A) (x : A) → Some x ≡ o → IsSome o
-is_there o x e = subst IsSome e refl
 
 module _ (m n : BTreeMap Name Opened) (name : Name) (o w : Opened) (value : Some o ≡ get_by (name_cmp name) m) (holds : WritesThrough name_cmp (name_cmp name) m w n) where
   pub has : seen m name ≡ Some (opened_of o)

@@ -5,6 +5,7 @@
 
 mod deltas;
 mod finished;
+mod forgetting;
 mod harvesting;
 mod node;
 mod opened;

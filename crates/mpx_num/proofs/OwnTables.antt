@@ -13,11 +13,15 @@ use Rattle.mpx_num.specs.Types.{IsInRange, width, is_paired}
 use Rattle.mpx_num.specs.Wrapping.{into_range}
 use Rattle.mpx_num.specs.Bits.{bits_of}
 use Rattle.mpx_num.specs.TypeCodes.{code_of_type, type_at}
-use Rattle.mpx_num.specs.Own.{IsItem, IsSecond, item_bits, item_with, most_bits, most_bits_is, no_operation, operation_of, own_at, own_fits, own_combined}
+use Rattle.mpx_num.specs.Own.{IsItem, IsSecond, item_bits, item_with, most_bits, most_bits_is, operation_of, own_at, own_fits, own_combined}
 use Rattle.mpx_num.specs.OwnWords.{place_named, place_of_word}
 use Rattle.mpx_num.proofs.Codes.{type_forth}
 use Rattle.mpx_num.proofs.Ranges.{into_range-in_range, into_range-same, span_small}
 use Rattle.mpx_num.proofs.Congruences.{IsRemainder, rem-is, into_range-agree}
+
+-- what stands where there is none
+abbrev no_operation : Operation
+no_operation = record { word = []; types = []; results = [] }
 
 bits_of-is_remainder : (ty : Ty) (z : ℤ) → IsRemainder (2 ^ width ty) z (bits_of ty z)
 bits_of-is_remainder ty z = rem-is z (2 ^ width ty) (pow_pos (width ty))

@@ -50,10 +50,6 @@ own_fits op ty = slice_index_or op.types (code_of_type ty) false
 unfoldable pub own_combined : Operation → Ty → ℤ × ℤ → ℤ × ℤ → ℤ × ℤ
 own_combined op ty a b = item_with ty (slice_index_or (slice_index_or (slice_index_or op.results (code_of_type ty) []) (item_bits ty a) []) (item_bits ty b) 0)
 
--- no type fits it
-abbrev pub no_operation : Operation
-no_operation = record { word = []; types = []; results = [] }
-
--- the operation at the place
+-- the operation at the place; where none is, one that no type fits
 unfoldable pub own_at : List Operation → ℕ → Operation
-own_at ops place = slice_index_or ops place no_operation
+own_at ops place = slice_index_or ops place (record { word = []; types = []; results = [] })

@@ -1,5 +1,5 @@
 //! The list of a job's own operations.
-ghost use Rattle.std.specs.Prelude.{◌≡◌, ◌<◌, ◌≤◌, ◌↔◌, ℤ, Bool, List, length, map, pos, IsTrue, IsOk, IfOk, true, false, []};
+ghost use Rattle.std.specs.Prelude.{◌≡◌, ◌<◌, ◌≤◌, ◌↔◌, List, length, map, IsTrue, IsOk, IfOk, true, false, []};
 ghost use Rattle.std.specs.Result.{IsErrOf};
 ghost use Rattle.mpx_num.specs.Types.{IsInRange, is_paired};
 ghost use Rattle.mpx_num.specs.Own.{IsItem, operation_of, own_at, own_combined, own_fits};

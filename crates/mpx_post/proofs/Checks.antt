@@ -23,7 +23,7 @@ use Rattle.mpx_kind.specs.Kinds.{fields_of, is_gathered, kind_of, makes_communic
 use Rattle.mpx_post.specs.Posts.{Given, IsMaking, most_counts, most_items}
 use Rattle.mpx_post.specs.Seats.{lacks_topology}
 use Rattle.mpx_birth.specs.Topologies.{most_neighbours}
-use Rattle.mpx_post.specs.Drafts.{Checks, checked, refusal_of, refusals, asked_first, are_edges, are_so_many, are_ranks, drafted_seat, edge_count, graph_of, has_making, is_misfilled, checked_as, checked_at, checked_in, stray_refusals, drafted_making, drafted_numbers, first_that_holds, given_by, has_colour_and_key, is_colour, is_count, is_key, is_misplaced, is_of, is_rank, most_calls, most_steps, numbers_refusal, place_refusals, ranks_in, received_counts, sent_counts, unless}
+use Rattle.mpx_post.specs.Drafts.{Checks, checked, refusal_of, refusals, asked_first, are_edges, are_so_many, are_ranks, drafted_seat, edge_count, graph_of, has_making, is_misfilled, checked_as, checked_at, checked_in, stray_refusals, drafted_numbers, first_that_holds, given_by, has_colour_and_key, is_colour, is_count, is_key, is_misplaced, is_of, is_rank, making_of, most_calls, most_steps, numbers_refusal, place_refusals, ranks_in, received_counts, sent_counts, unless}
 use Rattle.mpx_post.specs.Graphs.{most_edges}
 use Rattle.mpx_post.proofs.Graphs.{are_edges-more, is_rank-more}
 use Rattle.mpx_post.proofs.Limits.{from_not, right, right_more}
@@ -121,7 +121,7 @@ module _ (makes : Makes) (draft : Draft) (h : has_making makes draft ≡ true) w
   pub key_is_fine : makes ≡ M.Colour → is_key draft.key ≡ true
   key_is_fine is = (and_parts (option_map_or is_colour draft.colour true) (is_key draft.key) (colour_and_key is)).1
 
-  pub making_is_fine : IsMaking makes (drafted_making makes draft)
+  pub making_is_fine : IsMaking makes (making_of makes draft.colour draft.key draft.group (graph_of draft))
   making_is_fine = IsMaking-from draft.colour draft.key draft.group (graph_of draft) makes colour_is_fine group_is_fine edges_are_fine edges_are_few
 
 -- A WHOLE CHECK
@@ -222,7 +222,7 @@ module _ (seat : Seat) (at : At) (draft : Draft) where
     call_below : (given : Given) → answer ≡ Ok given → (at.call == most_calls) ≡ false
     call_below given h = (place_parts (accepted_place given h)).calls
 
-never : (r t : Bool) (x y : Given) → unless (first_that_holds ((r, ItemOutOfRange) ∷ (t, TooManyItems) ∷ (true, NoTopology) ∷ [])) x ≡ Ok y → ⊥
+pub never : (r t : Bool) (x y : Given) → unless (first_that_holds ((r, ItemOutOfRange) ∷ (t, TooManyItems) ∷ (true, NoTopology) ∷ [])) x ≡ Ok y → ⊥
 never true t x y h = cc
 never false true x y h = cc
 never false false x y h = cc

@@ -114,7 +114,8 @@ pub record Gathers (birth : BirthView) (me depth : ℕ) (g : GatheringView) : Ty
   pub tag : g.tag < 2 ^ 15
   pub room : depth < 8
 
-passed : (c d b t : Bool) (x g : GatheringView) → unless (first_that_holds ((c, Closed) ∷ (d, DepthUsedUp) ∷ (b, BadGroup) ∷ (t, BadTag) ∷ [])) x ≡ Ok g → (d ≡ false) × (b ≡ false) × (t ≡ false) × (x ≡ g)
+-- what no refusal of a gathering says
+pub passed : (c d b t : Bool) (x g : GatheringView) → unless (first_that_holds ((c, Closed) ∷ (d, DepthUsedUp) ∷ (b, BadGroup) ∷ (t, BadTag) ∷ [])) x ≡ Ok g → (d ≡ false) × (b ≡ false) × (t ≡ false) × (x ≡ g)
 passed true d b t x g h = cc
 passed false true b t x g h = cc
 passed false false true t x g h = cc

@@ -1,6 +1,6 @@
 -- Lists that loops make, an element a turn; lists written at one place; and lists of what may be there.
 use Rattle.std.proofs.Common.{◌≡◌, ◌∙◌, ℕ, zero, suc, ◌+◌, ◌<◌, ◌≤◌, Bool, true, false, List, [], ◌∷◌, ◌++◌, length, get_or, set, take, drop, map, take_all, Option, Some, None, refl, sym, ap, subst, arith}
-use Rattle.std.specs.Prelude.{◌&&◌, is_some, option_and_then, slice_get}
+use Rattle.std.specs.Prelude.{◌&&◌, IsSome, is_some, option_and_then, slice_get}
 use Rattle.std.specs.List.{list_all}
 use Rattle.std.specs.Option.{option_map}
 use Rattle.std.proofs.lemmas.Bool.{and_parts}
@@ -85,3 +85,11 @@ is_some-all_of f (p ∷ ps) =
       and_true : (b : Bool) → (b && true) ≡ b
       and_true true = refl
       and_true false = refl
+
+-- what is there, by a test or by an equation
+pub is_there : {A : Type 0} (o : Option A) (x : A) → Some x ≡ o → IsSome o
+is_there o x e = subst IsSome e refl
+
+pub none_of : {A : Type 0} (o : Option A) → is_some o ≡ false → o ≡ None
+none_of None e = refl
+none_of (Some x) e = cc e

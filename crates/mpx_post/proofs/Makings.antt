@@ -1,5 +1,5 @@
 -- What a draft says of a new communicator, within its limits.
-use Rattle.std.proofs.Common.{◌≡◌, ℕ, ◌^◌, ◌<◌, ◌≤◌, nat_lt, pos, Bool, true, false, not, List, ℤ, Option, Some, None, refl, ap, arith}
+use Rattle.std.proofs.Common.{◌≡◌, ℕ, ◌^◌, ◌<◌, ◌≤◌, nat_lt, pos, Bool, true, false, not, List, ℤ, Option, Some, None, refl, arith}
 use Rattle.std.specs.Prelude.{int_le}
 use Rattle.std.specs.List.{list_all}
 use Rattle.std.specs.Option.{option_map, option_map_or}

@@ -20,7 +20,7 @@ use Rattle.mpx_kind.specs.Kinds.{fields_of, number_in}
 use Rattle.mpx_post.specs.Seats.{lacks_topology, seat_at}
 use Rattle.mpx_birth.specs.Topologies.{TopologyView, destinations_at}
 use Rattle.mpx_birth.specs.Ends.{rank_at, taken_at}
-use Rattle.mpx_post.specs.Posts.{Given, nothing_given, root_of, type_of, numbers_of, count_of, destinations_of, edges_of, fits_root, fits_type, group_of, sources_of, suits, weighted_of}
+use Rattle.mpx_post.specs.Posts.{Given, nothing_given, root_of, type_of, numbers_of, count_of, destinations_in, destinations_of, edges_in, fits_root, fits_type, group_in, group_of, sources_in, sources_of, suits, weighted_of}
 use Rattle.mpx_birth.specs.declared.edges.Edge.{Edge}
 use Rattle.mpx_birth.specs.declared.edges.Neighbour.{Neighbour}
 use Rattle.mpx_birth.specs.Edges.{weights_of}
@@ -78,13 +78,13 @@ fill (Some counts) given = sum counts * item_len (type_of given) == length (numb
 
 -- a group has ranks of so many, none twice
 abbrev pub fits_group : ℕ → Given → Bool
-fits_group size given = not (has_twice (group_of given)) && list_all (λ r. nat_lt r size) (group_of given)
+fits_group size given = not (has_twice (group_in given.making)) && list_all (λ r. nat_lt r size) (group_in given.making)
 
 -- the ends of edges are ranks of so many
 abbrev pub fits_edges : ℕ → Given → Bool
-fits_edges size given = list_all (λ (e : Edge). nat_lt e.source size && nat_lt e.destination size) (edges_of given)
-    && (list_all (λ (n : Neighbour). nat_lt n.rank size) (sources_of given)
-    && list_all (λ (n : Neighbour). nat_lt n.rank size) (destinations_of given))
+fits_edges size given = list_all (λ (e : Edge). nat_lt e.source size && nat_lt e.destination size) (edges_in given.making)
+    && (list_all (λ (n : Neighbour). nat_lt n.rank size) (sources_in given.making)
+    && list_all (λ (n : Neighbour). nat_lt n.rank size) (destinations_in given.making))
 
 -- as many counts and items as the kind asks for
 abbrev pub fits_counts : Seat → Given → Bool

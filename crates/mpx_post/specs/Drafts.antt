@@ -245,10 +245,6 @@ making_of M.Group colour key ranks graph = Group (naturals ranks)
 making_of M.Edges colour key ranks graph = Edges (edges_given graph)
 making_of M.Neighbours colour key ranks graph = Neighbours (neighbours_given graph)
 
--- what a draft says of a new communicator
-abbrev pub drafted_making : Makes → Draft → Making
-drafted_making makes draft = making_of makes draft.colour draft.key draft.group (graph_of draft)
-
 -- the post whose fields are the draft's
 abbrev pub given_by : Draft → Given
 given_by draft = record {
@@ -259,7 +255,7 @@ given_by draft = record {
   scounts = naturals (sent_counts draft);
   rcounts = naturals (received_counts draft);
   items = where_had (fields_of (kind_of draft.call)).items (record { ty = draft.ty; nums = draft.items });
-  making = drafted_making (fields_of (kind_of draft.call)).makes draft;
+  making = making_of (fields_of (kind_of draft.call)).makes draft.colour draft.key draft.group (graph_of draft);
 }
 
 -- the refusal, where there is one

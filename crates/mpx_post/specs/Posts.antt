@@ -89,8 +89,8 @@ abbrev pub root_of : Given → ℕ
 root_of given = unwrap_or given.root 0
 
 -- the operation, of a post that has one
-abbrev pub operation_of : Given → Op
-operation_of given = unwrap_or given.op Sum
+abbrev pub operation_given : Given → Op
+operation_given given = unwrap_or given.op Sum
 
 -- the items' type, of a post that has items
 abbrev pub type_of : Given → Ty

@@ -6,7 +6,7 @@ ghost use Rattle.mpx_num.specs.Operations.{fits};
 ghost use Rattle.mpx_kind.specs.Kinds.{fields_of, kind_of};
 ghost use Rattle.mpx_post.specs.Seats.{lacks_topology};
 ghost use Rattle.mpx_birth.specs.Topologies.{most_neighbours};
-ghost use Rattle.mpx_post.specs.Drafts.{empty_draft, is_count, naturals, drafted_making, Checks, refusal_of, at, given_by, has_making, most_calls, numbers_refusal, checked, checked_in, is_rank as is_rank_of, is_drafted_root, drafted_seat, sent_counts, received_counts, unless};
+ghost use Rattle.mpx_post.specs.Drafts.{empty_draft, is_count, naturals, making_of, graph_of, Checks, refusal_of, at, given_by, has_making, most_calls, numbers_refusal, checked, checked_in, is_rank as is_rank_of, is_drafted_root, drafted_seat, sent_counts, received_counts, unless};
 ghost use Rattle.mpx_post.specs.declared.draft.PostError.TheVariants.{TooManyItems};
 ghost use Rattle.mpx_post.specs.Posts.{most_counts};
 
@@ -336,7 +336,7 @@ impl Draft {
             × (refusal ≡ None)
             × (rest.0 ≡ naturals (sent_counts self.now))
             × (rest.1 ≡ naturals (received_counts self.now))
-            × (rest.2 ≡ drafted_making (fields_of (kind_of self.now.call)).makes self.now)) }
+            × (rest.2 ≡ making_of (fields_of (kind_of self.now.call)).makes self.now.colour self.now.key self.now.group (graph_of self.now))) }
         ensures err { IfErr result (λ e. Checks
             (unless (cond (list_all is_count (sent_counts self.now) && list_all is_count (received_counts self.now)) refusal (Some TooManyItems)) (given_by self.now))
             (Err e)) }

@@ -1,5 +1,5 @@
 //! What a draft says of a graph, and what a post says of it then.
-ghost use Rattle.std.specs.Prelude.{◌≡◌, ◌<◌, ◌≤◌, ◌+◌, List, cond, map, true, unwrap_or, IfOk};
+ghost use Rattle.std.specs.Prelude.{◌≡◌, ◌<◌, ◌≤◌, ◌+◌, cond, map, true, unwrap_or, IfOk};
 ghost use Rattle.std.specs.List.{list_all};
 ghost use Rattle.mpx_post.specs.Drafts.{are_edges as are_edges_of, edge_count as edge_count_of, edge_of, edges_given, is_edge as is_edge_of, is_neighbour as is_neighbour_of, is_rank as is_rank_of, is_weight as is_weight_of, natural, neighbour_of, neighbours_given};
 ghost use Rattle.mpx_post.specs.Graphs.{most_edges, no_graph};

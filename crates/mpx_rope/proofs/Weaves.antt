@@ -114,12 +114,6 @@ pub rope_many : (own : List ℕ) (ss : List (ℕ × List ℕ)) (carried : ℕ) �
 rope_many own [] carried r some = absurd (some r.carried_is)
 rope_many own (s ∷ ss) carried r some = omega (arith, rope_length own (s ∷ ss) carried r, r.many)
 
-pub rope_empty : IsRope [] [] 0
-rope_empty = record { placed = omega arith; carried_is = refl; few = omega arith; many = tt }
-
-pub rope_own : (own : List ℕ) → IsRope own [] 0
-rope_own own = record { placed = omega arith; carried_is = refl; few = omega arith; many = tt }
-
 -- a rope written piece by piece
 module _ (own : List ℕ) (ss : List (ℕ × List ℕ)) (i : ℕ) (s : ℕ × List ℕ) (from : ℕ) (lt : i < length ss) (is : s ≡ get_or ss i s) (p : ArePlaced from (length own) (drop i ss)) where
   this_one : drop i ss ≡ s ∷ drop (i + 1) ss

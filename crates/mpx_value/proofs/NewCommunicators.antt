@@ -29,7 +29,7 @@ use Rattle.mpx_post.specs.Rows.{RowView}
 use Rattle.mpx_post.specs.Agreement.{first_of}
 use Rattle.mpx_value.specs.declared.outcomes.Outcome.{Outcome}
 use Rattle.mpx_value.specs.declared.outcomes.Outcome.TheVariants.{NewComm, Fault}
-use Rattle.mpx_value.specs.Children.{ChildView, children, children_by, children_in, children_made, child, colours_of, group_child, has_room, IsNewCommunicator, leads, named_children, of_colour, split_child, unless_fault}
+use Rattle.mpx_value.specs.Children.{ChildView, children, children_by, children_in, child, colours_of, group_child, has_room, IsNewCommunicator, leads, named_children, of_colour, split_child, unless_fault}
 use Rattle.mpx_value.specs.Values.{as_outcome, given_as, new_communicator as told_new, or_fault, place_among, value}
 use Rattle.mpx_value.specs.Histories.{value_for}
 use Rattle.mpx_value.proofs.Rising.{AllPairs-map, rise-rising, rise-upto}
@@ -88,11 +88,11 @@ pub children_exact : (ops : List Operation) (birth : BirthView) (row : RowView) 
 children_exact ops birth row name call place x e = exact (children ops birth row name call) place x (colours_rise ops birth row name call) e
 
 -- where the name has room, a fine row makes all that it may
-pub children_are : (ops : List Operation) (birth : BirthView) (row : RowView) (name : Name) (call : ℕ) → has_room name ≡ true → verdict ops birth.topology row ≡ V.Fine → children ops birth row name call ≡ children_made birth row
+pub children_are : (ops : List Operation) (birth : BirthView) (row : RowView) (name : Name) (call : ℕ) → has_room name ≡ true → verdict ops birth.topology row ≡ V.Fine → children ops birth row name call ≡ children_in (first_of row).kind birth row
 unfolding children
 children_are ops birth row name call room fine =
-    ap (λ (b : Bool). cond b (unless_fault (verdict ops birth.topology row) (children_made birth row)) []) room
-    ∙ ap (λ (v : Verdict). unless_fault v (children_made birth row)) fine
+    ap (λ (b : Bool). cond b (unless_fault (verdict ops birth.topology row) (children_in (first_of row).kind birth row)) []) room
+    ∙ ap (λ (v : Verdict). unless_fault v (children_in (first_of row).kind birth row)) fine
 
 -- WHAT IS TOLD
 
@@ -138,7 +138,7 @@ at_rank : (ops : List Operation) (birth : BirthView) (row : RowView) (name : Nam
 unfolding value
 at_rank ops birth row name call at new size rank e =
     let given = by_verdict (verdict ops birth.topology row) (given_as (first_of row).kind ops birth row name call at) new size rank e in
-    let found = by_room (has_room name) (children_made birth row) name call (get_or birth.members at 0) new size rank (by_kind (first_of row).kind ops birth row name call at new size rank given.1) in
+    let found = by_room (has_room name) (children_in (first_of row).kind birth row) name call (get_or birth.members at 0) new size rank (by_kind (first_of row).kind ops birth row name call at new size rank given.1) in
     ap (λ (made : List ChildView). place_among (named_children name call made) (get_or birth.members at 0)) (children_are ops birth row name call found.0 given.0) ∙ found.1
 
 -- what a row gives a process as its new communicator is one of the children

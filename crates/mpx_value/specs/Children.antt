@@ -13,9 +13,8 @@ use Rattle.mpx_kind.specs.declared.kinds.NewCommunicator.{NewCommunicator}
 use Rattle.mpx_kind.specs.declared.kinds.NewCommunicator.TheVariants as N
 use Rattle.mpx_kind.specs.Kinds.{makes_communicators}
 use Rattle.mpx_birth.specs.Births.{BirthView, of_members, rank_in, upto}
-use Rattle.mpx_birth.specs.Topologies.{TopologyView}
 use Rattle.mpx_graph.specs.Graphs.{adjacent, general}
-use Rattle.mpx_post.specs.Posts.{colour_of, group_of, key_of}
+use Rattle.mpx_post.specs.Posts.{Given, colour_in, group_in, key_in}
 use Rattle.mpx_post.specs.Rows.{RowView}
 use Rattle.mpx_post.specs.Agreement.{first_of, post_at}
 use Rattle.mpx_post.specs.Drafts.{most_steps}
@@ -45,17 +44,14 @@ only_child birth = record { colour = 0; birth = birth } ∷ []
 -- MPI_COMM_DUP: the same members with the same topology; MPI_COMM_CREATE_GROUP: the same members; MPI_DIST_GRAPH_CREATE and
 -- MPI_DIST_GRAPH_CREATE_ADJACENT: the same members with the topology of what they give
 
-abbrev pub with_topology : BirthView → TopologyView → BirthView
-with_topology birth topology = record { members = birth.members; topology = Some topology }
-
 -- MPI_COMM_SPLIT: a child for each colour that is given, of the members that give it, by their keys, ties by their rank
 
 -- the colours that are given, rising, each once; an undefined one isn't given
 abbrev pub colours_of : RowView → List ℕ
-colours_of row = rising (filter_map colour_of row)
+colours_of row = rising (filter_map (λ (given : Given). colour_in given.making) row)
 
 abbrev pub gives_colour : (colour : ℕ) → RowView → (rank : ℕ) → Bool
-gives_colour colour row rank = option_eq nat_eq (colour_of (post_at row rank)) (Some colour)
+gives_colour colour row rank = option_eq nat_eq (colour_in (post_at row rank).making) (Some colour)
 
 -- the ranks that give the colour, rising
 abbrev pub ranks_with : (colour : ℕ) → RowView → List ℕ
@@ -63,7 +59,7 @@ ranks_with colour row = filter (gives_colour colour row) (upto (length row))
 
 -- whether the first of two ranks gives the lower key
 abbrev pub lower_key : RowView → (rank other : ℕ) → Bool
-lower_key row rank other = is_lt (int_cmp (key_of (post_at row rank)) (key_of (post_at row other)))
+lower_key row rank other = is_lt (int_cmp (key_in (post_at row rank).making) (key_in (post_at row other).making))
 
 abbrev pub split_child : BirthView → RowView → (colour : ℕ) → ChildView
 split_child birth row colour = child_of_ranks birth colour (ordered (lower_key row) (ranks_with colour row))
@@ -75,10 +71,10 @@ split birth row = map (split_child birth row) (colours_of row)
 
 -- whether the member with this rank leads the group that it gives
 abbrev pub leads : RowView → (rank : ℕ) → Bool
-leads row rank = option_eq nat_eq (slice_get (group_of (post_at row rank)) 0) (Some rank)
+leads row rank = option_eq nat_eq (slice_get (group_in (post_at row rank).making) 0) (Some rank)
 
 abbrev pub group_child : BirthView → RowView → (rank : ℕ) → ChildView
-group_child birth row rank = child_of_ranks birth rank (group_of (post_at row rank))
+group_child birth row rank = child_of_ranks birth rank (group_in (post_at row rank).making)
 
 abbrev pub created : BirthView → RowView → List ChildView
 created birth row = map (group_child birth row) (filter (leads row) (upto (length row)))
@@ -90,10 +86,10 @@ children_by N.Dup birth row = only_child birth
 children_by N.Split birth row = split birth row
 children_by N.Create birth row = created birth row
 children_by N.CreateGroup birth row = only_child (of_members birth.members)
-children_by N.DistGraph birth row = only_child (with_topology birth (general row))
-children_by N.DistGraphAdjacent birth row = only_child (with_topology birth (adjacent row))
+children_by N.DistGraph birth row = only_child (record { members = birth.members; topology = Some (general row) })
+children_by N.DistGraphAdjacent birth row = only_child (record { members = birth.members; topology = Some (adjacent row) })
 
--- the other kinds make none
+-- what a fine row of this kind makes, in rising order of colours; the other kinds make none
 abbrev pub children_in : Kind → BirthView → RowView → List ChildView
 children_in (K.NewCommunicator new) birth row = children_by new birth row
 children_in kind birth row = []
@@ -107,13 +103,9 @@ unless_fault (V.Fault fault) made = []
 abbrev pub has_room : Name → Bool
 has_room name = nat_lt (length name) most_steps
 
--- what a fine row makes, in rising order of colours
-abbrev pub children_made : BirthView → RowView → List ChildView
-children_made birth row = children_in (first_of row).kind birth row
-
 -- what the call with this row makes, by the job's own operations
 unfoldable pub children : List Operation → BirthView → RowView → Name → (call : ℕ) → List ChildView
-children ops birth row name call = cond (has_room name) (unless_fault (verdict ops birth.topology row) (children_made birth row)) []
+children ops birth row name call = cond (has_room name) (unless_fault (verdict ops birth.topology row) (children_in (first_of row).kind birth row)) []
 
 -- the kind makes communicators, the posts fit together, and the name can have one step more
 pub record MakesSome (ops : List Operation) (birth : BirthView) (row : RowView) (name : Name) : Type 0 where

@@ -20,7 +20,7 @@ use Rattle.mpx_post.specs.Rows.{RowView}
 use Rattle.mpx_post.specs.Agreement.{first_of}
 use Rattle.mpx_value.specs.declared.outcomes.Outcome.{Outcome}
 use Rattle.mpx_value.specs.declared.outcomes.Outcome.TheVariants.{Nothing, Absent, Items, NewComm, Null, Fault}
-use Rattle.mpx_value.specs.Children.{children_made, has_room, named_children}
+use Rattle.mpx_value.specs.Children.{children_in, has_room, named_children}
 
 abbrev pub as_outcome : Value → Outcome
 as_outcome G.Nothing = Nothing
@@ -34,7 +34,7 @@ place_among (new ∷ rest) process = option_map_or (λ rank. NewComm new.0 (leng
 
 -- what a fine row gives the process by the communicators that it makes; a name that can have no further step is a fault
 abbrev pub new_communicator : BirthView → RowView → Name → (call process : ℕ) → Outcome
-new_communicator birth row name call process = cond (has_room name) (place_among (named_children name call (children_made birth row)) process) (Fault (record { what = Amount; rank = 0 }))
+new_communicator birth row name call process = cond (has_room name) (place_among (named_children name call (children_in (first_of row).kind birth row)) process) (Fault (record { what = Amount; rank = 0 }))
 
 -- what a fine row of this kind gives the member with this rank, by the job's own operations
 abbrev pub given_as : Kind → List Operation → BirthView → RowView → Name → (call rank : ℕ) → Outcome

@@ -1,5 +1,5 @@
 //! Which communicators a call makes.
-ghost use Rattle.std.specs.Prelude.{◌≡◌, ◌<◌, ◌≤◌, ◌^◌, ◌∷◌, IfOk, OnErr, false, length};
+ghost use Rattle.std.specs.Prelude.{◌≡◌, ◌<◌, ◌≤◌, ◌^◌, ◌∷◌, IfOk, OnErr, Some, false, length};
 ghost use Rattle.std.specs.List.{All};
 ghost use Rattle.mpx_group.specs.Group.{has_twice};
 ghost use Rattle.mpx_name.specs.declared.steps.Step.TheVariants.{Child};
@@ -7,7 +7,7 @@ ghost use Rattle.mpx_post.specs.Agreement.{IsFine, first_of};
 ghost use Rattle.mpx_birth.specs.Births.{of_members};
 ghost use Rattle.mpx_post.specs.Drafts.{most_calls, most_steps};
 ghost use Rattle.mpx_graph.specs.Graphs.{adjacent, general};
-ghost use Rattle.mpx_value.specs.Children.{MakesSome, children, children_made, has_room as has_room_for, named_children, only_child, processes, with_topology};
+ghost use Rattle.mpx_value.specs.Children.{MakesSome, children, children_in, has_room as has_room_for, named_children, only_child, processes};
 
 use crate::groups::created;
 use crate::splits::split;
@@ -78,7 +78,7 @@ pub(crate) fn made(
     requires room { length name.now < most_steps }
     requires members { length row.now ≡ length birth.now.members }
     requires call { call < most_calls }
-    ensures { IfOk result (λ made. made.items ≡ named_children name.now call (children_made birth.now row.now)) }
+    ensures { IfOk result (λ made. made.items ≡ named_children name.now call (children_in (first_of row.now).kind birth.now row.now)) }
 {
     match new {
         NewCommunicator::Dup => only_child(alloc, birth.copy(alloc)?, name, call),
@@ -98,7 +98,7 @@ pub(crate) fn made(
 fn general_graph(alloc: Global, birth: &Birth, row: &Row<'_>) -> Result<Birth, OutOfMemory>
     requires fine { IsFine row.now }
     requires members { length row.now ≡ length birth.now.members }
-    ensures { IfOk result (λ graph. graph ≡ with_topology birth.now (general row.now)) }
+    ensures { IfOk result (λ graph. graph ≡ record { members = birth.now.members; topology = Some (general row.now) }) }
 {
     let topology = topology_general(alloc, row)?;
     birth.with_topology(topology)
@@ -108,7 +108,7 @@ fn general_graph(alloc: Global, birth: &Birth, row: &Row<'_>) -> Result<Birth, O
 fn adjacent_graph(alloc: Global, birth: &Birth, row: &Row<'_>) -> Result<Birth, OutOfMemory>
     requires fine { IsFine row.now }
     requires members { length row.now ≡ length birth.now.members }
-    ensures { IfOk result (λ graph. graph ≡ with_topology birth.now (adjacent row.now)) }
+    ensures { IfOk result (λ graph. graph ≡ record { members = birth.now.members; topology = Some (adjacent row.now) }) }
 {
     let topology = topology_adjacent(alloc, row)?;
     birth.with_topology(topology)

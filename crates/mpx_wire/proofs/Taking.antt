@@ -1,5 +1,5 @@
 -- What is spelled is joined as it is read.
-use Rattle.std.proofs.Common.{◌≡◌, ◌≢◌, ℕ, ◌≤◌, true, List, [], ◌∷◌, length, Result, Ok, Err, OnErr, refl, sym, ap, ◌∙◌, subst, arith}
+use Rattle.std.proofs.Common.{◌≡◌, ◌≢◌, ℕ, ◌≤◌, true, List, [], ◌∷◌, length, Result, Ok, Err, refl, sym, ap, ◌∙◌, subst, arith}
 use Rattle.std.proofs.lemmas.List.{append-nil}
 use Rattle.mpx_board.specs.Boards.{IsBetween, empty, join}
 use Rattle.mpx_board.specs.Contexts.{look_of}
@@ -25,10 +25,6 @@ use Rattle.mpx_format.proofs.FormatLaws.{bind_ok, ok_is}
 use Rattle.mpx_decode.proofs.NoParts.{three_zeros}
 use Rattle.mpx_decode.specs.Raising.{JoinsFront, StandsTidy, StopsBetween, no_parts}
 use Rattle.mpx_wire.specs.Reading.{front}
-
-pub on_err : {T E P : Type 0} (r : Result T E) → P → OnErr r P
-on_err (Ok x) p = tt
-on_err (Err e) p = p
 
 module _ {A B : Type 0} (f : Format A) (g : A → Format B) where
   -- the one, and then the other

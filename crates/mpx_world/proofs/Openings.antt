@@ -1,13 +1,13 @@
 -- What may be opened and dropped is what isn't refused.
-use Rattle.std.proofs.Common.{◌≡◌, ℕ, ℤ, ◌<◌, ◌≤◌, Bool, true, false, cond, not, List, [], ◌∷◌, length, Option, Some, None, refl, sym, ap, ◌∙◌, inl, inr, arith}
-use Rattle.std.specs.Prelude.{◌⊎◌, nat_le, Result, Ok, Err}
+use Rattle.std.proofs.Common.{◌≡◌, ℕ, ℤ, ◌<◌, ◌≤◌, Bool, true, false, cond, not, List, length, Option, Some, None, refl, sym, ap, ◌∙◌, inl, inr, arith}
+use Rattle.std.specs.Prelude.{nat_le, Result, Ok, Err}
 use Rattle.std.proofs.lemmas.Bool.Decides.{nat_tests}
 use Rattle.mpx_birth.specs.Births.{BirthView, rank_in}
 use Rattle.mpx_post.specs.declared.draft.PostError.{PostError}
-use Rattle.mpx_post.specs.declared.draft.PostError.TheVariants.{Closed, DepthUsedUp, BadGroup, BadTag}
-use Rattle.mpx_post.specs.Drafts.{first_that_holds, is_tag, most_steps, natural, unless}
+use Rattle.mpx_post.specs.declared.draft.PostError.TheVariants.{Closed}
+use Rattle.mpx_post.specs.Drafts.{is_tag, most_steps, natural}
 use Rattle.mpx_post.specs.Gatherings.{GatheringView, gathering, gathering_at, is_bad_group, members_at}
-use Rattle.mpx_post.proofs.Gatherings.{gathered}
+use Rattle.mpx_post.proofs.Gatherings.{gathered, passed}
 use Rattle.mpx_post.proofs.Limits.{from_not}
 use Rattle.mpx_board.specs.declared.errors.PruneError.{PruneError}
 use Rattle.mpx_board.specs.declared.errors.PruneError.TheVariants.{AboveFloor}
@@ -20,13 +20,6 @@ use Rattle.mpx_world.specs.Openings.{MayGather, MayPrune}
 use Rattle.mpx_world.proofs.Born.{gathers_is}
 
 -- GATHERINGS
-
-passed : (c d b t : Bool) (x g : GatheringView) → unless (first_that_holds ((c, Closed) ∷ (d, DepthUsedUp) ∷ (b, BadGroup) ∷ (t, BadTag) ∷ [])) x ≡ Ok g → (d ≡ false) × (b ≡ false) × (t ≡ false) × (x ≡ g)
-passed true d b t x g h = cc
-passed false true b t x g h = cc
-passed false false true t x g h = cc
-passed false false false true x g h = cc
-passed false false false false x g h = (refl, refl, refl, cc)
 
 abbrev Accepted : Option ℕ → BirthView → (me depth : ℕ) → (tag : ℤ) → List ℤ → GatheringView → Type 0
 Accepted found birth me depth tag ranks g = (rank : ℕ) × (found ≡ Some rank) × (nat_le most_steps depth ≡ false) × (is_bad_group birth.members me ranks ≡ false) × (not (is_tag tag) ≡ false)

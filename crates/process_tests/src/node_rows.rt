@@ -1,4 +1,5 @@
 //! A node alone: its posts are done at once.
+use crate::looks::has_forgotten;
 use mpx_group::Proc;
 use mpx_name::Name;
 use mpx_node::Node;
@@ -15,20 +16,29 @@ enum Act {
     Posts,
     // It harvests up to this call, which is done then or not.
     HarvestsTo(u32, bool),
+    // It lets go what it has of the calls below this one, and so many are let go then.
+    Forgets(u32, u32),
 }
 
 // What it does, and how many calls are harvested then.
 type Row = (Act, u32);
 
-const ALONE: [Row; 8] = [
+const ALONE: [Row; 15] = [
     (Act::HarvestsTo(0, false), 0),
+    (Act::Forgets(1, 0), 0),
     (Act::Posts, 0),
     (Act::Posts, 0),
     (Act::Posts, 0),
     (Act::HarvestsTo(1, true), 2),
+    (Act::Forgets(0, 0), 2),
+    (Act::Forgets(9, 1), 2),
     (Act::HarvestsTo(0, true), 2),
     (Act::HarvestsTo(9, false), 3),
     (Act::HarvestsTo(2, true), 3),
+    (Act::Forgets(1, 1), 3),
+    (Act::Forgets(2, 2), 3),
+    (Act::Posts, 3),
+    (Act::HarvestsTo(3, true), 4),
 ];
 
 // Whether it comes out so.
@@ -40,6 +50,10 @@ fn does(alloc: Global, node: &mut Node, act: Act, ops: &Ops) -> Result<bool, Fai
             Ok(node.post(alloc, &world, draft, ops).is_ok())
         }
         Act::HarvestsTo(call, done) => Ok(node.harvest_to(alloc, &world, call, ops)? == done),
+        Act::Forgets(below, gone) => {
+            node.forget(&world, below);
+            Ok(has_forgotten(alloc, node, gone) || node.front(&world) == 0)
+        }
     }
 }
 

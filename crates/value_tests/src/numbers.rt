@@ -1,5 +1,8 @@
 //! Numbers as text, and lists of them, as no script gives them.
-use mpx_num::{Items, ItemsError, Numbers, Ty, parse_number, print_number};
+use mpx_num::{
+    Integer, IntegersError, Items, ItemsError, Numbers, Ty, integer_in, integers_in, parse_number,
+    print_number,
+};
 use std::alloc::{AllocError, Global};
 use std::test::Fail;
 
@@ -90,5 +93,70 @@ fn at_most_4096_items_of_the_range(rt: HostRuntime) -> Result<(), Fail> {
     }
     let told = format!(in rt.alloc(); "{}", ItemsLength)?;
     assert!(rt; told.as_str() == "an odd number of numbers for pairs");
+    Ok(())
+}
+
+// Whether the integers are these numbers and come back from them, and the numbers beside the range are none of the type.
+fn there_and_back<T: Integer>(
+    alloc: Global,
+    list: &[T],
+    numbers: [i128; 3],
+    beside: [i128; 2],
+) -> Result<bool, AllocError> {
+    let made = Numbers::from_slice(alloc, list)?;
+    let again = match integers_in::<T>(alloc, made.as_slice()) {
+        Ok(back) => Numbers::from_slice(alloc, &back)?,
+        Err(_) => return Ok(false),
+    };
+    let refused = integer_in::<T>(&beside[..1]).is_none()
+        && integer_in::<T>(&beside[1..]).is_none()
+        && integer_in::<T>(&numbers).is_none()
+        && integer_in::<T>(&numbers[..1]).is_some()
+        && matches!(
+            integers_in::<T>(alloc, &beside),
+            Err(IntegersError::OutOfRange)
+        );
+    Ok(refused && *made.as_slice() == numbers && *again.as_slice() == numbers)
+}
+
+#[test]
+fn integers_come_back(rt: HostRuntime) -> Result<(), Fail> {
+    let alloc = rt.alloc();
+    let all = [
+        there_and_back::<i8>(alloc, &[-128, 0, 127], [-128, 0, 127], [-129, 128])?,
+        there_and_back::<u8>(alloc, &[0, 3, 255], [0, 3, 255], [-1, 256])?,
+        there_and_back::<i16>(
+            alloc,
+            &[-32768, 2, 32767],
+            [-32768, 2, 32767],
+            [-32769, 32768],
+        )?,
+        there_and_back::<u16>(alloc, &[0, 3, 65535], [0, 3, 65535], [-1, 65536])?,
+        there_and_back::<i32>(
+            alloc,
+            &[-2147483648, 0, 2147483647],
+            [-2147483648, 0, 2147483647],
+            [-2147483649, 2147483648],
+        )?,
+        there_and_back::<u32>(
+            alloc,
+            &[0, 3, 4294967295],
+            [0, 3, 4294967295],
+            [-1, 4294967296],
+        )?,
+        there_and_back::<i64>(
+            alloc,
+            &[i64::MIN, 0, i64::MAX],
+            [-9223372036854775808, 0, 9223372036854775807],
+            [-9223372036854775809, 9223372036854775808],
+        )?,
+        there_and_back::<u64>(
+            alloc,
+            &[0, 3, u64::MAX],
+            [0, 3, 18446744073709551615],
+            [-1, 18446744073709551616],
+        )?,
+    ];
+    assert!(rt; all == [true; 8]);
     Ok(())
 }

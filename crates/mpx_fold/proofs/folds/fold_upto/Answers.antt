@@ -2,7 +2,7 @@ use Rattle.std.proofs.Common.{◌≡◌, ◌∙◌, List, Some, ℤ, length, unw
 use Rattle.mpx_num.specs.declared.types.Ty.{Ty}
 use Rattle.mpx_num.specs.declared.operations.Op.TheVariants.{Sum}
 use Rattle.mpx_num.specs.ItemList.{ItemList}
-use Rattle.mpx_post.specs.Posts.{Given, operation_of, type_of}
+use Rattle.mpx_post.specs.Posts.{Given, operation_given, type_of}
 use Rattle.mpx_post.specs.Agreement.{first_of}
 use Rattle.mpx_fold.proofs.Contributions.{as_many, suits_first}
 use Rattle.mpx_fold.proofs.Folding.{folded_one, folded_step}
@@ -39,7 +39,7 @@ loop-rank-init g c =
 pub loop-rank-preserved : goal.loop-rank-preserved
 loop-rank-preserved g c =
     let row = c.args.row.now in
-    let op : c.unwrap-op.result ≡ operation_of (first_of row) = ap (λ o. unwrap_or o Sum) (sym c.unwrap-op.ensures ∙ c.op.ensures.value) ∙ ap operation_of c.post-first.ensures.value in
+    let op : c.unwrap-op.result ≡ operation_given (first_of row) = ap (λ o. unwrap_or o Sum) (sym c.unwrap-op.ensures ∙ c.op.ensures.value) ∙ ap operation_given c.post-first.ensures.value in
     let ty : c.ty-ty.result ≡ type_of (first_of row) = c.ty-ty.ensures ∙ ap type_in (c.in_ok-folded.ensures ∙ c.given.ensures.value) in
     record {
       ty = ap type_in c.in_ok-apply.ensures.value ∙ ty;

@@ -1,4 +1,4 @@
-use Rattle.std.proofs.Common.{◌≡◌, ℕ, false, sym, ◌∙◌, arith, below_more}
+use Rattle.std.proofs.Common.{◌≡◌, false, sym, ◌∙◌, arith, below_more}
 use Rattle.mpx_post.specs.Agreement.{post_at}
 use Rattle.mpx_match.specs.Questions.{is_faulty}
 use Rattle.mpx_match.proofs.Least.{least_rank-found, least_rank-absent}

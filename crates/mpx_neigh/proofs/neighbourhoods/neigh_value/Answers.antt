@@ -1,4 +1,4 @@
-use Rattle.std.proofs.Common.{◌≡◌, ℕ, ◌∙◌, Option, None, Some, refl, ap, sym}
+use Rattle.std.proofs.Common.{◌≡◌, ℕ, ◌∙◌, Option, None, refl, ap, sym}
 use Rattle.std.specs.Option.{option_copied}
 use Rattle.mpx_birth.specs.Topologies.{TopologyView}
 use Rattle.mpx_kind.specs.declared.kinds.Kind.{Kind}

@@ -1,5 +1,6 @@
 use Rattle.std.proofs.Common.{sym, ◌∙◌, arith}
-use Rattle.mpx_node.proofs.Calls.{members_of_row, rank_in-below}
+use Rattle.mpx_group.proofs.Members.{rank_in-below}
+use Rattle.mpx_node.proofs.Calls.{members_of_row}
 use Rattle.mpx_node.proofs.results.outcome_on.Goals as goal
 
 pub outcome-requires-clause-members : goal.outcome-requires-clause-members

@@ -6,7 +6,8 @@ use Rattle.mpx_match.specs.declared.faults.FaultKind.TheVariants.{Amount}
 use Rattle.mpx_birth.specs.Births.{BirthView, rank_in}
 use Rattle.mpx_value.specs.declared.outcomes.Outcome.{Outcome}
 use Rattle.mpx_value.specs.declared.outcomes.Outcome.TheVariants.{Fault, NewComm}
-use Rattle.mpx_value.specs.Children.{children_made, has_room, named_children}
+use Rattle.mpx_post.specs.Agreement.{first_of}
+use Rattle.mpx_value.specs.Children.{children_in, has_room, named_children}
 use Rattle.mpx_value.specs.Values.{IsMade, new_communicator, place_among}
 use Rattle.mpx_value.proofs.values.new_communicator.Goals as goal
 
@@ -24,7 +25,7 @@ returns-in_err-made c =
     let row = c.args.row.now in
     let name = c.args.name.now in
     let room : has_room name ≡ true = sym c.has_room.ensures ∙ c.if-has_room.true in
-    let all = place_among (named_children name c.args.call (children_made c.args.birth.now row)) c.args.process in
+    let all = place_among (named_children name c.args.call (children_in (first_of row).kind c.args.birth.now row)) c.args.process in
     let made : IsMade (new_communicator c.args.birth.now row name c.args.call c.args.process) =
-    subst IsMade (sym (cond-true (has_room name) all (Fault (record { what = Amount; rank = 0 })) room)) (told_made (named_children name c.args.call (children_made c.args.birth.now row)) c.args.process) in
+    subst IsMade (sym (cond-true (has_room name) all (Fault (record { what = Amount; rank = 0 })) room)) (told_made (named_children name c.args.call (children_in (first_of row).kind c.args.birth.now row)) c.args.process) in
     search (rules, made)

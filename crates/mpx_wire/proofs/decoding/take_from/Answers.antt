@@ -1,6 +1,7 @@
 use Rattle.mpx_board.specs.Looks.{parts_of}
 use Rattle.mpx_decode.specs.Raising.{no_parts}
-use Rattle.mpx_wire.proofs.Taking.{behind_it, front_stands, on_err, parts_stand, spelled_joined, spelled_left, spells_none}
+use Rattle.join_nest.proofs.Fronts.{on_err}
+use Rattle.mpx_wire.proofs.Taking.{behind_it, front_stands, parts_stand, spelled_joined, spelled_left, spells_none}
 use Rattle.mpx_wire.proofs.decoding.take_from.Goals as goal
 
 pub take_parts-requires-clause-spelled : goal.take_parts-requires-clause-spelled

@@ -2,13 +2,14 @@ use Rattle.std.proofs.Common.{Ok, IfSome, ap, subst, sym, ◌∙◌, ◌≡◌, 
 use Rattle.std.proofs.lemmas.List.{reverse-reverse}
 use Rattle.mpx_format.specs.Fields.{name}
 use Rattle.mpx_name.specs.declared.steps.Step.TheVariants.{Child}
-use Rattle.mpx_decode.proofs.NameFront.{no_step, one_alone}
+use Rattle.std.proofs.lemmas.List.{nil_from_length}
+use Rattle.mpx_decode.proofs.NameFront.{one_alone}
 use Rattle.mpx_decode.proofs.join_acks.NameFrontKey.behind.Goals as goal
 
 pub returns-then-steps-eq0 : goal.returns-then-steps-eq0
 returns-then-steps-eq0 c =
     let back : reverse c.steps-steps.result.now ≡ c.args.self.now = ap reverse c.steps-steps.ensures.value ∙ reverse-reverse c.args.self.now in
-    subst (λ n. IfSome c.behind_world.result (λ rest. name.read c.args.bytes.now ≡ Ok (n, rest.now))) (sym (ap reverse (no_step c.steps-steps.result.now c.if-steps-eq0.true)) ∙ back) c.behind_world.ensures
+    subst (λ n. IfSome c.behind_world.result (λ rest. name.read c.args.bytes.now ≡ Ok (n, rest.now))) (sym (ap reverse (nil_from_length c.steps-steps.result.now c.if-steps-eq0.true)) ∙ back) c.behind_world.ensures
 
 pub returns-in-Child : goal.returns-in-Child
 returns-in-Child c =

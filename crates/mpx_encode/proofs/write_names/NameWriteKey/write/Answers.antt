@@ -1,14 +1,15 @@
 use Rattle.std.proofs.Common.{◌≡◌, [], ◌∷◌, ap, sym, ◌∙◌}
 use Rattle.mpx_format.specs.Fields.{steps}
 use Rattle.mpx_name.specs.declared.steps.Step.TheVariants.{Child}
-use Rattle.mpx_encode.proofs.Births.{name_fits_steps, name_of_steps, no_step, one_alone, steps_spelled}
+use Rattle.std.proofs.lemmas.List.{nil_from_length}
+use Rattle.mpx_encode.proofs.Births.{name_fits_steps, name_of_steps, one_alone, steps_spelled}
 use Rattle.mpx_encode.proofs.Maps.{told_as}
 use Rattle.mpx_encode.proofs.write_names.NameWriteKey.write.Goals as goal
 
 pub returns-then-steps-eq0 : goal.returns-then-steps-eq0
 returns-then-steps-eq0 c =
     told_as c.write_u8.result c.args.out.now c.write_u8.new.out (0 ∷ []) _
-    (sym (steps_spelled []) ∙ ap steps.spelling (sym (no_step c.steps-steps.result.now c.if-steps-eq0.true)) ∙ ap steps.spelling c.steps-steps.ensures.value ∙ sym (name_of_steps c.args.self.now)) c.write_u8.ensures
+    (sym (steps_spelled []) ∙ ap steps.spelling (sym (nil_from_length c.steps-steps.result.now c.if-steps-eq0.true)) ∙ ap steps.spelling c.steps-steps.ensures.value ∙ sym (name_of_steps c.args.self.now)) c.write_u8.ensures
 
 pub returns-in-Child : goal.returns-in-Child
 returns-in-Child c =

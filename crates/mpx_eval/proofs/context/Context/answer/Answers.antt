@@ -2,7 +2,7 @@ use Rattle.std.proofs.Common.{◌≡◌, ap, sym, ◌∙◌, length, subst, arit
 use Rattle.std.specs.Prelude.{IfSome}
 use Rattle.mpx_post.specs.Rows.{RowView}
 use Rattle.mpx_eval.specs.Contexts.{ContextView}
-use Rattle.mpx_eval.proofs.Contexts.{rank_in-below}
+use Rattle.mpx_group.proofs.Members.{rank_in-below}
 use Rattle.mpx_eval.proofs.context.Context.answer.Goals as goal
 
 pub outcome-requires-clause-rank : goal.outcome-requires-clause-rank

@@ -1,4 +1,4 @@
-use Rattle.std.proofs.Common.{◌≡◌, ℕ, ◌*◌, List, length, take, refl, sym, ap, subst, ◌∙◌, rules, get_or, ◌<◌, arith}
+use Rattle.std.proofs.Common.{◌≡◌, length, take, sym, ap, ◌∙◌, rules}
 use Rattle.std.specs.List.{flat_map}
 use Rattle.mpx_num.specs.Spelling.{bytes_of, number_len, numbers_in}
 use Rattle.mpx_num.specs.KeptSpelled.{kept_bytes, kept_type}

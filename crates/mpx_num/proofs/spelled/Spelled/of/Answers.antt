@@ -1,4 +1,4 @@
-use Rattle.std.proofs.Common.{◌≡◌, ◌++◌, List, ℕ, [], IfOk, Ok, Err, refl, ap, sym, subst, ◌∙◌, rules}
+use Rattle.std.proofs.Common.{◌≡◌, ap, sym, subst, ◌∙◌, rules}
 use Rattle.std.specs.List.{flat_map}
 use Rattle.mpx_num.specs.ItemList.{AreItems}
 use Rattle.mpx_num.specs.Spelling.{bytes_of, numbers_in}

@@ -1,7 +1,7 @@
 use Rattle.std.proofs.Common.{FitsSigned, rules, ◌≡◌, true, false, refl}
 use mir.Syntax.{w128}
 use Rattle.std.proofs.lemmas.Int.{to_z-of_z}
-use Rattle.mpx_post.specs.Drafts.{drafted_making, naturals, received_counts, sent_counts}
+use Rattle.mpx_post.specs.Drafts.{graph_of, making_of, naturals, received_counts, sent_counts}
 use Rattle.mpx_kind.specs.Kinds.{fields_of, kind_of}
 use Rattle.mpx_post.proofs.Checks.{colour_is_fine, counted, edges_are_few, edges_are_fine, group_is_fine, key_is_fine}
 use Rattle.mpx_post.proofs.draft.Draft.rest.Goals as goal
@@ -57,7 +57,7 @@ pub returns-in-Ok-given_counts-clause-ok : goal.returns-in-Ok-given_counts-claus
 returns-in-Ok-given_counts-clause-ok c =
     let draft = c.args.self.now in
     let key : FitsSigned w128 draft.key = search rules in
-    let making : c.in-Ok.making ≡ drafted_making (fields_of (kind_of draft.call)).makes draft = simp to_z-of_z at (rw (c.fields-fields.ensures, c.kind.ensures, c.as_slice-group.ensures) at c.in-Ok.ensures) in
+    let making : c.in-Ok.making ≡ making_of (fields_of (kind_of draft.call)).makes draft.colour draft.key draft.group (graph_of draft) = simp to_z-of_z at (rw (c.fields-fields.ensures, c.kind.ensures, c.as_slice-group.ensures) at c.in-Ok.ensures) in
     let sent : c.in-Ok-given_counts.scounts ≡ naturals (sent_counts draft) = rw (c.where_had-sent.ensures, c.is_had.ensures, c.fields-fields.ensures, c.kind.ensures) at c.in-Ok-given_counts.ensures.0 in
     let received : c.in-Ok-given_counts.rcounts ≡ naturals (received_counts draft) = rw (c.where_had-received.ensures, c.is_had-2.ensures, c.fields-fields.ensures, c.kind.ensures) at c.in-Ok-given_counts.ensures.1 in
     let counts : counted draft ≡ true = rw (c.are_counts.ensures, c.are_counts-2.ensures, c.where_had-sent.ensures, c.where_had-received.ensures, c.is_had.ensures, c.is_had-2.ensures, c.fields-fields.ensures, c.kind.ensures) at c.if-not-are_counts.false in
