@@ -22,4 +22,3 @@ freed_more posts post = list_any-append is_free posts (post ∷ []) ∙ ap (λ b
 pub checked_stranger : (ops : List Operation) (birth : BirthView) (me : ℕ) (at : At) (draft : Draft) → rank_in me birth.members ≡ None → checked ops birth me at draft ≡ Err NotMember
 unfolding checked
 checked_stranger ops birth me at draft e = ap (λ o. checked_at ops o birth at draft) e
-

@@ -15,7 +15,7 @@ use Rattle.mpx_num.specs.declared.types.Ty.{Ty}
 use Rattle.mpx_num.specs.declared.types.Ty.TheVariants.{I8, I16, I32, I64, U8, U16, U32, U64, TwoInt}
 use Rattle.mpx_num.specs.Types.{IsInRange, depth, item_len, width}
 use Rattle.std.proofs.lemmas.List.Elements.{All-nil}
-use Rattle.mpx_num.specs.ItemList.{AreItems, ItemList, is_whole}
+use Rattle.mpx_num.specs.ItemList.{AreItems, ItemList}
 use Rattle.mpx_num.specs.KeptSpelled.{AreKept}
 use Rattle.mpx_num.specs.declared.spelled.KeptBytes.TheVariants.{Few}
 use Rattle.mpx_num.specs.Spelling.{are_whole, bytes_of, number_in, number_len, numbers_from, numbers_in, width_of}

@@ -1,5 +1,5 @@
 -- Items as their bytes spell them: each number in as many bytes as its type has, the highest first, below zero in two's complement.
-use Rattle.std.specs.Prelude.{ℕ, zero, suc, ◌-◌, ◌*◌, ◌/◌, Bool, cond, nat_lt, ◌==◌, List, [], ◌∷◌, length, take, drop, ℤ, pos}
+use Rattle.std.specs.Prelude.{ℕ, zero, suc, ◌*◌, ◌/◌, Bool, cond, nat_lt, ◌==◌, List, [], ◌∷◌, length, take, drop, ℤ, pos}
 use Rattle.std.specs.Int.{Width, w8, w16, w32, w64, byte_len, cast_signed, cast_unsigned, from_be_bytes, to_be_bytes}
 use Rattle.mpx_num.specs.declared.types.Ty.{Ty}
 use Rattle.mpx_num.specs.declared.types.Ty.TheVariants.{I8, I16, I32, I64, U8, U16, U32, U64, TwoInt}

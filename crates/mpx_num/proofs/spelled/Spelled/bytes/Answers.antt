@@ -1,7 +1,7 @@
 use Rattle.std.proofs.Common.{◌≡◌, length, take, sym, ap, ◌∙◌, rules}
 use Rattle.std.specs.List.{flat_map}
-use Rattle.mpx_num.specs.Spelling.{bytes_of, number_len, numbers_in}
-use Rattle.mpx_num.specs.KeptSpelled.{kept_bytes, kept_type}
+use Rattle.mpx_num.specs.Spelling.{bytes_of}
+use Rattle.mpx_num.specs.KeptSpelled.{kept_bytes}
 use Rattle.mpx_num.proofs.Spellings.{length-spelled, most_numbers}
 use Rattle.mpx_num.proofs.spelled.Spelled.bytes.Goals as goal
 

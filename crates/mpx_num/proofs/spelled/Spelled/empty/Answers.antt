@@ -1,4 +1,3 @@
-use Rattle.mpx_num.specs.ItemList.{ItemList}
 use Rattle.mpx_num.proofs.Spellings.{no_numbers, nothing_kept}
 use Rattle.mpx_num.proofs.spelled.Spelled.empty.Goals as goal
 
