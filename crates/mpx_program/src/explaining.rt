@@ -3,10 +3,12 @@ ghost use Rattle.std.specs.Prelude.{◌≡◌, [], false};
 
 use crate::found::Found;
 use crate::prepared::Prepared;
+use crate::reason::push_reason;
 use join_core::OutOfMemory;
 use mpx_eval::Findings;
 use mpx_explain::{
-    explain_calls, explain_refusals, explain_results, explain_served, explain_unheard, run_end,
+    explain_calls, explain_earlier, explain_refusals, explain_results, explain_served,
+    explain_unheard, run_end,
 };
 use mpx_node::Node;
 use mpx_num::Ops;
@@ -17,8 +19,8 @@ use std::alloc::Global;
 
 /// Further lines, where `--explain` is asked for and the job came to an end: for whose posts ranks wait, calls that are refused or are faults,
 /// and results that are past their types. Where a run ended early, these lines are of the evaluation and stand behind a heading that says so;
-/// before it stands where ranks wait in this run, and whose posts they lack. So they do where the text couldn't be written. Where memory is
-/// wanting, fewer lines.
+/// before it stands where ranks wait in this run, and whose posts they lack. So they do where the text couldn't be written, behind the system's
+/// reason. Where memory is wanting, fewer lines.
 pub(crate) fn explained(
     alloc: Global,
     call: &Invocation,
@@ -33,6 +35,15 @@ pub(crate) fn explained(
         if let Some(left) = left {
             let _ = push_found(alloc, prepared, answer, left, &mut told);
         }
+    }
+    told
+}
+
+/// What is explained where the script couldn't be read for this reason: what the system says.
+pub(crate) fn explained_reason(alloc: Global, call: &Invocation, error: &RunError) -> Vec<u8> {
+    let mut told = Vec::new(alloc);
+    if call.flags.explain {
+        let _ = push_reason(alloc, error, &mut told);
     }
     told
 }
@@ -68,7 +79,10 @@ fn push_found(
             Ok(End::Waiting(_, Cause::InEveryRun)) => push_evaluation(alloc, prepared, found, told),
             Ok(End::Waiting(ranks, _)) => push_early(alloc, prepared, left, ranks, found, told),
             Ok(End::Finished) => push_evaluation(alloc, prepared, found, told),
-            Err(_) => push_early(alloc, prepared, left, &[], found, told),
+            Err(error) => {
+                push_reason(alloc, error, told)?;
+                push_early(alloc, prepared, left, &[], found, told)
+            }
         },
     }
 }
@@ -127,6 +141,7 @@ fn push_run_end(
     let lines = left.transcripts.as_slice();
     let end = run_end(alloc, script, &found.complaints, ranks, lines, &nodes)?;
     push_waiting(alloc, text, script, end.waiting.as_slice(), told)?;
+    explain_earlier(alloc, text, &end.earlier, &end.waiting, told)?;
     explain_served(alloc, text, end.served.as_slice(), told)
 }
 

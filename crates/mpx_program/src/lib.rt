@@ -10,6 +10,7 @@ mod explaining;
 mod found;
 mod job;
 mod prepared;
+mod reason;
 mod status;
 
 pub use job::{Exit, ask_for_threads, refuse, run_job, run_job_in_threads};

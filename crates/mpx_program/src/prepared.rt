@@ -6,7 +6,7 @@ ghost use Rattle.mpx_run.specs.Texts.{PrintsUngated};
 ghost use Rattle.mpx_program.specs.Jobs.{FailsBefore, IsPrepared};
 ghost use Rattle.mpx_program.specs.Strict.{IsStrict};
 
-use crate::explaining::explained_refusals;
+use crate::explaining::{explained_reason, explained_refusals};
 use crate::found::{Examined, Found, examine_script};
 use join_core::OutOfMemory;
 use mpx_num::{Listing, Ops};
@@ -48,7 +48,7 @@ pub(crate) fn prepare<R: Read>(
             Ok(read) => Ok(prepared_of(text, read)),
             Err(failed) => Err(failed),
         },
-        Err(fault) => Err(without_more(alloc, RunError::from(fault))),
+        Err(fault) => Err(with_reason(alloc, call, RunError::from(fault))),
     }
 }
 
@@ -113,6 +113,14 @@ fn refused_lines(
         ReadScriptError::Refused(_) => explained_refusals(alloc, call, text, ops),
         ReadScriptError::OutOfMemory => Vec::new(alloc),
     }
+}
+
+// An error of reading, of which the system's reason is explained.
+fn with_reason(alloc: Global, call: &Invocation, error: RunError) -> Failed
+    ensures { result.error ≡ error }
+{
+    let more = explained_reason(alloc, call, &error);
+    Failed { error, more }
 }
 
 // An error of which nothing is explained.

@@ -1,5 +1,6 @@
 //! What a program's `main` calls: the words of its process, and what it exits with.
-ghost use Rattle.std.specs.Prelude.{◌≡◌, IfErr, IfOk, OnErr, map, string_bytes};
+ghost use Rattle.std.specs.Prelude.{◌≡◌, IfErr, IfOk, IsOkAnd, OnErr, map, string_bytes};
+ghost use Rattle.std.specs.Vec.Iter.{into_iter_items};
 ghost use Rattle.std.specs.Process.{exit_status};
 ghost use Rattle.clap.specs.Words.{kind_of};
 ghost use Rattle.mpx_run.specs.Founded.{IsFounded};
@@ -20,12 +21,19 @@ use std::thread::Threads;
 use std::time::Clock;
 use std::{env, io};
 
-/// The words that the process was called with.
+/// The words that the process was called with. No contract of std says what `env::args` gives: what is made of it says [`handed_on`].
 pub fn words_of(rt: &HostRuntime) -> Result<Vec<String>, clap::Error> {
-    match env::args(rt) {
-        Ok(args) => Ok(args.collect(rt.alloc())?),
+    handed_on(rt.alloc(), env::args(rt))
+}
+
+// All of these words in their order, where there are words and memory for them.
+fn handed_on(alloc: Global, args: io::Result<env::Args>) -> Result<Vec<String>, clap::Error>
+    ensures { IfOk result (λ words. IsOkAnd args (λ args. words.items ≡ into_iter_items args)) }
+{
+    match args {
+        Ok(args) => Ok(args.collect(alloc)?),
         Err(error) if error.kind() == io::ErrorKind::OutOfMemory => Err(AllocError.into()),
-        Err(_) => Err(not_text(rt.alloc())),
+        Err(_) => Err(not_text(alloc)),
     }
 }
 

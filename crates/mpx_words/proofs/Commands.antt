@@ -1,5 +1,5 @@
 -- What clap's commands are once they have one thing more.
-use Rattle.std.proofs.Common.{◌≡◌, ◌∙◌, ◌++◌, ◌∷◌, ◌||◌, [], Bool, false, ap, ap₂, subst, sym}
+use Rattle.std.proofs.Common.{◌≡◌, ◌∙◌, ◌++◌, ◌∷◌, ◌||◌, [], Bool, false, ap, ap₂}
 use Rattle.std.specs.Prelude.{Err, IfOk, IsOkAnd, Ok, Result}
 use Rattle.clap.specs.Words.{AddsArg, AddsSubcommand, App, Rule, Shape, app_of, rule_of, shape_of, with_subcommand}
 use Rattle.clap.specs.Simple.{shape_of_fields}
@@ -19,15 +19,27 @@ has_rule s r adds local is rule = ap (λ (x : App). x.top) (adds.shape local) �
 pub stays_local : {a b : Command} {g : Arg} → AddsArg a g b → g.global ≡ false → (fields_of a).has_globals ≡ false → (fields_of b).has_globals ≡ false
 stays_local adds local is = adds.globals ∙ ap₂ (λ (x y : Bool). x || y) is local
 
--- a command more, where it could be made
-pub adds_made : {E : Type 0} (a b m : Command) (made : Result Command E) → made ≡ Ok m → AddsSubcommand a m b
-    → IsOkAnd made (λ x. (fields_of x).has_globals ≡ false → app_of b ≡ with_subcommand (app_of a) (shape_of x))
-adds_made a b m made is adds = subst (λ r. IsOkAnd r (λ x. (fields_of x).has_globals ≡ false → app_of b ≡ with_subcommand (app_of a) (shape_of x))) (sym is) adds.shape
+-- the same of a command that could be made
+pub has_rule_made : {E F : Type 0} (made : Result Command E) (result : Result Command F) (g : Arg) (s : Shape) (r : Rule) → IfOk made (λ m. shape_of m ≡ s) → g.global ≡ false → rule_of g ≡ r
+    → IfOk result (λ c. IsOkAnd made (λ m. AddsArg m g c)) → IfOk result (λ c. shape_of c ≡ record s { rules = s.rules ++ r ∷ [] })
+has_rule_made (Ok m) (Ok c) g s r shape local rule adds = has_rule s r adds local shape rule
+has_rule_made (Err e) (Ok c) g s r shape local rule adds = absurd adds
+has_rule_made made (Err e) g s r shape local rule adds = tt
 
-pub has_made : {E : Type 0} (made : Result Command E) (x y z : App) (s : Shape) → IfOk made (λ m. shape_of m ≡ s) → IfOk made (λ m. (fields_of m).has_globals ≡ false)
-    → IsOkAnd made (λ m. (fields_of m).has_globals ≡ false → z ≡ with_subcommand y (shape_of m)) → y ≡ x → z ≡ with_subcommand x s
-has_made (Ok m) x y z s shape local adds is = adds local ∙ ap₂ with_subcommand is shape
-has_made (Err e) x y z s shape local adds is = absurd adds
+pub stays_local_made : {E F : Type 0} (made : Result Command E) (result : Result Command F) (g : Arg) → IfOk made (λ m. (fields_of m).has_globals ≡ false) → g.global ≡ false
+    → IfOk result (λ c. IsOkAnd made (λ m. AddsArg m g c)) → IfOk result (λ c. (fields_of c).has_globals ≡ false)
+stays_local_made (Ok m) (Ok c) g is local adds = stays_local adds local is
+stays_local_made (Err e) (Ok c) g is local adds = absurd adds
+stays_local_made made (Err e) g is local adds = tt
+
+-- a command more, where both could be made
+pub has_made : {E F G : Type 0} (program : Result Command E) (made : Result Command F) (result : Result Command G) (x : App) (s : Shape)
+    → IfOk program (λ p. app_of p ≡ x) → IfOk made (λ m. shape_of m ≡ s) → IfOk made (λ m. (fields_of m).has_globals ≡ false)
+    → IfOk result (λ c. IsOkAnd program (λ p. IsOkAnd made (λ m. AddsSubcommand p m c))) → IfOk result (λ c. app_of c ≡ with_subcommand x s)
+has_made (Ok p) (Ok m) (Ok c) x s app shape local adds = adds.shape local ∙ ap₂ with_subcommand app shape
+has_made (Ok p) (Err e) (Ok c) x s app shape local adds = absurd adds
+has_made (Err e) made (Ok c) x s app shape local adds = absurd adds
+has_made program made (Err e) x s app shape local adds = tt
 
 -- a setting that says nothing of the words
 pub same_shape : (a b : Command) (f : Command-F Command) (s : Shape) → fields_of b ≡ f → shape_of_fields f ≡ shape_of a → shape_of a ≡ s → shape_of b ≡ s

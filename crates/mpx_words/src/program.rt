@@ -1,6 +1,6 @@
 //! The program's commands and options, as clap explains them.
 ghost use Rattle.std.specs.Prelude.{◌≡◌, [], ◌∷◌, IfOk, IsOkAnd, Some, codes, false, true};
-ghost use Rattle.clap.specs.Words.{app_of, new_rule, rule_of, shape_of, with_subcommand};
+ghost use Rattle.clap.specs.Words.{AddsArg, AddsSubcommand, app_of, new_rule, rule_of, shape_of};
 ghost use Rattle.clap.specs.declared.builder.command.Command.TheViews.{out-Command as fields_of};
 ghost use Rattle.clap.specs.Simple.{new_shape};
 ghost use Rattle.mpx_words.specs.Usage.{bare_usage, common, flag, plain, run, run_draws, run_flags, usage, valued};
@@ -13,24 +13,55 @@ pub(crate) fn program<'a>(alloc: Global) -> Result<Command<'a>, AllocError>
 {
     with_command(
         with_command(
-            with_command(bare_program(alloc)?, run(alloc))?,
+            with_command(bare_program(alloc), run(alloc)),
             plain(alloc, "eval", EVAL, STRICT, EXPLAIN),
-        )?,
+        ),
         plain(alloc, "check", CHECK, CERTAIN, EXPLAIN_CHECK),
     )
 }
 
-// The program with one command more, where that could be made.
+// The program with one command more, where both could be made.
 fn with_command<'a>(
+    program: Result<Command<'a>, AllocError>,
+    made: Result<Command<'a>, AllocError>,
+) -> Result<Command<'a>, AllocError>
+    ensures { IfOk result (λ c. IsOkAnd program.entry (λ p. IsOkAnd made.entry (λ m. AddsSubcommand p m c))) }
+{
+    match program {
+        Ok(program) => with_made(program, made),
+        Err(e) => {
+            drop(made);
+            Err(e)
+        }
+    }
+}
+
+fn with_made<'a>(
     program: Command<'a>,
     made: Result<Command<'a>, AllocError>,
 ) -> Result<Command<'a>, AllocError>
-    ensures { IfOk result (λ c. IsOkAnd made.entry (λ m. (fields_of m).has_globals ≡ false → app_of c ≡ with_subcommand (app_of program.entry) (shape_of m))) }
+    ensures { IfOk result (λ c. IsOkAnd made.entry (λ m. AddsSubcommand program.entry m c)) }
 {
     match made {
         Ok(command) => program.subcommand(command),
         Err(e) => {
             drop(program);
+            Err(e)
+        }
+    }
+}
+
+// A command with one option more, where it could be made.
+fn with_option<'a>(
+    made: Result<Command<'a>, AllocError>,
+    option: Arg<'a>,
+) -> Result<Command<'a>, AllocError>
+    ensures { IfOk result (λ c. IsOkAnd made.entry (λ m. AddsArg m option.entry c)) }
+{
+    match made {
+        Ok(command) => command.arg(option),
+        Err(e) => {
+            drop(option);
             Err(e)
         }
     }
@@ -72,10 +103,9 @@ fn run<'a>(alloc: Global) -> Result<Command<'a>, AllocError>
     ensures shape { IfOk result (λ c. shape_of c ≡ run) }
     ensures local { IfOk result (λ c. (fields_of c).has_globals ≡ false) }
 {
-    with_draws(alloc)?
-        .arg(option(alloc, "relays", RELAYS))?
-        .arg(option(alloc, "turns", TURNS))?
-        .arg(option(alloc, "workers", WORKERS))
+    let relays = with_option(with_draws(alloc), option(alloc, "relays", RELAYS));
+    let turns = with_option(relays, option(alloc, "turns", TURNS));
+    with_option(turns, option(alloc, "workers", WORKERS))
 }
 
 // `run` with its flags, and with what it draws from.
@@ -83,9 +113,8 @@ fn with_draws<'a>(alloc: Global) -> Result<Command<'a>, AllocError>
     ensures shape { IfOk result (λ c. shape_of c ≡ record (new_shape (codes "run")) { rules = run_draws }) }
     ensures local { IfOk result (λ c. (fields_of c).has_globals ≡ false) }
 {
-    with_run_flags(alloc)?
-        .arg(option(alloc, "seed", SEED))?
-        .arg(option(alloc, "loss", LOSS))
+    let seed = with_option(with_run_flags(alloc), option(alloc, "seed", SEED));
+    with_option(seed, option(alloc, "loss", LOSS))
 }
 
 // `run` without the options that are followed by a number.
@@ -93,20 +122,27 @@ fn with_run_flags<'a>(alloc: Global) -> Result<Command<'a>, AllocError>
     ensures shape { IfOk result (λ c. shape_of c ≡ record (new_shape (codes "run")) { rules = run_flags }) }
     ensures local { IfOk result (λ c. (fields_of c).has_globals ≡ false) }
 {
-    plain(
-        alloc,
-        "run",
-        "Run the script on the standard input (gossipmpi run < SCRIPT) and print what each rank gets",
-        STRICT,
-        EXPLAIN,
-    )?
-    .after_help(
-        "An option that has a number is followed by it: --seed 7, or --seed=7. The script says how many ranks there are.",
-    )
-    .arg(flag(alloc, "trace", TRACE))?
-    .arg(flag(alloc, "table", TABLE))?
-    .arg(flag(alloc, "threads", THREADS))
+    let trace = with_option(helped_run(alloc), flag(alloc, "trace", TRACE));
+    let table = with_option(trace, flag(alloc, "table", TABLE));
+    with_option(table, flag(alloc, "threads", THREADS))
 }
+
+// `run` with the options of each command alone, and with what its help says behind these.
+fn helped_run<'a>(alloc: Global) -> Result<Command<'a>, AllocError>
+    ensures shape { IfOk result (λ c. shape_of c ≡ plain (codes "run")) }
+    ensures local { IfOk result (λ c. (fields_of c).has_globals ≡ false) }
+{
+    match plain(alloc, "run", RUN, STRICT, EXPLAIN) {
+        Ok(command) => Ok(command.after_help(BEHIND_HELP)),
+        Err(e) => Err(e),
+    }
+}
+
+const RUN: &str =
+    "Run the script on the standard input (gossipmpi run < SCRIPT) and print what each rank gets";
+
+const BEHIND_HELP: &str =
+    "An option that has a number is followed by it: --seed 7, or --seed=7. The script says how many ranks there are.";
 
 // A command that has no options but those of each command.
 fn plain<'a>(
@@ -119,9 +155,8 @@ fn plain<'a>(
     ensures shape { IfOk result (λ c. shape_of c ≡ plain name.entry.now) }
     ensures local { IfOk result (λ c. (fields_of c).has_globals ≡ false) }
 {
-    bare(alloc, name, about)
-        .arg(flag(alloc, "strict", strict))?
-        .arg(flag(alloc, "explain", explain))
+    let strict = bare(alloc, name, about).arg(flag(alloc, "strict", strict));
+    with_option(strict, flag(alloc, "explain", explain))
 }
 
 const STRICT: &str = "Exit with status 6 where the script has a call that is refused or is a fault";

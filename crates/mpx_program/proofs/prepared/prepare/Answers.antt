@@ -6,4 +6,4 @@ pub returns-in-Err-with_script-clause-err : goal.returns-in-Err-with_script-clau
 returns-in-Err-with_script-clause-err g c = fails_text _ c.args.call.now.job (g.R.Read.remaining c.args.reader.now) (g.R.Read.remaining c.read_bytes.new.reader) c.in-Ok.text.items c.deref.result.now c.in-Err-with_script.failed.error c.in-Ok.ensures.input c.deref.ensures.value c.in-Err-with_script.ensures.err
 
 pub returns-in-Err-clause-err : goal.returns-in-Err-clause-err
-returns-in-Err-clause-err g c = fails_unread _ c.args.call.now.job (g.R.Read.remaining c.args.reader.now) (g.R.Read.remaining c.read_bytes.new.reader) c.in-Err.fault c.without_more.result.error c.in-Err.ensures.part (c.without_more.ensures ∙ c.from.ensures)
+returns-in-Err-clause-err g c = fails_unread _ c.args.call.now.job (g.R.Read.remaining c.args.reader.now) (g.R.Read.remaining c.read_bytes.new.reader) c.in-Err.fault c.with_reason.result.error c.in-Err.ensures.part (c.with_reason.ensures ∙ c.from.ensures)

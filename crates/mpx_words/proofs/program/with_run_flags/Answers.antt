@@ -1,17 +1,13 @@
-use Rattle.std.proofs.Common.{refl}
-use Rattle.std.proofs.lemmas.Result.{IfOk-weaker}
-use Rattle.mpx_words.proofs.Commands.{has_rule, same_globals, same_shape, stays_local}
+use Rattle.mpx_words.proofs.Commands.{has_rule_made, stays_local_made}
 use Rattle.mpx_words.proofs.program.with_run_flags.Goals as goal
 
 pub returns : goal.returns
 returns c =
-    let told = same_shape _ _ _ _ c.after_help.ensures refl c.in_ok-plain.ensures.shape in
-    let told_local = same_globals _ _ _ c.after_help.ensures refl c.in_ok-plain.ensures.local in
-    let one = has_rule _ _ c.in_ok-arg.ensures c.flag.ensures.local told c.flag.ensures.rule in
-    let two = has_rule _ _ c.in_ok-arg-2.ensures c.flag-2.ensures.local one c.flag-2.ensures.rule in
-    let first = stays_local c.in_ok-arg.ensures c.flag.ensures.local told_local in
-    let second = stays_local c.in_ok-arg-2.ensures c.flag-2.ensures.local first in
+    let one = has_rule_made c.helped_run.result c.with_option-trace.result _ _ _ c.helped_run.ensures.shape c.flag.ensures.local c.flag.ensures.rule c.with_option-trace.ensures in
+    let two = has_rule_made c.with_option-trace.result c.with_option-table.result _ _ _ one c.flag-2.ensures.local c.flag-2.ensures.rule c.with_option-table.ensures in
+    let first = stays_local_made c.helped_run.result c.with_option-trace.result _ c.helped_run.ensures.local c.flag.ensures.local c.with_option-trace.ensures in
+    let second = stays_local_made c.with_option-trace.result c.with_option-table.result _ first c.flag-2.ensures.local c.with_option-table.ensures in
     record {
-      shape = IfOk-weaker c.arg-3.result _ _ (λ d h. has_rule _ _ h c.flag-3.ensures.local two c.flag-3.ensures.rule) c.arg-3.ensures;
-      local = IfOk-weaker c.arg-3.result _ _ (λ d h. stays_local h c.flag-3.ensures.local second) c.arg-3.ensures;
+      shape = has_rule_made c.with_option-table.result c.with_option.result _ _ _ two c.flag-3.ensures.local c.flag-3.ensures.rule c.with_option.ensures;
+      local = stays_local_made c.with_option-table.result c.with_option.result _ second c.flag-3.ensures.local c.with_option.ensures;
     }
