@@ -1,5 +1,7 @@
+pub mod Stored
 pub mod Nodes
 pub mod Opened
+pub mod Forgetting
 pub mod Shown
 pub mod Harvests
 pub mod laws

@@ -1,5 +1,5 @@
 -- One process, and its steps.
-use Rattle.std.specs.Prelude.{◌≡◌, ℕ, ◌+◌, ◌-◌, ◌&&◌, ◌||◌, Bool, true, false, cond, nat_lt, nat_le, List, [], ◌∷◌, ◌++◌, length, map, slice_get, Option, Some, None, is_some, option_and_then, Result, Ok, Err, ℤ}
+use Rattle.std.specs.Prelude.{◌≡◌, ℕ, ◌+◌, ◌-◌, ◌&&◌, ◌||◌, Bool, true, false, cond, nat_lt, nat_le, List, [], ◌∷◌, ◌++◌, length, map, Option, Some, None, is_some, option_and_then, Result, Ok, Err, ℤ}
 use Rattle.std.specs.List.{list_any}
 use Rattle.std.specs.Option.{option_map, option_map_or}
 use Rattle.join_core.specs.Flat.{known}
@@ -22,12 +22,13 @@ use Rattle.mpx_value.specs.declared.outcomes.Outcome.TheVariants.{Nothing}
 use Rattle.mpx_value.specs.Children.{children, named_children}
 use Rattle.mpx_value.specs.Histories.{value_for}
 pub use Rattle.mpx_value.specs.Histories.{gathering_name}
+use Rattle.mpx_node.specs.Stored.{stored_at}
 
--- what a process has done on a context: how many calls it has posted, the results of those that it has harvested, and whether
--- it has posted a free
+-- what a process has done on a context: how many calls it has posted, the results of those that it has harvested, none in place of each
+-- that it let go, and whether it has posted a free
 pub record OpenedView : Type 0 where
   pub posted : ℕ
-  pub results : List Finished
+  pub results : List (Option Finished)
   pub freed : Bool
 
 -- who it is, how many processes there are, its board, and what it has done on each context that it has opened
@@ -43,7 +44,7 @@ abbrev pub posted_by : Option OpenedView → ℕ
 posted_by None = 0
 posted_by (Some o) = o.posted
 
-abbrev pub results_by : Option OpenedView → List Finished
+abbrev pub results_by : Option OpenedView → List (Option Finished)
 results_by None = []
 results_by (Some o) = o.results
 
@@ -55,9 +56,13 @@ freed_by (Some o) = o.freed
 abbrev pub posted_on : NodeView → Name → ℕ
 posted_on node name = posted_by (node.opened name)
 
--- the results of the calls that it has harvested on a context
-abbrev pub results_on : NodeView → Name → List Finished
+-- the results of the calls that it has harvested on a context, none in place of each that it let go
+abbrev pub results_on : NodeView → Name → List (Option Finished)
 results_on node name = results_by (node.opened name)
+
+-- the result that it has of a call
+abbrev pub result_on : NodeView → Name → (call : ℕ) → Option Finished
+result_on node name call = stored_at (results_on node name) call
 
 -- how many calls it has harvested on a context: its own front
 abbrev pub front_on : NodeView → Name → ℕ
@@ -175,7 +180,7 @@ opens new node = record node { opened = λ name. cond (new name) (Some (or_new (
 
 -- it stores a result
 abbrev pub stores_on : Name → Finished → NodeView → NodeView
-stores_on name finished node = does_on name (λ o. record o { results = o.results ++ finished ∷ [] }) node
+stores_on name finished node = does_on name (λ o. record o { results = o.results ++ Some finished ∷ [] }) node
 
 -- the fact that it has harvested one more call
 abbrev pub front_fact : Name → NodeView → Look
@@ -200,8 +205,8 @@ abbrev pub is_fine_free : Finished → Bool
 is_fine_free r = is_free r.mine && is_nothing r.outcome
 
 -- the last of these results is one, and so many calls go past it: then nobody needs anything of the context any more
-abbrev pub is_past_free : List Finished → (number : ℕ) → Bool
-is_past_free results number = option_map_or is_fine_free (slice_get results (length results - 1)) false && nat_le (length results) number
+abbrev pub is_past_free : List (Option Finished) → (number : ℕ) → Bool
+is_past_free results number = option_map_or is_fine_free (stored_at results (length results - 1)) false && nat_le (length results) number
 
 -- what a prune to this number tells where it may be: that the context is dead, where that is past its free, else that posts are
 -- dropped; and of a context that is dead already nothing

@@ -1,5 +1,5 @@
 -- What was done on a context, and on all that are opened.
-use Rattle.std.specs.Prelude.{◌<◌, length, [], ◌∷◌, ◌++◌, cond, Option}
+use Rattle.std.specs.Prelude.{◌<◌, length, [], ◌∷◌, ◌++◌, cond, Option, Some}
 use Rattle.std.specs.Option.{option_map}
 use Rattle.std.specs.BTreeMap.{BTreeMap, get}
 use Rattle.mpx_name.specs.Order.{name_cmp}
@@ -7,10 +7,11 @@ use Rattle.mpx_name.specs.Name.{Name, same_name}
 use Rattle.mpx_node.specs.declared.finished.Finished.{Finished}
 use Rattle.mpx_node.specs.declared.opened.Opened.{Opened}
 use Rattle.mpx_node.specs.Nodes.{OpenedView, posted_by, results_by}
+use Rattle.mpx_node.specs.Stored.{after_gone}
 
--- how many calls are posted, the results of those that are harvested, and whether a free is posted
+-- how many calls are posted, the results of those that are harvested, of which the first are let go, and whether a free is posted
 abbrev pub opened_of : Opened → OpenedView
-opened_of o = record { posted = o.posted; results = o.results.items; freed = o.freed }
+opened_of o = record { posted = o.posted; results = after_gone o.gone o.results.items; freed = o.freed }
 
 -- the same of each context that is opened
 abbrev pub opened_by : BTreeMap Name Opened → Name → Option OpenedView
@@ -18,7 +19,7 @@ opened_by m name = option_map opened_of (get name_cmp m name)
 
 -- with one more result on a context
 abbrev pub stored_by : Name → Finished → (Name → Option OpenedView) → Name → Option OpenedView
-stored_by name finished opened q = cond (same_name q name) (option_map (λ (o : OpenedView). record o { results = o.results ++ finished ∷ [] }) (opened q)) (opened q)
+stored_by name finished opened q = cond (same_name q name) (option_map (λ (o : OpenedView). record o { results = o.results ++ Some finished ∷ [] }) (opened q)) (opened q)
 
 -- a call is posted there whose result isn't stored
 abbrev pub HasUnfinished : (Name → Option OpenedView) → Name → Type 0

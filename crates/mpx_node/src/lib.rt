@@ -5,6 +5,7 @@
 
 mod deltas;
 mod finished;
+mod forgetting;
 mod node;
 mod opened;
 mod opening;

@@ -1,5 +1,5 @@
 //! One process, and its steps.
-ghost use Rattle.std.specs.Prelude.{◌≡◌, ◌<◌, ◌≤◌, [], None, OnOk, OnErr, IfOk, slice_get, is_some};
+ghost use Rattle.std.specs.Prelude.{◌≡◌, ◌<◌, ◌≤◌, [], None, OnOk, OnErr, IfOk, is_some};
 ghost use Rattle.std.specs.Option.{option_copied};
 ghost use Rattle.mpx_post.specs.Drafts.{most_calls, refusal_of};
 ghost use Rattle.mpx_board.specs.Looks.{look, parts_of};
@@ -47,7 +47,7 @@ pub enum Harvest {
 }
 
 impl Node {
-    ghost use Rattle.mpx_node.specs.Nodes.{Opens, Posts, add_result, NodeView, start_node, checked_on, children_on, gathering_name, gathers_on, next_result, open_gathering_node, posted_on, results_on, front_on, freed_on};
+    ghost use Rattle.mpx_node.specs.Nodes.{Opens, Posts, add_result, NodeView, start_node, checked_on, children_on, gathering_name, gathers_on, next_result, open_gathering_node, posted_on, result_on, front_on, freed_on};
     ghost use Rattle.mpx_node.specs.Shown.{node_of};
     ghost use Rattle.mpx_node.specs.Opened.{HasUnfinished};
     ghost use Rattle.mpx_node.specs.Harvests.{Harvests};
@@ -187,13 +187,14 @@ impl Node {
         }
     }
 
-    /// The result of a call on a context that was harvested, kept for good; none of one that wasn't.
+    /// The result of a call on a context that was harvested, kept until [`Node::forget`] lets it go; none of one that wasn't, and
+    /// none of a call below [`Node::forgotten`].
     pub fn result(&self, name: &Name, call: u32) -> Option<&Finished>
-        ensures { option_copied result ≡ slice_get (results_on (node_of self.now) name.now) call }
+        ensures { option_copied result ≡ result_on (node_of self.now) name.now call }
     {
         match self.opened.get(name) {
             None => None,
-            Some(opened) => opened.results.get(call as usize),
+            Some(opened) => opened.result(call),
         }
     }
 
@@ -329,7 +330,7 @@ impl Node {
         }
         match self.board.raise_front(alloc, name, self.me, call + 1) {
             Ok(()) => {
-                opened.results.push_reserved(finished);
+                opened.results.push_back_reserved(finished);
                 Ok(())
             }
             Err(e) => {

@@ -48,7 +48,7 @@ fn store(
         drop(finished);
         return Err(OutOfMemory);
     }
-    opened.results.push_reserved(finished);
+    opened.results.push_back_reserved(finished);
     Ok(())
 }
 

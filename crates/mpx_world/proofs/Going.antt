@@ -21,8 +21,10 @@ use Rattle.mpx_node.specs.declared.node.Harvest.{Harvest}
 use Rattle.mpx_node.specs.declared.node.Harvest.TheVariants as H
 use Rattle.mpx_node.specs.Deltas.{SaysWhatItHas}
 use Rattle.mpx_node.specs.Harvests.{Harvests, HarvestsOpened}
-use Rattle.mpx_node.specs.Nodes.{NodeView, Opens, Posts as MakesPost, StopsTaking, acknowledge, add_result, checked_on, gathers_on, learn, learn_some, next_result, open_gathering_node, with_post, prune_part, results_on}
-use Rattle.mpx_world.specs.Worlds.{ProcessView, WorldView, MayLeave, MayPost, makes, made_next, stores, opens_gathering, drops, takes, learns, harvests, gathers, prunes, acknowledges, Happening, Posts, Harvests as HappensHarvest, Gathers, Prunes, Sends, Takes, TakesPartly, Acknowledges, at_process, happens, MayHappen, MayGoOn, start, world_by}
+use Rattle.mpx_node.specs.Nodes.{NodeView, Opens, Posts as MakesPost, StopsTaking, acknowledge, add_result, checked_on, gathers_on, learn, learn_some, next_result, open_gathering_node, with_post, prune_part, result_on}
+use Rattle.mpx_node.specs.Forgetting.{forgets}
+use Rattle.mpx_world.specs.Worlds.{ProcessView, WorldView, MayLeave, MayPost, makes, made_next, stores, opens_gathering, drops, takes, learns, harvests, gathers, prunes, acknowledges, Happening, Posts, Harvests as HappensHarvest, Gathers, Prunes, Sends, Takes, TakesPartly, Acknowledges, Forgets, lets_results_go, at_process, happens, MayHappen, MayGoOn, start, world_by}
+use Rattle.mpx_world.specs.Forgetting.{HasForgotten, IsHeldOrGone}
 use Rattle.mpx_world.specs.Soundness.{AgreeAcross, BoardsAgree}
 use Rattle.mpx_world.specs.Networks.{EachAgrees, AreAmong, AreKept, AreNew, DeadStaysOn, NodeGives, NetworkGoesOn, HasPruned, IsNetwork, IsNodeStep, IsTake, Network, NodesAgree, network_of, new_network, world_in}
 use Rattle.mpx_world.proofs.Lists.{cond_cases, itself, same_number, slice_get-push}
@@ -32,7 +34,7 @@ use Rattle.mpx_world.proofs.Drafted.{checked_may}
 use Rattle.mpx_world.proofs.Reached.{agree_across, all_agree, dead_stays, own_seen}
 use Rattle.mpx_world.proofs.Covering.{digest_had}
 use Rattle.mpx_post.proofs.Lists.{set_cases, slice_get-append}
-use Rattle.mpx_world.proofs.Whole.{IsWell, goes_on-append, may_append, well_by, later_by}
+use Rattle.mpx_world.proofs.Whole.{IsWell, goes_on-append, may_append, held_by, well_by, later_by}
 
 -- WHAT HAPPENS NEXT
 
@@ -179,6 +181,9 @@ take_step old new part (Err e) ok err n s p at place sent =
     let may : MayLeave v.node.board (slice_get (world_in n).parts there.0) new.board = subst (λ o. MayLeave v.node.board o new.board) (sym there.1) (subst (λ (x : NodeView). IsBetween x.board part new.board) here err.1) in
     by_step n p old new (learns new.board) (TakesPartly p there.0 new.board) s at may refl (err.0 ∙ sym (ap (λ b. record old { board = b }) err.1.joined) ∙ ap (learn new.board) here)
 
+pub forget_step : (ops : List Operation) (old new : NodeView) (name : Name) (below : ℕ) → new ≡ forgets name below old → IsNodeStep ops old new
+forget_step ops old new name below h n s with_ops p at = by_step n p old new (lets_results_go name below) (Forgets p name below) s at tt refl (h ∙ ap (forgets name below) (s.each p old at))
+
 pub deltas_step : (ops : List Operation) (old new : NodeView) → SaysWhatItHas old new → IsNodeStep ops old new
 deltas_step ops old new says n s with_ops p at =
     let here = s.each p old at in
@@ -220,6 +225,11 @@ parts_given node made all n s p at = gives_all made n p node s at (all_facts nod
 pub later_on : (n : Network) (nodes : List NodeView) (parts : List Look) (on : NetworkGoesOn n nodes parts) → Later (world_in n) (world_in (network_of on))
 later_on n nodes parts on = later_by n.operations n.ranks n.size n.happenings on.later
 
+-- a result is still held, or was let go since
+pub held_on : (n : Network) (nodes : List NodeView) (parts : List Look) (on : NetworkGoesOn n nodes parts) (p : ℕ) (name : Name) (k : ℕ) (r : Finished) → result_on ((world_in n).each p).node name k ≡ Some r
+    → (result_on ((world_in (network_of on)).each p).node name k ≡ Some r) ⊎ HasForgotten (Forgets p name) on.later k
+held_on n nodes parts on p name k r e = held_by n.operations n.ranks n.size n.happenings on.later p name k r e
+
 pub across : (n : Network) (nodes : List NodeView) (parts : List Look) → IsNetwork n → (on : NetworkGoesOn n nodes parts) → (p q : ℕ) → AgreeAcross (world_in n) (world_in (network_of on)) p q
 across n nodes parts s on = agree_across (world_in n) (world_in (network_of on)) (later_on n nodes parts on) (well n s).holds (well (network_of on) on.network).holds
 
@@ -227,7 +237,7 @@ across n nodes parts s on = agree_across (world_in n) (world_in (network_of on))
 nodes_agree : (old new : WorldView) (p q : ℕ) (a b : NodeView) → a ≡ (old.each p).node → b ≡ (new.each q).node → AgreeAcross old new p q → NodesAgree old p q a b
 nodes_agree old new p q a b first second x = record {
   boards = subst (λ (v : NodeView). BoardsAgree v.board b.board) (sym first) (subst (λ (v : NodeView). BoardsAgree (old.each p).node.board v.board) (sym second) x.boards);
-  results = λ name k r s er es. x.results name k r s (subst (λ v. slice_get (results_on v name) k ≡ Some r) first er) (subst (λ v. slice_get (results_on v name) k ≡ Some s) second es);
+  results = λ name k r s er es. x.results name k r s (subst (λ v. result_on v name k ≡ Some r) first er) (subst (λ v. result_on v name k ≡ Some s) second es);
 }
 
 pub all_nodes_agree : (n : Network) → IsNetwork n → EachAgrees (world_in n) n.nodes n.nodes
@@ -238,8 +248,8 @@ later_nodes_agree n nodes parts s on p q a b ea eb = nodes_agree (world_in n) (w
 
 pub results_kept : (n : Network) (nodes : List NodeView) (parts : List Look) → IsNetwork n → NetworkGoesOn n nodes parts → AreKept n.nodes nodes
 results_kept n nodes parts s on p a b ea eb name k r er =
-    subst (λ v. slice_get (results_on v name) k ≡ Some r) (sym (on.network.each p b eb))
-    (((later_on n nodes parts on).kept p).results_kept name k r (subst (λ v. slice_get (results_on v name) k ≡ Some r) (s.each p a ea) er))
+    subst (λ v. IsHeldOrGone v name k r) (sym (on.network.each p b eb))
+    (((later_on n nodes parts on).kept p).results_kept name k r (subst (λ v. result_on v name k ≡ Some r) (s.each p a ea) er))
 
 pub dead_stays_on : (n : Network) (nodes : List NodeView) (parts : List Look) → IsNetwork n → NetworkGoesOn n nodes parts → DeadStaysOn n.nodes nodes
 dead_stays_on n nodes parts s on p a b ea eb name dead =

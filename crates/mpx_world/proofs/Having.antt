@@ -8,7 +8,8 @@ use Rattle.mpx_board.specs.Boards.{Look, join, join_all}
 use Rattle.mpx_value.specs.declared.outcomes.Outcome.TheVariants.{NewComm}
 use Rattle.mpx_value.specs.Histories.{Made, has_freed, posts_on}
 use Rattle.mpx_node.specs.declared.finished.Finished.{Finished}
-use Rattle.mpx_node.specs.Nodes.{NodeView, OpenedView, freed_by, posted_on, results_on, freed_on}
+use Rattle.mpx_node.specs.Nodes.{NodeView, OpenedView, freed_by, posted_on, result_on, freed_on}
+use Rattle.mpx_node.specs.Stored.{stored_at}
 use Rattle.mpx_world.specs.Worlds.{ProcessView, WorldView, MayPost, history, learns, post_fact, makes}
 use Rattle.mpx_world.specs.Soundness.{IsValue}
 use Rattle.mpx_world.proofs.Lists.{any_at, any_push, cond_cases, name_itself, names_same, slice_get-push, slice_get-push_cases, join_all-push, posts_on-push}
@@ -28,8 +29,8 @@ pub record Good (w : WorldView) (p : ℕ) (v : ProcessView) : Type 0 where
   pub counted : (name : Name) → posted_on v.node name ≡ length (posts_on name v.made)
   pub closed : (name : Name) → freed_on v.node name ≡ has_freed name v.made
   pub ends : (name : Name) (k : ℕ) (given : Given) → slice_get (posts_on name v.made) k ≡ Some given → is_free given ≡ true → length (posts_on name v.made) ≡ k + 1
-  pub values : (name : Name) (k : ℕ) (r : Finished) → slice_get (results_on v.node name) k ≡ Some r → IsValue w p name k r
-  pub opened_given : (name : Name) (k : ℕ) (r : Finished) → slice_get (results_on v.node name) k ≡ Some r → HasOpened v.node r
+  pub values : (name : Name) (k : ℕ) (r : Finished) → result_on v.node name k ≡ Some r → IsValue w p name k r
+  pub opened_given : (name : Name) (k : ℕ) (r : Finished) → result_on v.node name k ≡ Some r → HasOpened v.node r
 
 pub record Holds (w : WorldView) : Type 0 where
   pub processes : (p : ℕ) → Good w p (w.each p)
@@ -119,6 +120,6 @@ good_makes w p name given v here may g =
           (λ t more. ends_push (posts_on n v.made) given (sym (g.closed n) ∙ ap (λ m. freed_on v.node m) (names_same n name t) ∙ ap freed_by o.1 ∙ o.2) k x more free)
           (λ t old. g.ends n k x old free)
           (subst (λ xs. slice_get xs k ≡ Some x) (posts_on-push n v.made new) e));
-      values = λ n k r e. g.values n k r (subst (λ xs. slice_get xs k ≡ Some r) (results_posted name n given v.node) e);
-      opened_given = λ n k r e. opened_later v (makes name given v) r (kept_makes name given v) (g.opened_given n k r (subst (λ xs. slice_get xs k ≡ Some r) (results_posted name n given v.node) e));
+      values = λ n k r e. g.values n k r (subst (λ xs. stored_at xs k ≡ Some r) (results_posted name n given v.node) e);
+      opened_given = λ n k r e. opened_later v (makes name given v) r (kept_makes name given v) (g.opened_given n k r (subst (λ xs. stored_at xs k ≡ Some r) (results_posted name n given v.node) e));
     }

@@ -53,6 +53,7 @@ changes w (E.Gather p parent tag ranks) = happens w (happening_of w (E.Gather p 
 changes w (E.Prune p name n) = happens w (happening_of w (E.Prune p name n))
 changes w (E.Send p cut) = happens w (happening_of w (E.Send p cut))
 changes w (E.Take p place) = happens w (happening_of w (E.Take p place))
+changes w (E.Forget p name below) = happens w (happening_of w (E.Forget p name below))
 
 -- where it is refused, nothing
 there_same : (w : WorldView) (e : Event) → IsTrue (is_refusal (reply_of w e)) → changes w e ≡ w
@@ -62,6 +63,7 @@ there_same w (E.Gather p parent tag ranks) t = at_itself w p (gathers parent tag
 there_same w (E.Prune p name n) t = at_itself w p (prunes name n) (prune_same name n (pruned_on (w.each p).node.board name n) (w.each p) t)
 there_same w (E.Send p cut) t = cc t
 there_same w (E.Take p place) t = at_itself w p (takes (slice_get w.parts place)) (take_same (slice_get w.parts place) (w.each p) t)
+there_same w (E.Forget p name below) t = cc t
 
 -- where it isn't, what it is
 accepted_is : (w : WorldView) (e : Event) → is_refusal (reply_of w e) ≡ false → happens w (happening_of w e) ≡ changes w e
@@ -74,6 +76,7 @@ accepted_is w (E.Gather p parent tag ranks) f = refl
 accepted_is w (E.Prune p name n) f = refl
 accepted_is w (E.Send p cut) f = refl
 accepted_is w (E.Take p place) f = refl
+accepted_is w (E.Forget p name below) f = refl
 
 -- so much does an event of a process that is there
 pub does_there : (w : WorldView) (e : Event) → nat_lt (process_of e) w.size ≡ true → does w e ≡ changes w e

@@ -1,19 +1,23 @@
 -- All that is kept along lists of events and of what happens.
-use Rattle.std.proofs.Common.{◌≡◌, ℕ, Bool, true, false, cond, List, [], ◌∷◌, ◌++◌, refl, sym, ap, ◌∙◌, subst}
-use Rattle.std.specs.Prelude.{Result, Ok, Err}
+use Rattle.std.proofs.Common.{◌≡◌, ℕ, Bool, true, false, cond, List, [], ◌∷◌, ◌++◌, Some, refl, sym, ap, ◌∙◌, subst}
+use Rattle.std.specs.Prelude.{◌⊎◌, Result, Ok, Err}
 use Rattle.mpx_name.specs.Name.{Name}
 use Rattle.mpx_num.specs.declared.own.Operation.{Operation}
 use Rattle.mpx_post.specs.Posts.{Given}
 use Rattle.mpx_post.specs.declared.draft.Draft.{Draft}
 use Rattle.mpx_post.specs.declared.draft.PostError.{PostError}
-use Rattle.mpx_node.specs.Nodes.{checked_on}
+use Rattle.mpx_node.specs.declared.finished.Finished.{Finished}
+use Rattle.mpx_node.specs.Nodes.{checked_on, result_on}
 use Rattle.mpx_world.specs.declared.events.Event.{Event}
-use Rattle.mpx_world.specs.Worlds.{WorldView, Happening, Posts, at_process, happens, makes, MayHappen, goes_on, MayGoOn, start, world_by}
+use Rattle.mpx_world.specs.declared.events.Event.TheVariants as E
+use Rattle.mpx_world.specs.Worlds.{WorldView, Happening, Posts, Forgets, at_process, happens, makes, MayHappen, goes_on, MayGoOn, start, world_by}
 use Rattle.mpx_world.specs.Drafted.{makes_checked, posts}
+use Rattle.mpx_world.specs.Forgetting.{HasForgotten}
 use Rattle.mpx_world.specs.Events.{happened, happening_of, does, does_all, is_refusal, replies, reply, world_after}
 use Rattle.mpx_world.proofs.Lists.{cond_cases}
 use Rattle.mpx_world.proofs.Steps.{Holds, holds_start, holds_happens}
 use Rattle.mpx_world.proofs.Later.{Later, later_goes_on}
+use Rattle.mpx_world.proofs.Forgetting.{held_does_all, held_goes_on}
 use Rattle.mpx_world.proofs.Drafted.{at_itself, at_same, checked_may}
 use Rattle.mpx_world.proofs.Reached.{may_happen, later_does_all}
 use Rattle.mpx_world.proofs.Retention.{AllStore, stores_start, stores_happens}
@@ -127,6 +131,18 @@ well_by ops ranks size hs m = well_goes_on hs (start ops ranks size) m (well_sta
 
 pub later_after : (ops : List Operation) (ranks size : ℕ) (es later : List Event) → Later (world_after ops ranks size es) (world_after ops ranks size (es ++ later))
 later_after ops ranks size es later = let old = world_after ops ranks size es in subst (Later old) (sym (does_all-append es later (start ops ranks size))) (later_does_all later old)
+
+-- each result is still held, or was let go by an event since
+pub held_after : (ops : List Operation) (ranks size : ℕ) (es later : List Event) (p : ℕ) (name : Name) (k : ℕ) (r : Finished) → result_on ((world_after ops ranks size es).each p).node name k ≡ Some r
+    → (result_on ((world_after ops ranks size (es ++ later)).each p).node name k ≡ Some r) ⊎ HasForgotten (E.Forget p name) later k
+held_after ops ranks size es later p name k r e =
+    subst (λ (w : WorldView). (result_on (w.each p).node name k ≡ Some r) ⊎ HasForgotten (E.Forget p name) later k) (sym (does_all-append es later (start ops ranks size))) (held_does_all later (world_after ops ranks size es) p name k r e)
+
+-- or by what happened since
+pub held_by : (ops : List Operation) (ranks size : ℕ) (hs later : List Happening) (p : ℕ) (name : Name) (k : ℕ) (r : Finished) → result_on ((world_by ops ranks size hs).each p).node name k ≡ Some r
+    → (result_on ((world_by ops ranks size (hs ++ later)).each p).node name k ≡ Some r) ⊎ HasForgotten (Forgets p name) later k
+held_by ops ranks size hs later p name k r e =
+    subst (λ (w : WorldView). (result_on (w.each p).node name k ≡ Some r) ⊎ HasForgotten (Forgets p name) later k) (sym (goes_on-append hs later (start ops ranks size))) (held_goes_on later (world_by ops ranks size hs) p name k r e)
 
 pub later_by : (ops : List Operation) (ranks size : ℕ) (hs later : List Happening) → Later (world_by ops ranks size hs) (world_by ops ranks size (hs ++ later))
 later_by ops ranks size hs later = let old = world_by ops ranks size hs in subst (Later old) (sym (goes_on-append hs later (start ops ranks size))) (later_goes_on later old)

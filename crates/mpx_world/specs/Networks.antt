@@ -6,8 +6,9 @@ use Rattle.mpx_board.specs.declared.errors.PruneError.{PruneError}
 use Rattle.mpx_board.specs.Boards.{Look, IsGone, gone}
 use Rattle.mpx_board.specs.Changes.{pruned_on}
 use Rattle.mpx_node.specs.declared.finished.Finished.{Finished}
-use Rattle.mpx_node.specs.Nodes.{NodeView, learn_some, prune_part, start_node, results_on}
+use Rattle.mpx_node.specs.Nodes.{NodeView, learn_some, prune_part, start_node, result_on}
 use Rattle.mpx_world.specs.Worlds.{WorldView, Happening, MayGoOn, start, world_by}
+use Rattle.mpx_world.specs.Forgetting.{IsHeldOrGone}
 use Rattle.mpx_world.specs.Soundness.{BoardsAgree, OfOneRow}
 
 -- so many processes, of which the first are the ranks, the operations of the job's own, what has happened, nodes, each at the place of its number, and parts of boards
@@ -78,16 +79,16 @@ NodeGives node given = (n : Network) → IsNetwork n → (p : ℕ) → slice_get
 -- two nodes agree: their boards tell equal births, posts and rows, and their results of one call are what one row gives the two
 pub record NodesAgree (w : WorldView) (p q : ℕ) (a b : NodeView) : Type 0 where
   pub boards : BoardsAgree a.board b.board
-  pub results : (name : Name) (k : ℕ) (r s : Finished) → slice_get (results_on a name) k ≡ Some r → slice_get (results_on b name) k ≡ Some s → OfOneRow w p q name k r s
+  pub results : (name : Name) (k : ℕ) (r s : Finished) → result_on a name k ≡ Some r → result_on b name k ≡ Some s → OfOneRow w p q name k r s
 
 -- each of these agrees with each of those
 abbrev pub EachAgrees : WorldView → (these those : List NodeView) → Type 0
 EachAgrees w these those = (p q : ℕ) (a b : NodeView) → slice_get these p ≡ Some a → slice_get those q ≡ Some b → NodesAgree w p q a b
 
--- what these nodes have finished, they have finished later too, with equal results
+-- what these nodes have finished, they have finished later too, with equal results, or have let go
 abbrev pub AreKept : (nodes later : List NodeView) → Type 0
 AreKept nodes later = (p : ℕ) (a b : NodeView) → slice_get nodes p ≡ Some a → slice_get later p ≡ Some b
-    → (name : Name) (k : ℕ) (r : Finished) → slice_get (results_on a name) k ≡ Some r → slice_get (results_on b name) k ≡ Some r
+    → (name : Name) (k : ℕ) (r : Finished) → result_on a name k ≡ Some r → IsHeldOrGone b name k r
 
 -- a context that is dead on the board of one of these nodes is dead there later too, and nothing else is known of it there
 abbrev pub DeadStaysOn : (nodes later : List NodeView) → Type 0

@@ -12,8 +12,10 @@ ghost use Rattle.mpx_board.specs.Looks.{look};
 ghost use Rattle.mpx_delta.specs.Facts.{OnlyFactsOf};
 ghost use Rattle.mpx_node.specs.declared.node.Harvest.{Harvest};
 ghost use Rattle.mpx_node.specs.Deltas.{SaysWhatItHas};
+ghost use Rattle.mpx_node.specs.Forgetting.{forgets};
 ghost use Rattle.mpx_node.specs.Harvests.{Harvests};
 ghost use Rattle.mpx_node.specs.Nodes.{NodeView, Opens, Posts, StopsTaking, checked_on, gathers_on, learn, next_result};
+ghost use Rattle.mpx_world.specs.Worlds.{Forgets};
 ghost use Rattle.mpx_world.specs.Soundness.{Agree, AgreeAcross, AreCommunicators, AreLeast, AreMembers, ArePermanent, Retains, Sound};
 ghost use Rattle.mpx_world.specs.Enough.{AnswerDoneUpTo, IsEnough, was_in};
 ghost use Rattle.mpx_world.specs.Networks.{EachAgrees, AreAmong, AreKept, AreNew, DeadStaysOn, NodeGives, NetworkGoesOn, HasPruned, IsNetwork, IsNodeStep, IsTake, Network, network_of, new_network, world_in};
@@ -26,7 +28,7 @@ pub fn networks_begin()
 {}
 
 /// What a call of a node leaves is a network again, whatever it answered: [`Node::post`](mpx_node::Node::post), `harvest`,
-/// `open_gathering`, `prune`, `take` of a part that was sent, and `deltas`. So it is where a call left the node as it was, or only
+/// `open_gathering`, `prune`, `forget`, `take` of a part that was sent, and `deltas`. So it is where a call left the node as it was, or only
 /// looked at it. Parts that `part`, `parts` or `deltas` gave were sent then. The premises are what the calls promise. Parts that were
 /// sent may be left out, and of two steps the second goes on where the first ended.
 pub fn networks_go_on()
@@ -41,6 +43,7 @@ pub fn networks_go_on()
     ensures take { (old new : NodeView) (part : Look) (result : Result (Unit {0}) OutOfMemory)
         → OnOk result (new ≡ learn part old) → OnErr result (StopsTaking part old new) → IsTake part old new }
     ensures deltas { (ops : List Operation) (old new : NodeView) → SaysWhatItHas old new → IsNodeStep ops old new }
+    ensures forget { (ops : List Operation) (old new : NodeView) (name : Name) (below : ℕ) → new ≡ forgets name below old → IsNodeStep ops old new }
     ensures unchanged { (ops : List Operation) (old new : NodeView) → new ≡ old → IsNodeStep ops old new }
     ensures part { (node : NodeView) (part : Look) → part ≡ node.board → NodeGives node (part ∷ []) }
     ensures parts { (node : NodeView) (made : List Board) → All (λ part. OnlyFactsOf (look part) node.board) made
@@ -56,7 +59,7 @@ pub fn networks_go_on()
 /// posts are retained. Of the nodes themselves: all that each other member's board told at one moment after its post of a call is
 /// enough for a node's harvests up to that call, one part of each ([`one_part_of_each_is_enough`](crate::one_part_of_each_is_enough));
 /// every two agree, on births, posts and rows, and on results of one call, which are what one row gives the two, also an earlier
-/// node with a later one; later nodes have what they had finished; and a context that is dead on a node's board is dead on it later, with
+/// node with a later one; later nodes have what they had finished, or have let it go; and a context that is dead on a node's board is dead on it later, with
 /// nothing else known of it.
 pub fn networks_are_sound()
     ensures sound { (n : Network) → IsNetwork n → Sound (world_in n) }
@@ -67,7 +70,7 @@ pub fn networks_are_sound()
     ensures members { (n : Network) → IsNetwork n → AreMembers (world_in n) }
     ensures communicators { (n : Network) → IsNetwork n → AreCommunicators (world_in n) }
     ensures permanent { (n : Network) (nodes : List NodeView) (parts : List Look) → IsNetwork n → (on : NetworkGoesOn n nodes parts)
-        → ArePermanent (world_in n) (world_in (network_of on)) }
+        → ArePermanent Forgets on.later (world_in n) (world_in (network_of on)) }
     ensures retained { (n : Network) → IsNetwork n → Retains (world_in n) }
     ensures enough { (n : Network) → IsNetwork n → (p : ℕ) (node : NodeView) → slice_get n.nodes p ≡ Some node
         → (name : Name) (k : ℕ) → IsEnough (was_in n) node name k → AnswerDoneUpTo n.operations node name k }

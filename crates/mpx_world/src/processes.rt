@@ -107,6 +107,7 @@ impl Processes {
             Event::Prune { proc, name, number } => Ok(self.prune(*proc, name, *number)),
             Event::Send { proc, cut } => self.send(alloc, *proc, cut),
             Event::Take { proc, part } => self.take(alloc, *proc, *part),
+            Event::Forget { proc, name, below } => Ok(self.forget(*proc, name, *below)),
         }
     }
 
@@ -216,6 +217,17 @@ impl Processes {
         }
         self.nodes[at].take(alloc, &self.parts[part])?;
         Ok(Reply::Taken)
+    }
+
+    fn forget(&mut self, proc: Proc, name: &Name, below: u32) -> Reply
+        ensures { Does (E.Forget proc name.now below) (Ok result) self.old self.new }
+    {
+        let at = usize::from(proc.number());
+        if at >= self.nodes.len() {
+            return Reply::NoSuchProcess;
+        }
+        self.nodes[at].forget(name, below);
+        Reply::Forgot
     }
 }
 

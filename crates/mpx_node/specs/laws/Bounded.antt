@@ -11,10 +11,11 @@ use Rattle.mpx_node.specs.declared.opened.Opened.{Opened}
 use Rattle.mpx_node.specs.Opened.{opened_of}
 use Rattle.mpx_node.specs.Nodes.{front_on, posted_on, results_by, posted_by}
 use Rattle.mpx_node.specs.Shown.{node_of}
+use Rattle.mpx_node.specs.laws.Gone.{length_after}
 
 opened_bounded : (o : Option Opened) → length (results_by (option_map opened_of o)) ≤ posted_by (option_map opened_of o)
 opened_bounded None = omega arith
-opened_bounded (Some o) = grind (arith, nat_tests, o.counted)
+opened_bounded (Some o) = let l = length_after o.gone o.results.items in grind (arith, nat_tests, o.counted, l)
 
 pub node_bounded : (node : Node) (name : Name) → front_on (node_of node) name ≤ posted_on (node_of node) name
 node_bounded node name = opened_bounded (get name_cmp node.opened name)

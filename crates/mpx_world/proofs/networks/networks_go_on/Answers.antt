@@ -1,4 +1,4 @@
-use Rattle.mpx_world.proofs.Going.{post_step, harvest_step, gather_step, prune_step, take_step, deltas_step, unchanged_step, part_given, parts_given, fewer_sent, further}
+use Rattle.mpx_world.proofs.Going.{post_step, harvest_step, gather_step, prune_step, take_step, forget_step, deltas_step, unchanged_step, part_given, parts_given, fewer_sent, further}
 use Rattle.mpx_world.proofs.networks.networks_go_on.Goals as goal
 
 pub returns-clause-post : goal.returns-clause-post
@@ -24,6 +24,9 @@ returns-clause-parts c = parts_given
 
 pub returns-clause-deltas : goal.returns-clause-deltas
 returns-clause-deltas c = deltas_step
+
+pub returns-clause-forget : goal.returns-clause-forget
+returns-clause-forget c = forget_step
 
 pub returns-clause-unchanged : goal.returns-clause-unchanged
 returns-clause-unchanged c = unchanged_step

@@ -11,6 +11,7 @@ use Rattle.join_core.specs.Flat.{known}
 use Rattle.mpx_board.specs.Looks.{look}
 use Rattle.mpx_node.specs.Nodes.{posted_by, posts_more}
 use Rattle.mpx_node.specs.Opened.{opened_of}
+use Rattle.mpx_node.specs.Stored.{after_gone}
 use Rattle.mpx_node.specs.Shown.{node_of}
 use Rattle.mpx_node.proofs.Stepping.{Contexts, seen, has, stays, does, closed_refused, unborn_refused, draft_refused, draft_posted, draft_wants}
 use Rattle.mpx_node.proofs.Keeping.{kept_joined, kept_same}
@@ -60,12 +61,12 @@ returns-in-Ok g c =
     let old = node_of c.args.self.now in
     let o = c.in-Some.opened.now in
     let post = c.in_ok-post.post in
-    let w : Opened = record { posted = o.posted + 1; results = o.results; freed = c.is_free-frees.result; counted = c.opened-1.given.0 } in
+    let w : Opened = record { posted = o.posted + 1; gone = o.gone; results = o.results; freed = c.is_free-frees.result; counted = c.opened-1.given.0 } in
     let n = c.get_mut.follows.lender w in
     let here : old.opened c.args.name.now ≡ Some (opened_of o) = has c.args.self.now.opened n c.args.name.now o w c.in-Some.ensures.value (c.get_mut.follows.holds w) in
     let frees : c.is_free-frees.result ≡ (o.freed || is_free post) = c.is_free-frees.ensures ∙ sym (ap (λ b. b || is_free post) c.if-opened.false) in
     let added : seen n ≡ (λ q. cond (same_name q c.args.name.now) (option_map (posts_more post) (seen c.args.self.now.opened q)) (seen c.args.self.now.opened q)) =
-    does c.args.self.now.opened n c.args.name.now o w c.in-Some.ensures.value (c.get_mut.follows.holds w) (posts_more post) (λ i. record { posted = o.posted + 1; results = o.results.items; freed = frees i }) in
+    does c.args.self.now.opened n c.args.name.now o w c.in-Some.ensures.value (c.get_mut.follows.holds w) (posts_more post) (λ i. record { posted = o.posted + 1; results = after_gone o.gone o.results.items; freed = frees i }) in
     let call : posted_by (old.opened c.args.name.now) ≡ o.posted = ap posted_by here in
     let board : look c.join_post.new.self ≡ join old.board (only (Held c.args.name.now (posted_by (old.opened c.args.name.now)) old.me (known post))) = c.in-Ok.ensures.ok ∙ ap (λ k. join old.board (only (Held c.args.name.now k old.me (known post)))) (sym call) in
     draft_posted _ c.args.name.now c.args.draft old _ (opened_of o) here c.in-Some-birth.birth.now c.if-opened.false (sym c.in-Some-birth.ensures) post c.in_ok-post.ensures.value (λ i. record { me = old.me; processes = old.processes; board = board i; opened = added i })

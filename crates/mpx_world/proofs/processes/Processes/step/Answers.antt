@@ -23,3 +23,6 @@ returns-in-Send g c = done_with _ _ _ c.send.result c.args.self.now c.send.new.s
 
 pub returns-in-Take : goal.returns-in-Take
 returns-in-Take g c = done_with _ _ _ c.take.result c.args.self.now c.take.new.self c.in-Take.is c.take.ensures
+
+pub returns-in-Forget : goal.returns-in-Forget
+returns-in-Forget g c = done_with _ _ _ (Ok c.forget.result) c.args.self.now c.forget.new.self c.in-Forget.is c.forget.ensures
