@@ -63,7 +63,7 @@ held_act ops a acts v name call f e = elim (kept_or_lets ops a v) [
   | inl kept ↦ inl (kept.results_kept name call f e)
   | inr lets ↦ elim (result_or_forgotten lets.0.0 lets.0.1 v.node name call f e) [
     | inl there ↦ inl (subst (λ (x : Act). result_on (act_on ops x v).node name call ≡ Some f) (sym lets.1) there)
-    | inr gone ↦ inr (first_lets a acts lets.0.0 name lets.0.1 call lets.1 (names_same name lets.0.0 gone.0) gone.1.0)
+    | inr gone ↦ inr (first_lets a acts lets.0.0 name lets.0.1 call lets.1 (names_same name lets.0.0 gone.0) gone.1)
   ]
 ]
 

@@ -16,8 +16,8 @@ use Rattle.mpx_post.specs.declared.draft.PostError.TheVariants.{Closed}
 use Rattle.mpx_board.specs.Boards.{IsGone, floor_on, minimum, told}
 use Rattle.mpx_value.specs.Histories.{posts_on}
 use Rattle.mpx_node.specs.declared.finished.Finished.{Finished}
-use Rattle.mpx_node.specs.Nodes.{OpenedView, checked_by, checked_there, freed_by, freed_on, front_on, is_fine_end, is_nothing, is_past_free, posted_by, posted_on, result_on, results_on}
-use Rattle.mpx_node.specs.Stored.{kept_of, stored_at}
+use Rattle.mpx_node.specs.Nodes.{OpenedView, checked_by, checked_there, freed_by, freed_on, front_on, is_fine_free, is_nothing, is_past_free, posted_by, posted_on, result_on, results_on}
+use Rattle.mpx_node.specs.Stored.{stored_at}
 use Rattle.mpx_world.specs.Worlds.{ProcessView, WorldView, births, history, own_front}
 use Rattle.mpx_world.specs.Soundness.{AgreesWithFact, HaveHarvested, IsMember, IsValue}
 use Rattle.mpx_world.proofs.Born.{option_map_some}
@@ -50,15 +50,14 @@ within (y ∷ ys) (suc k) x e = let l = within ys k x e in omega (arith, l)
 
 -- of results beside posts of which none is a free the last is none
 unfreed_last : (posts : List Given) (results : List (Option Finished)) → list_any is_free posts ≡ false → ((k : ℕ) (f : Finished) → stored_at results k ≡ Some f → slice_get posts k ≡ Some f.mine) → (n : ℕ) → is_past_free results n ≡ false
-unfreed_last posts results none beside n = by_last (slice_get results (length results - 1)) refl where
+unfreed_last posts results none beside n = by_last (stored_at results (length results - 1)) refl where
   by_free : (f : Finished) → slice_get posts (length results - 1) ≡ Some f.mine → (free : Bool) → is_free f.mine ≡ free → ((free && is_nothing f.outcome) && nat_le (length results) n) ≡ false
   by_free f mine true t = let some = any_at is_free posts (length results - 1) f.mine mine t in cc (none, some)
   by_free f mine false t = refl
 
-  by_last : (o : Option (Option Finished)) → slice_get results (length results - 1) ≡ o → (option_map_or is_fine_end o false && nat_le (length results) n) ≡ false
+  by_last : (o : Option Finished) → stored_at results (length results - 1) ≡ o → (option_map_or is_fine_free o false && nat_le (length results) n) ≡ false
   by_last None e = refl
-  by_last (Some None) e = refl
-  by_last (Some (Some f)) e = by_free f (beside (length results - 1) f (ap kept_of e)) (is_free f.mine) refl
+  by_last (Some f) e = by_free f (beside (length results - 1) f e) (is_free f.mine) refl
 
 -- what a draft came to where it came to a post: no free stands before it
 pub record IsChecked (ops : List Operation) (o : Option OpenedView) (b : Option BirthView) (me : ℕ) (name : Name) (draft : Draft) (given : Given) : Type 0 where
