@@ -20,7 +20,7 @@ pub returns-clause-memory : goal.returns-clause-memory
 returns-clause-memory g c = subst (λ (x : PortView × (ℕ × List Name)). OnErr c.answer_to.result (HoldsAnswer x.0 c.args.ticket.now)) c.self.view_is c.answer_to.ensures.memory
 
 pub returns-clause-then : goal.returns-clause-then
-returns-clause-then g c = answers_then c.self.inside.port c.args.ticket.now (lawful_of c.self.inside.port c.self.invariant.1 c.node.ensures.stood) c.self.invariant.1.gone_on c.answer_to.result c.answer_to.ensures.answer
+returns-clause-then g c = answers_then c.self.inside.port c.args.ticket.now (lawful_of c.self.inside.port c.self.invariant.1 c.node-node.ensures.stood) c.self.invariant.1.gone_on c.answer_to.result c.answer_to.ensures.answer
 
 pub returns-clause-wanted : goal.returns-clause-wanted
-returns-clause-wanted g c = answer_wanted c.self.inside.port c.args.ticket.now (lawful_of c.self.inside.port c.self.invariant.1 c.node.ensures.stood) c.self.invariant.1.gone_on c.answer_to.result c.answer_to.ensures.memory
+returns-clause-wanted g c = answer_wanted c.self.inside.port c.args.ticket.now (lawful_of c.self.inside.port c.self.invariant.1 c.node-node.ensures.stood) c.self.invariant.1.gone_on c.answer_to.result c.answer_to.ensures.memory
