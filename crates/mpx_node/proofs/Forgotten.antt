@@ -7,7 +7,8 @@ use Rattle.mpx_name.specs.Order.{name_equality}
 use Rattle.mpx_node.specs.declared.finished.Finished.{Finished}
 use Rattle.mpx_node.specs.Nodes.{NodeView, OpenedView, freed_by, freed_on, front_on, is_fine_free, is_past_free, posted_by, posted_on, result_on, results_by, results_on}
 use Rattle.mpx_node.specs.Stored.{count_gone, let_go, stored_at}
-use Rattle.mpx_node.specs.Forgetting.{forgets, forgotten_on, lets_go}
+use Rattle.mpx_node.specs.Forgetting.{forgets, forgotten_on}
+use Rattle.mpx_node.specs.Opened.{lets_go}
 use Rattle.mpx_node.proofs.Gone.{gone_lets, last_stays, length_lets, stored_before, stored_or_gone}
 
 let_go_none : {A : Type 0} (below : ℕ) → let_go {A = A} below [] ≡ []
@@ -55,7 +56,7 @@ module _ (below : ℕ) where
   or_gone_by_test false xs k x e = inl e
 
   past_by_test : (b : Bool) (xs : List (Option Finished)) (number : ℕ) → is_past_free (cond b (let_go below xs) xs) number ≡ is_past_free xs number
-  past_by_test true xs number i = option_map_or is_fine_free (last_stays below xs i) false && nat_le (length_lets below xs i) number
+  past_by_test true xs number = λ i. option_map_or is_fine_free (last_stays below xs i) false && nat_le (length_lets below xs i) number
   past_by_test false xs number = refl
 
 module _ (name : Name) (below : ℕ) (node : NodeView) where

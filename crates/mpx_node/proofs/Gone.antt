@@ -86,19 +86,18 @@ module _ {A : Type 0} where
       ∙ ap (λ i. after_gone i (drop m (y ∷ xs))) step
 
   -- up to a place, where that is further than what is gone
-  pub lets_up_to : (below gone most : ℕ) (xs rest : List A) → ((most ≡ below) × (below ≤ gone + length xs - 1)) ⊎ ((most ≡ gone + length xs - 1) × (gone + length xs - 1 ≤ below)) → gone < most → rest ≡ drop (most - gone) xs
+  pub lets_up_to : (below gone most : ℕ) (xs rest : List A) → most ≤ below → most ≤ gone + length xs - 1 → (most < gone + length xs - 1 → below ≤ most) → gone < most → rest ≡ drop (most - gone) xs
       → after_gone most rest ≡ let_go below (after_gone gone xs)
-  lets_up_to below gone most xs rest (inl b) l e =
-      ap (after_gone most) e ∙ ap (λ i. after_gone i (drop (most - gone) xs)) (omega (arith, l))
-      ∙ sym (gone_more below gone (most - gone) xs (omega (arith, b.0, b.1, l)) (omega (arith, b.0)) (λ m. omega (arith, b.0)))
-  lets_up_to below gone most xs rest (inr b) l e =
-      ap (after_gone most) e ∙ ap (λ i. after_gone i (drop (most - gone) xs)) (omega (arith, l))
-      ∙ sym (gone_more below gone (most - gone) xs (omega (arith, b.0)) (omega (arith, b.0, b.1)) (λ m. omega (arith, b.0, m)))
+  lets_up_to below gone most xs rest low within all l e =
+      let place : most ≡ gone + (most - gone) = omega (arith, l) in
+      ap (after_gone most) e ∙ ap (λ i. after_gone i (drop (most - gone) xs)) place
+      ∙ sym (gone_more below gone (most - gone) xs (omega (arith, within, l)) (omega (arith, low)) (λ m. let r = all (omega (arith, m, l)) in omega (arith, r)))
 
   -- and none, where it isn't
-  pub lets_none : (below gone most : ℕ) (xs : List A) → ((most ≡ below) × (below ≤ gone + length xs - 1)) ⊎ ((most ≡ gone + length xs - 1) × (gone + length xs - 1 ≤ below)) → most ≤ gone → after_gone gone xs ≡ let_go below (after_gone gone xs)
-  lets_none below gone most xs (inl b) l = sym (gone_more below gone 0 xs (omega arith) (omega arith) (λ m. omega (arith, b.0, l)) ∙ ap (λ i. after_gone i xs) (omega arith))
-  lets_none below gone most xs (inr b) l = sym (gone_more below gone 0 xs (omega arith) (omega arith) (λ m. absurd (omega (arith, b.0, l, m))) ∙ ap (λ i. after_gone i xs) (omega arith))
+  pub lets_none : (below gone most : ℕ) (xs : List A) → (most < gone + length xs - 1 → below ≤ most) → most ≤ gone → after_gone gone xs ≡ let_go below (after_gone gone xs)
+  lets_none below gone most xs all l =
+      let place : gone ≡ gone + 0 = omega arith in
+      ap (λ i. after_gone i xs) place ∙ sym (gone_more below gone 0 xs (omega arith) (omega arith) (λ m. let r = all (omega (arith, m, l)) in omega (arith, r, l)))
 
   -- there is room for one more where fewer are stored than posted
   pub room_for_one : (posted gone : ℕ) (xs reserved pushed : List A) (x : A) → length (after_gone gone xs) < posted → reserved ≡ xs → pushed ≡ reserved ++ x ∷ [] → nat_le (gone + length pushed) posted ≡ true
@@ -110,7 +109,7 @@ module _ {A : Type 0} where
   -- the last one is the last of those that are left
   pub end_after : (n : ℕ) (xs : List A) → stored_at (after_gone n xs) (length (after_gone n xs) - 1) ≡ slice_get xs (length xs - 1)
   end_after zero [] = refl
-  end_after (suc n) [] = let l = length_after (suc n) ([] {A = A}) in none_before (suc n) [] (length (after_gone (suc n) ([] {A = A})) - 1) (omega (arith, l))
+  end_after (suc n) [] = let l = length_after {A = A} (suc n) [] in none_before (suc n) [] (length (after_gone {A = A} (suc n) []) - 1) (omega (arith, l))
   end_after n (x ∷ xs) =
       let l = length_after n (x ∷ xs) in
       stored_from n (x ∷ xs) (length (after_gone n (x ∷ xs)) - 1) (omega (arith, l)) ∙ ap (slice_get (x ∷ xs)) (omega (arith, l))
@@ -178,8 +177,9 @@ module _ {A : Type 0} where
   last_stays (suc n) (o ∷ []) = refl
   last_stays (suc n) (o ∷ p ∷ xs) =
       let l = length_lets n (p ∷ xs) in
-      ap (stored_at (None ∷ let_go n (p ∷ xs))) (let e : suc (length (let_go n (p ∷ xs))) - 1 ≡ suc (length (let_go n (p ∷ xs)) - 1) = omega (arith, l) in e)
-      ∙ last_stays n (p ∷ xs)
+      let first : length (let_go (suc n) (o ∷ p ∷ xs)) - 1 ≡ suc (length (let_go n (p ∷ xs)) - 1) = omega (arith, l) in
+      let last : length (o ∷ p ∷ xs) - 1 ≡ suc (length (p ∷ xs) - 1) = omega arith in
+      ap (stored_at (let_go (suc n) (o ∷ p ∷ xs))) first ∙ last_stays n (p ∷ xs) ∙ sym (ap (stored_at (o ∷ p ∷ xs)) last)
 
   pub stored_within : (xs : List (Option A)) (k : ℕ) (x : A) → stored_at xs k ≡ Some x → k < length xs
   stored_within [] k x e = cc e

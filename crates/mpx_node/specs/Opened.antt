@@ -1,5 +1,5 @@
 -- What was done on a context, and on all that are opened.
-use Rattle.std.specs.Prelude.{◌<◌, length, [], ◌∷◌, ◌++◌, cond, Option, Some}
+use Rattle.std.specs.Prelude.{◌<◌, ℕ, length, [], ◌∷◌, ◌++◌, cond, Option, Some}
 use Rattle.std.specs.Option.{option_map}
 use Rattle.std.specs.BTreeMap.{BTreeMap, get}
 use Rattle.mpx_name.specs.Order.{name_cmp}
@@ -7,7 +7,7 @@ use Rattle.mpx_name.specs.Name.{Name, same_name}
 use Rattle.mpx_node.specs.declared.finished.Finished.{Finished}
 use Rattle.mpx_node.specs.declared.opened.Opened.{Opened}
 use Rattle.mpx_node.specs.Nodes.{OpenedView, posted_by, results_by}
-use Rattle.mpx_node.specs.Stored.{after_gone}
+use Rattle.mpx_node.specs.Stored.{after_gone, let_go}
 
 -- how many calls are posted, the results of those that are harvested, of which the first are let go, and whether a free is posted
 abbrev pub opened_of : Opened → OpenedView
@@ -24,3 +24,7 @@ stored_by name finished opened q = cond (same_name q name) (option_map (λ (o : 
 -- a call is posted there whose result isn't stored
 abbrev pub HasUnfinished : (Name → Option OpenedView) → Name → Type 0
 HasUnfinished opened name = length (results_by (opened name)) < posted_by (opened name)
+
+-- the results below this call are let go, but never the newest
+abbrev pub lets_go : (below : ℕ) → OpenedView → OpenedView
+lets_go below o = record o { results = let_go below o.results }

@@ -1,14 +1,10 @@
 -- The results that a process stores of a context's calls, of which it may let the first go.
 use Rattle.std.specs.Prelude.{ℕ, zero, suc, List, [], ◌∷◌, map, slice_get, Option, Some, None}
+use Rattle.std.specs.Option.{option_flatten}
 
--- what there is of a place: nothing where nothing is there, or where it was let go
-abbrev pub kept_of : {A : Type 0} → Option (Option A) → Option A
-kept_of None = None
-kept_of (Some o) = o
-
--- the one at a place that wasn't let go
+-- the one at a place: none where nothing is there, or where it was let go
 abbrev pub stored_at : {A : Type 0} → List (Option A) → (call : ℕ) → Option A
-stored_at stored call = kept_of (slice_get stored call)
+stored_at stored call = option_flatten (slice_get stored call)
 
 -- those at the places below this one are let go, but never the last. There are as many places as before
 abbrev pub let_go : {A : Type 0} → (below : ℕ) → List (Option A) → List (Option A)

@@ -6,6 +6,7 @@
 mod deltas;
 mod finished;
 mod forgetting;
+mod harvesting;
 mod node;
 mod opened;
 mod opening;

@@ -21,8 +21,7 @@ pub struct Opened {
 impl Opened {
     ghost use Rattle.mpx_node.specs.Nodes.{fresh, is_fine_free, is_past_free};
     ghost use Rattle.mpx_node.specs.Stored.{count_gone, stored_at};
-    ghost use Rattle.mpx_node.specs.Forgetting.{lets_go};
-    ghost use Rattle.mpx_node.specs.Opened.{opened_of};
+    ghost use Rattle.mpx_node.specs.Opened.{lets_go, opened_of};
 
     // Before any post.
     pub fn new(alloc: Global) -> Opened

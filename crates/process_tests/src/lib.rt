@@ -12,6 +12,8 @@ mod desks;
 #[cfg(test)]
 mod looks;
 #[cfg(test)]
+mod node_rows;
+#[cfg(test)]
 mod world_rows;
 #[cfg(test)]
 mod worlds;

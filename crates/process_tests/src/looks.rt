@@ -1,5 +1,6 @@
 //! What is seen of a node.
 use join_core::Exact;
+use mpx_name::Name;
 use mpx_node::{Finished, Node, PartError};
 use mpx_value::Outcome;
 use std::alloc::Global;
@@ -21,6 +22,8 @@ pub enum Look {
     OnePart,
     // Ten bytes are too few for the board.
     DoesNotFit,
+    // So many results on the context of all are let go, and no more.
+    Forgotten(u32),
 }
 
 // The first number that a call gave.
@@ -58,6 +61,14 @@ fn fits(alloc: Global, node: &Node, limit: usize) -> bool {
     !matches!(node.part(alloc, limit), Err(PartError::DoesNotFit))
 }
 
+// It has the result of the first call that isn't let go, and none of the one before it.
+pub fn has_forgotten(alloc: Global, node: &Node, below: u32) -> bool {
+    let world = Name::world(alloc);
+    node.forgotten(&world) == below
+        && node.result(&world, below).is_some()
+        && (below == 0 || node.result(&world, below - 1).is_none())
+}
+
 // Whether this is seen of the node.
 pub fn is_seen(alloc: Global, node: &Node, look: Look) -> Result<bool, Fail> {
     match look {
@@ -67,5 +78,6 @@ pub fn is_seen(alloc: Global, node: &Node, look: Look) -> Result<bool, Fail> {
         Look::Unborn(on) => Ok(!is_born(alloc, node, on)?),
         Look::OnePart => is_one_part(alloc, node),
         Look::DoesNotFit => Ok(!fits(alloc, node, 10)),
+        Look::Forgotten(below) => Ok(has_forgotten(alloc, node, below)),
     }
 }

@@ -92,7 +92,7 @@ const NONE_TAKEN: &[Row] = &[
 ];
 
 // Rank 1 posts five calls, sends once and stops. The others harvest all five, and drop none, also once they know of each other that they
-// have.
+// have. What they let go are results, and never the newest.
 const STOPS: &[Row] = &[
     (5, 1, Act::Barrier, Told::Posted(0)),
     (1, 1, Act::Send, Told::Sent(0)),
@@ -106,6 +106,9 @@ const STOPS: &[Row] = &[
     (1, 2, Act::Take(1), Told::Taken),
     (5, 0, Act::Harvest, Told::Harvested(0)),
     (5, 2, Act::Harvest, Told::Harvested(0)),
+    (1, 0, Act::Forget(9), Told::Forgot),
+    (1, 2, Act::Forget(2), Told::Forgot),
+    (1, 3, Act::Forget(2), Told::NoSuchProcess),
     (1, 0, Act::Prune(1), Told::AboveFloor(0)),
     (1, 2, Act::Prune(1), Told::AboveFloor(0)),
     (1, 0, Act::Send, Told::Sent(3)),
@@ -132,6 +135,9 @@ const NOTHING: Seen = (&[], &[]);
 
 // The whole board of each of three ranks that have posted is its one part.
 const ONE_PART_EACH: &[(u8, Look)] = &[(0, Look::OnePart), (1, Look::OnePart), (2, Look::OnePart)];
+
+// How many results the ranks let go that harvested five.
+const LET_GO: &[(u8, Look)] = &[(0, Look::Forgotten(4)), (2, Look::Forgotten(2))];
 
 // Of a rank and of a relay that have done nothing.
 const TOO_LONG: &[(u8, Look)] = &[(1, Look::DoesNotFit), (3, Look::DoesNotFit)];
@@ -166,7 +172,7 @@ const WORLDS: [(&str, u8, u8, &[Row], Seen); 6] = [
         NONE_TAKEN,
         NOTHING,
     ),
-    ("a rank that stops", 3, 3, STOPS, NOTHING),
+    ("a rank that stops", 3, 3, STOPS, (LET_GO, &[])),
     ("ten thousand events", 2, 2, TEN_THOUSAND, NOTHING),
 ];
 

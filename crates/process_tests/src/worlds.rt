@@ -26,6 +26,8 @@ pub enum Act {
     Take(usize),
     // It opens the gathering of ranks 0 and 2.
     Gather,
+    // It lets go its results of the calls below this one.
+    Forget(u32),
 }
 
 // What it is told.
@@ -40,6 +42,7 @@ pub enum Told {
     AboveFloor(u32),
     Sent(usize),
     Taken,
+    Forgot,
     NoSuchProcess,
     NoSuchPart,
 }
@@ -81,6 +84,7 @@ fn event(alloc: Global, number: u8, act: Act) -> Result<Event, Fail> {
             Ok(Event::Send { proc, cut })
         }
         Act::Take(part) => Ok(Event::Take { proc, part }),
+        Act::Forget(below) => Ok(Event::Forget { proc, name, below }),
     }
 }
 
@@ -96,6 +100,7 @@ fn reply(alloc: Global, told: Told, times: u32) -> Result<Reply, Fail> {
         Told::AboveFloor(floor) => Ok(Reply::PruneRefused(PruneError::AboveFloor(floor))),
         Told::Sent(place) => Ok(Reply::Sent(place.wrapping_add(times as usize))),
         Told::Taken => Ok(Reply::Taken),
+        Told::Forgot => Ok(Reply::Forgot),
         Told::NoSuchProcess => Ok(Reply::NoSuchProcess),
         Told::NoSuchPart => Ok(Reply::NoSuchPart),
     }

@@ -1,7 +1,9 @@
 use Rattle.std.proofs.Common.{◌≡◌, ◌∙◌, None, sym, ap, rules}
+use Rattle.std.specs.BTreeMap.{BTreeMap}
 use Rattle.std.specs.Option.{option_map}
-use Rattle.mpx_node.specs.Forgetting.{lets_go}
-use Rattle.mpx_node.specs.Opened.{opened_of}
+use Rattle.mpx_name.specs.Name.{Name}
+use Rattle.mpx_node.specs.declared.opened.Opened.{Opened}
+use Rattle.mpx_node.specs.Opened.{lets_go, opened_by, opened_of}
 use Rattle.mpx_node.specs.Shown.{node_of}
 use Rattle.mpx_node.proofs.Forgotten.{forgets_nothing}
 use Rattle.mpx_node.proofs.Stepping.{Contexts, does}
@@ -12,7 +14,7 @@ returns-in_default c =
     let old = node_of c.args.self.now in
     let same : c.get_mut.follows.lender-at-none ≡ c.args.self.now.opened = search rules in
     let none : old.opened c.args.name.now ≡ None = sym (ap (option_map opened_of) c.in_default.ensures.value) in
-    forgets_nothing c.args.name.now c.args.below old none
+    ap (λ (m : BTreeMap Name Opened). record old { opened = opened_by m }) same ∙ forgets_nothing c.args.name.now c.args.below old none
 
 pub returns : goal.returns
 returns c =
