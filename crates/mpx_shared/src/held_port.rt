@@ -5,9 +5,10 @@ ghost use Rattle.mpx_node.specs.Forgetting.{forgets};
 ghost use Rattle.mpx_bus.specs.Answers.{PushesNext};
 ghost use Rattle.mpx_bus.specs.Ports.{PortGoes, node_in};
 ghost use Rattle.mpx_bus.specs.Buses.{table_of};
+ghost use Rattle.mpx_ticket.specs.Tickets.{HoldsAnswer, IsAnswer};
 ghost use Rattle.mpx_shared.specs.LawfulPorts.{HasGoneOn, IsLawful, IsNext, MakesNoPost, made_in};
 ghost use Rattle.mpx_shared.specs.Gossip.{Pulls, frame_limit};
-ghost use Rattle.mpx_shared.specs.Tickets.{AnswersTicket, ForgetsThen, HeldAnswer, HoldsAnswer, IsAnswer, OpensThen, PostsThen, TellsBirth, TellsClosed, ToldBirth, birth_on, call_of};
+ghost use Rattle.mpx_shared.specs.Tickets.{AnswersTicket, ForgetsThen, HeldAnswer, OpensThen, PostsThen, TellsBirth, TellsClosed, ToldBirth, birth_on, call_of};
 ghost use Rattle.mpx_shared.specs.Turns.{PullsThen, PutsThen};
 
 use crate::contexts::{add_context, leave_dead, new_context};

@@ -1,5 +1,5 @@
 -- What a ticket is, and what a port answers it.
-use Rattle.std.specs.Prelude.{◌≡◌, ◌≢◌, ◌<◌, ◌≤◌, ℕ, List, Option, None, Some, Ok, slice_get}
+use Rattle.std.specs.Prelude.{◌≡◌, ◌≢◌, ◌<◌, ◌≤◌, List, Option, None, Some, Ok, slice_get}
 use Rattle.mpx_name.specs.Name.{Name}
 use Rattle.mpx_num.specs.declared.own.Operation.{Operation}
 use Rattle.mpx_post.specs.Posts.{Given}

@@ -5,25 +5,25 @@ use Rattle.mpx_ticket.proofs.Answering.{answer_done, answer_held, answer_kept, a
 use Rattle.mpx_ticket.proofs.asking.answer_to.Goals as goal
 
 pub returns-then-not-same-clause-answer : goal.returns-then-not-same-clause-answer
-returns-then-not-same-clause-answer g c =
+returns-then-not-same-clause-answer c =
     answer_other c.args.port.now c.args.ticket.now (node_of c.node-node.result.now) (c.node-node.ensures.stood c.requires.plan) c.node-node.ensures.node c.in-Some.finished.now (sym c.in-Some.ensures) (sym c.same.ensures ∙ c.if-not-same.true)
 
 pub returns-in-Some-clause-answer : goal.returns-in-Some-clause-answer
-returns-in-Some-clause-answer g c =
+returns-in-Some-clause-answer c =
     answer_done c.args.port.now c.args.ticket.now (node_of c.node-node.result.now) (c.node-node.ensures.stood c.requires.plan) c.node-node.ensures.node c.in-Some.finished.now c.in_ok-copy.field-0 (sym c.in-Some.ensures) (sym c.same.ensures ∙ c.if-not-same.false) c.in_ok-copy.ensures
 
 pub returns-in_default-holds-clause-answer : goal.returns-in_default-holds-clause-answer
-returns-in_default-holds-clause-answer g c =
+returns-in_default-holds-clause-answer c =
     answer_unknown c.args.port.now c.args.ticket.now (node_of c.node-node.result.now) (c.node-node.ensures.stood c.requires.plan) c.node-node.ensures.node (look c.board.result.now) c.args.me (sym c.in_default.ensures) c.board.ensures c.requires.me c.in_default-holds.ensures
 
 pub returns-then-not-same-2-clause-answer : goal.returns-then-not-same-2-clause-answer
-returns-then-not-same-2-clause-answer g c =
+returns-then-not-same-2-clause-answer c =
     answer_kept c.args.port.now c.args.ticket.now (node_of c.node-node.result.now) (c.node-node.ensures.stood c.requires.plan) c.node-node.ensures.node (look c.board.result.now) c.args.me (sym c.in_default.ensures) c.board.ensures c.requires.me c.in-Some-holds.mine.now c.in-Some-holds.ensures (sym c.same-2.ensures ∙ c.if-not-same-2.true)
 
 pub returns-clause-answer : goal.returns-clause-answer
-returns-clause-answer g c =
+returns-clause-answer c =
     answer_not_yet c.args.port.now c.args.ticket.now (node_of c.node-node.result.now) (c.node-node.ensures.stood c.requires.plan) c.node-node.ensures.node (look c.board.result.now) c.args.me (sym c.in_default.ensures) c.board.ensures c.requires.me c.in-Some-holds.mine.now c.in-Some-holds.ensures (sym c.same-2.ensures ∙ c.if-not-same-2.false)
 
 pub returns-in_err-copy-clause-memory : goal.returns-in_err-copy-clause-memory
-returns-in_err-copy-clause-memory g c =
+returns-in_err-copy-clause-memory c =
     on_err c.from_residual.result (answer_held c.args.port.now c.args.ticket.now (node_of c.node-node.result.now) (c.node-node.ensures.stood c.requires.plan) c.node-node.ensures.node c.in-Some.finished.now (sym c.in-Some.ensures) (sym c.same.ensures ∙ c.if-not-same.false))
