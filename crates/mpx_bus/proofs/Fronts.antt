@@ -14,6 +14,7 @@ use Rattle.mpx_board.proofs.Facts.{IsContextUnder, IsUnder, fold_above_each, und
 use Rattle.mpx_node.specs.declared.finished.Finished.{Finished}
 use Rattle.mpx_node.specs.Nodes.{NodeView, fresh, results_by, results_on, front_on, front_fact, births_of, harvest_part, checked_on, next_result, gathers_on, gathering_name, gathering_fact, learn, prune_part}
 use Rattle.std.specs.Prelude.{nat_lt, ◌&&◌}
+use Rattle.mpx_node.proofs.Forgotten.{front_forgotten}
 use Rattle.mpx_world.specs.Drafted.{makes_checked}
 use Rattle.mpx_world.specs.Worlds.{ProcessView, made_next, stores, opens_gathering, drops, takes, learns, post_fact}
 use Rattle.mpx_world.proofs.Lists.{itself, name_itself}
@@ -87,7 +88,7 @@ tells_stores ops name (Some finished) v t n =
     let joined : Look = join v.node.board part in
     subst (λ xs. IsFront (joined.contexts n) v.node.me (length xs)) (sym (results_added name finished made v.node n))
     (results_stored name n finished v.node (λ xs. IsFront (joined.contexts n) v.node.me (length xs))
-    (λ same. subst (λ k. IsFront (joined.contexts n) v.node.me k) (sym (length-append (results_on v.node n) (finished ∷ [])))
+    (λ same. subst (λ k. IsFront (joined.contexts n) v.node.me k) (sym (length-append (results_on v.node n) (Some finished ∷ [])))
     (subst (λ m. IsFront (joined.contexts m) v.node.me (front_on v.node m + 1)) (sym same)
     (front_above part joined name v.node.me (front_on v.node name + 1) (under_second v.node.board part) (harvest_tells name made v.node))))
     (tells_learns part v t n))
@@ -99,6 +100,7 @@ tells_act ops (A.Posted name draft) v t = tells_makes name (checked_on ops v.nod
 tells_act ops (A.Harvested name) v t = tells_stores ops name (next_result ops v.node name) v t
 tells_act ops (A.Gathered parent tag ranks) v t = tells_opens parent (gathers_on v.node parent tag ranks) v t
 tells_act ops (A.Pruned name n) v t = tells_drops name n (pruned_on v.node.board name n) v t
+tells_act ops (A.Forgot name below) v t n = subst (λ k. IsFront (v.node.board.contexts n) v.node.me k) (sym (front_forgotten name below v.node n)) (t n)
 tells_act ops (A.Took bytes) v t = tells_learns (part_of bytes) v t
 tells_act ops (A.StoppedTaking bytes left) v t = tells_learns (look left) v t
 tells_act ops (A.Acknowledged board) v t = tells_learns (own_acks v.node.me (said_on board v)) v t

@@ -10,7 +10,7 @@ use Rattle.mpx_board.specs.Looks.{look}
 use Rattle.mpx_board.specs.Contexts.{look_of}
 use Rattle.mpx_format.proofs.Decoded.{decoded_again}
 use Rattle.mpx_delta.specs.Digests.{HasUpTo}
-use Rattle.mpx_world.specs.Worlds.{ProcessView, WorldView, learns, takes, acknowledges, at_process, Happening, Harvests, Gathers, Prunes, Sends, Takes, TakesPartly, Acknowledges, IsSeen, happens, goes_on, MayLeave, MayHappen, MayGoOn}
+use Rattle.mpx_world.specs.Worlds.{ProcessView, WorldView, learns, takes, acknowledges, at_process, Happening, Harvests, Gathers, Prunes, Sends, Takes, TakesPartly, Acknowledges, Forgets, IsSeen, happens, goes_on, MayLeave, MayHappen, MayGoOn}
 use Rattle.mpx_world.proofs.Lists.{itself, same_number, cond_cases, slice_get-push}
 use Rattle.mpx_world.proofs.Steps.{Holds, board_so}
 use Rattle.mpx_world.proofs.Drafted.{at_same}
@@ -130,6 +130,7 @@ step_of published w p (A.Posted name draft) h sent is = leads_draft w p name dra
 step_of published w p (A.Harvested name) h sent is = leads_by w (Harvests p name) tt
 step_of published w p (A.Gathered parent tag ranks) h sent is = leads_by w (Gathers p parent tag ranks) tt
 step_of published w p (A.Pruned name n) h sent is = leads_by w (Prunes p name n) tt
+step_of published w p (A.Forgot name below) h sent is = leads_by w (Forgets p name below) tt
 step_of published w p (A.Took bytes) h sent is =
     let s : IsSent w.parts bytes = sent bytes is in
     by_one w _ (Takes p s.place) tt (ap (λ o. at_process p (takes o) w) s.sent ∙ ap (λ b. at_process p (learns b) w) (sym (part_is w.parts bytes s)))

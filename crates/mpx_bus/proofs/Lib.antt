@@ -4,6 +4,7 @@ pub mod Moves
 pub mod Makes
 pub mod Meets
 pub mod Seen
+pub mod Keeping
 pub mod Ports
 pub mod Goes
 pub mod Answers

@@ -26,14 +26,14 @@ use Rattle.mpx_delta.specs.Facts.{OnlyFactsOf}
 use Rattle.mpx_delta.specs.Digests.{HasUpTo}
 use Rattle.mpx_node.specs.declared.finished.Finished.{Finished}
 use Rattle.mpx_node.specs.declared.node.Harvest.TheVariants as H
+use Rattle.mpx_node.specs.Forgetting.{forgets}
 use Rattle.mpx_node.specs.Harvests.{Harvests}
 use Rattle.mpx_node.specs.Deltas.{LacksOn, SaysWhatItHas, lacking_on}
 use Rattle.mpx_node.specs.Nodes.{NodeView, Posts, Opens, StopsTaking, checked_on, next_result, gathers_on, start_node, learn, learn_some, prune_part}
 use Rattle.mpx_world.specs.Drafted.{makes_checked}
 use Rattle.mpx_world.specs.Worlds.{ProcessView, stores, opens_gathering, drops, takes, in_board}
 use Rattle.mpx_world.proofs.Lists.{itself, same_number, name_itself, slice_get-push, take-all, join_all-push}
-use Rattle.mpx_world.proofs.Drafted.{kept_checked}
-use Rattle.mpx_world.proofs.Kept.{Kept, kept_itself, kept_stores, kept_opens, kept_drops, kept_learns, kept_then, taken_node}
+use Rattle.mpx_world.proofs.Kept.{taken_node}
 use Rattle.mpx_world.proofs.Covering.{digest_had}
 use Rattle.mpx_world.proofs.Whole.{well_by}
 use Rattle.mpx_bus.specs.declared.act.Act.{Act}
@@ -46,6 +46,7 @@ use Rattle.mpx_bus.specs.Rule.{IsPlanned, IsSent, Stood, planned_posts, world_of
 use Rattle.mpx_bus.specs.Frames.{AreSpelled}
 use Rattle.mpx_bus.specs.Ports.{AreDeltas, IsPort, MayPushAll}
 use Rattle.mpx_bus.proofs.Journals.{after-append, ahead_itself, ahead_more, did_last, one_of, onward, popped_before}
+use Rattle.mpx_bus.proofs.Keeping.{board_after}
 use Rattle.mpx_bus.proofs.Moves.{push_same, pop_same}
 use Rattle.mpx_bus.proofs.Seen.{may_push_later}
 use Rattle.mpx_bus.proofs.Spelled.{spelled_facts, spelled_fit, spelled_parts}
@@ -84,6 +85,7 @@ joined_act ops (A.Posted name draft) v e = joined_makes name (checked_on ops v.n
 joined_act ops (A.Harvested name) v e = joined_stores ops name (next_result ops v.node name) v e
 joined_act ops (A.Gathered parent tag ranks) v e = joined_opens parent (gathers_on v.node parent tag ranks) v e
 joined_act ops (A.Pruned name n) v e = joined_drops name n (pruned_on v.node.board name n) v e
+joined_act ops (A.Forgot name below) v e = e
 joined_act ops (A.Took bytes) v e = grown v (part_of bytes) e
 joined_act ops (A.StoppedTaking bytes left) v e = grown v (look left) e
 joined_act ops (A.Acknowledged board) v e = grown v (own_acks v.node.me (said_on board v)) e
@@ -109,26 +111,11 @@ sends_part setup p journal bytes view spells only =
 
 -- A PROCESS KEEPS THE BIRTH OF THE WORLD
 
-kept_act : (ops : List Operation) (a : Act) (v : ProcessView) → Kept v (act_on ops a v)
-kept_act ops (A.Posted name draft) v = kept_checked name (checked_on ops v.node name draft) v
-kept_act ops (A.Harvested name) v = kept_stores ops name (next_result ops v.node name) v
-kept_act ops (A.Gathered parent tag ranks) v = kept_opens parent (gathers_on v.node parent tag ranks) v
-kept_act ops (A.Pruned name n) v = kept_drops name n (pruned_on v.node.board name n) v
-kept_act ops (A.Took bytes) v = kept_learns (part_of bytes) v
-kept_act ops (A.StoppedTaking bytes left) v = kept_learns (look left) v
-kept_act ops (A.Acknowledged board) v = kept_learns (own_acks v.node.me (said_on board v)) v
-kept_act ops (A.Pushed bytes) v = kept_itself v
-kept_act ops (A.Popped bytes) v = kept_itself v
-
-pub kept_after : (ops : List Operation) (acts : List Act) (v : ProcessView) → Kept v (after ops acts v)
-kept_after ops [] v = kept_itself v
-kept_after ops (a ∷ acts) v = kept_then v (act_on ops a v) (after ops acts (act_on ops a v)) (kept_act ops a v) (kept_after ops acts (act_on ops a v))
-
 abbrev opening_birth : Setup → BirthView
 opening_birth setup = of_members (upto setup.ranks)
 
 born_at : (setup : Setup) (p : ℕ) (acts : List Act) → Stands (node_at setup p acts).board (Born [] (known (opening_birth setup)))
-born_at setup p acts = (kept_after setup.operations acts (at_start setup p)).board_kept (Born [] (known (opening_birth setup))) ((λ e. cc e), ap (λ b. (cond b (record nothing { birth = known (opening_birth setup) }) nothing).birth) (name_itself []))
+born_at setup p acts = board_after setup.operations acts (at_start setup p) (Born [] (known (opening_birth setup))) ((λ e. cc e), ap (λ b. (cond b (record nothing { birth = known (opening_birth setup) }) nothing).birth) (name_itself []))
 
 -- so a list of deltas isn't empty
 pub deltas_some : (setup : Setup) (p : ℕ) (acts : List Act) (frames : List (List ℕ)) → join_all (map part_of frames) ≡ lacking_on (node_at setup p acts) → frames ≡ [] → ⊥
@@ -372,3 +359,7 @@ port_same node now v journal new p is same = subst (λ (y : NodeView × List Act
 pub post_same : (name : Name) (r : Result Given PostError) (e : PostError) (old now : NodeView) → Posts name r (Err e) old now → now ≡ old
 post_same name (Ok given) e old now p = p.1
 post_same name (Err refusal) e old now p = p.1
+
+-- results that are let go
+pub forget_does : (ops : List Operation) (name : Name) (below : ℕ) (v : ProcessView) (node now : NodeView) → node ≡ v.node → now ≡ forgets name below node → now ≡ (act_on ops (A.Forgot name below) v).node
+forget_does ops name below v node now is does = does ∙ ap (forgets name below) is

@@ -55,6 +55,7 @@ grows_act ops (A.Posted name draft) v = grows_makes name (checked_on ops v.node 
 grows_act ops (A.Harvested name) v = grows_stores ops name (next_result ops v.node name) v
 grows_act ops (A.Gathered parent tag ranks) v = grows_opens parent (gathers_on v.node parent tag ranks) v
 grows_act ops (A.Pruned name n) v = grows_drops name n (pruned_on v.node.board name n) v
+grows_act ops (A.Forgot name below) v = record { more = []; is = sym (append-nil v.learned) }
 grows_act ops (A.Took bytes) v = record { more = part_of bytes ∷ []; is = refl }
 grows_act ops (A.StoppedTaking bytes left) v = record { more = look left ∷ []; is = refl }
 grows_act ops (A.Acknowledged board) v = record { more = own_acks v.node.me (said_on board v) ∷ []; is = refl }

@@ -1,5 +1,5 @@
 -- What the acts of a process come to.
-use Rattle.std.specs.Prelude.{◌≡◌, ◌≤◌, ◌⊎◌, ℕ, List, [], ◌∷◌, ◌++◌, slice_get, Some}
+use Rattle.std.specs.Prelude.{◌≡◌, ◌<◌, ◌≤◌, ◌⊎◌, ℕ, List, [], ◌∷◌, ◌++◌, slice_get, Some}
 use Rattle.mpx_name.specs.Name.{Name}
 use Rattle.mpx_num.specs.declared.own.Operation.{Operation}
 use Rattle.mpx_board.specs.declared.board.Board.{Board}
@@ -10,7 +10,7 @@ use Rattle.mpx_board.specs.Parts.{PartsView}
 use Rattle.mpx_format.specs.Decoding.{IsSpelled}
 use Rattle.mpx_delta.specs.Digests.{HasUpTo}
 use Rattle.mpx_node.specs.Nodes.{NodeView}
-use Rattle.mpx_world.specs.Worlds.{ProcessView, WorldView, harvests, gathers, prunes, learns, acknowledges, start, IsSeen}
+use Rattle.mpx_world.specs.Worlds.{ProcessView, WorldView, harvests, gathers, prunes, lets_results_go, learns, acknowledges, start, IsSeen}
 use Rattle.mpx_world.specs.Drafted.{posts}
 use Rattle.mpx_bus.specs.declared.act.Act.{Act}
 use Rattle.mpx_bus.specs.declared.act.Act.TheVariants as A
@@ -28,6 +28,7 @@ module _ (ops : List Operation) where
   act_on (A.Harvested name) v = harvests ops name v
   act_on (A.Gathered parent tag ranks) v = gathers parent tag ranks v
   act_on (A.Pruned name n) v = prunes name n v
+  act_on (A.Forgot name below) v = lets_results_go name below v
   act_on (A.Took bytes) v = learns (part_of bytes) v
   act_on (A.StoppedTaking bytes left) v = learns (look left) v
   act_on (A.Acknowledged board) v = acknowledges (said_on board v) v
@@ -59,6 +60,13 @@ pub record DidIn (journal : List Act) (a : Act) : Type 0 where
   pub at : ℕ
   pub did : slice_get journal at ≡ Some a
 
+-- among these acts the process let the results of a context's calls go, up to this one
+pub record HasLetGo (acts : List Act) (name : Name) (call : ℕ) : Type 0 where
+  pub place : ℕ
+  pub below : ℕ
+  pub there : slice_get acts place ≡ Some (A.Forgot name below)
+  pub within : call < below
+
 -- it has what it says there, or said so before
 abbrev pub SaysNoMore : Board → ProcessView → Type 0
 SaysNoMore board v = (name : Name) (m : ℕ) → HasUpTo v.node.board name m (said_on board v name m) ⊎ (said_on board v name m ≤ v.node.board.acks v.node.me name m)
@@ -71,6 +79,7 @@ IsLocal published v (A.Posted name draft) = Unit {0}
 IsLocal published v (A.Harvested name) = Unit {0}
 IsLocal published v (A.Gathered parent tag ranks) = Unit {0}
 IsLocal published v (A.Pruned name n) = Unit {0}
+IsLocal published v (A.Forgot name below) = Unit {0}
 IsLocal published v (A.Took bytes) = DidIn published (A.Popped bytes)
 IsLocal published v (A.StoppedTaking bytes left) = DidIn published (A.Popped bytes) × IsBetween v.node.board (part_of bytes) (look left)
 IsLocal published v (A.Acknowledged board) = SaysNoMore board v

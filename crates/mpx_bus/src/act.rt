@@ -27,6 +27,11 @@ pub enum Act {
         name: Name,
         number: u32,
     },
+    /// It let the results of calls below this one go.
+    Forgot {
+        name: Name,
+        below: u32,
+    },
     /// It joined the part that these bytes spell, of a frame that it had popped.
     Took {
         bytes: LinkedList<u8>,

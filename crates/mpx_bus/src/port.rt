@@ -3,6 +3,7 @@ ghost use Rattle.std.specs.Prelude.{◌≡◌, ◌≢◌, ℕ, List, is_some, �
 ghost use Rattle.crossbeam_queue.specs.Passes.{view, IsPassOf};
 ghost use Rattle.mpx_board.specs.Changes.{pruned_on};
 ghost use Rattle.mpx_node.specs.Nodes.{Opens, Posts, checked_on, gathers_on, next_result};
+ghost use Rattle.mpx_node.specs.Forgetting.{forgets};
 ghost use Rattle.mpx_node.specs.Harvests.{Harvests};
 ghost use Rattle.mpx_node.specs.Shown.{node_of};
 ghost use Rattle.mpx_bus.specs.declared.act.Act.TheVariants as A;
@@ -18,7 +19,8 @@ use crate::frame::Frame;
 use crate::rule::{Meets, Named, Queue, QueuePass, Seats};
 use crate::steps::{name_all, opened_line, pop_to, push_to};
 use crate::trace::{
-    EmptyQueue, JournalPass, gathered, harvested, popped, posted, pruned, pushed, stopped, took,
+    EmptyQueue, JournalPass, forgot, gathered, harvested, popped, posted, pruned, pushed, stopped,
+    took,
 };
 use join_core::OutOfMemory;
 use mpx_board::PruneError;
@@ -367,5 +369,15 @@ impl Port {
             }
             Err(refusal) => Err(refusal),
         }
+    }
+    /// Lets the results of calls below the number on a context go, as [`Node::forget`] does. It takes no memory.
+    pub fn forget(&mut self, name: &Name, below: u32)
+        ensures port { PortGoesOn self.old self.new }
+        ensures still { (self.new.published ≡ self.old.published) × (self.new.kept ≡ self.old.kept) }
+        ensures journal { self.new.journal ≡ self.old.journal ++ A.Forgot name.now below ∷ [] }
+        ensures node { node_in self.new ≡ forgets name.now below (node_in self.old) }
+    {
+        self.node.forget(name, below);
+        forgot::<Brand>(&self.empty, &mut self.line, name, below);
     }
 }

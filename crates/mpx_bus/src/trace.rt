@@ -126,6 +126,17 @@ pub(crate) fn pruned<N: Noted>(empty: &EmptyQueue, line: &mut JournalPass, name:
     let _ = empty.another::<Notes<N>>(line);
 }
 
+pub(crate) fn forgot<N: Noted>(empty: &EmptyQueue, line: &mut JournalPass, name: &Name, below: u32)
+    requires empty { IsPassOf empty.now line.old }
+    requires act { N.act ≡ A.Forgot name.now below }
+    ensures same { IsSamePass line.old line.new }
+    ensures noted { view line.new ≡ view line.old ++ A.Forgot name.now below ∷ [] }
+{
+    let _ = name;
+    let _ = below;
+    let _ = empty.another::<Notes<N>>(line);
+}
+
 pub(crate) fn took<N: Noted>(empty: &EmptyQueue, line: &mut JournalPass, frame: &Frame)
     requires empty { IsPassOf empty.now line.old }
     requires act { N.act ≡ A.Took frame.now }

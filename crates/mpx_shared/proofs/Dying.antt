@@ -70,6 +70,7 @@ gone_act ops (A.Posted name draft) v n e = gone_makes name (checked_on ops v.nod
 gone_act ops (A.Harvested name) v n e = gone_stores ops name (next_result ops v.node name) v n e
 gone_act ops (A.Gathered parent tag ranks) v n e = gone_opens parent (gathers_on v.node parent tag ranks) v n e
 gone_act ops (A.Pruned name number) v n e = gone_drops name number (pruned_on v.node.board name number) v n e
+gone_act ops (A.Forgot name below) v n e = e
 gone_act ops (A.Took bytes) v n e = gone_joined v.node.board (part_of bytes) n e
 gone_act ops (A.StoppedTaking bytes left) v n e = gone_joined v.node.board (look left) n e
 gone_act ops (A.Acknowledged board) v n e = gone_joined v.node.board (own_acks v.node.me (said_on board v)) n e

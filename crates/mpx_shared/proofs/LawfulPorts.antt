@@ -15,13 +15,13 @@ use Rattle.mpx_post.specs.Drafts.{at, checked}
 use Rattle.mpx_board.specs.Boards.{IsGone, Look, told}
 use Rattle.mpx_value.specs.Histories.{Made, has_freed, posts_on}
 use Rattle.mpx_node.specs.declared.finished.Finished.{Finished}
-use Rattle.mpx_node.specs.Nodes.{NodeView, Posts, checked_on, freed_on, front_on, posted_on, results_on}
+use Rattle.mpx_node.specs.Nodes.{NodeView, Posts, checked_on, freed_on, front_on, posted_on, result_on}
 use Rattle.mpx_world.specs.Drafted.{makes_checked}
 use Rattle.mpx_world.specs.Worlds.{ProcessView}
 use Rattle.mpx_bus.specs.declared.act.Act.{Act}
 use Rattle.mpx_bus.specs.declared.act.Act.TheVariants as A
 use Rattle.mpx_bus.specs.declared.act.Setup.{Setup}
-use Rattle.mpx_bus.specs.Acts.{at_start, node_at, process_at}
+use Rattle.mpx_bus.specs.Acts.{HasLetGo, at_start, node_at, process_at}
 use Rattle.mpx_bus.specs.Rule.{IsPlanned, Stood, planned_posts, world_of}
 use Rattle.mpx_bus.specs.Ports.{PortView, PortGoes, PortGoesOn, HasListed, IsNew, IsSamePort, KeepsPlan, node_in, process_in}
 use Rattle.mpx_bus.specs.declared.port.Push.{Push}
@@ -34,7 +34,8 @@ use Rattle.mpx_world.proofs.Lists.{slice_get-push, slice_get-push_cases}
 use Rattle.mpx_world.proofs.Opened.{member_ranked}
 use Rattle.mpx_world.proofs.Retention.{IsKeptOn}
 use Rattle.mpx_bus.proofs.Journals.{after-append}
-use Rattle.mpx_bus.proofs.Ports.{kept_after, new_stood}
+use Rattle.mpx_bus.proofs.Keeping.{held_after, let_go_before, let_go_behind}
+use Rattle.mpx_bus.proofs.Ports.{new_stood}
 use Rattle.mpx_bus.proofs.Goes.{NoPosts, goes_itself, goes_then, made_more, two_acts}
 use Rattle.mpx_shared.specs.LawfulPorts.{AreAllSince, HasGoneOn, IsLawful, IsListedContext, IsHeldPort, IsNext, MakesNoPost, is_closed, living, made_at, made_in, next_call, planned_birth, with_context}
 use Rattle.mpx_shared.specs.Laws.{IsBirthByPlan, IsFinished}
@@ -77,6 +78,9 @@ pub gathers_one : (parent : Name) (tag : ℤ) (ranks : List ℤ) (r : Result Nam
 gathers_one parent tag ranks (Ok name) a b ok err = ok
 gathers_one parent tag ranks (Err e) a b ok err = err
 
+pub no_post_forget : (name : Name) (below : ℕ) (a b : PortView) → PortGoesOn a b → b.journal ≡ a.journal ++ A.Forgot name below ∷ [] → MakesNoPost a b
+no_post_forget name below a b goes grows = no_post_by a b (A.Forgot name below ∷ []) goes grows (tt, tt)
+
 pub no_post_pop : (pop : Pop) (a b : PortView) → PortGoesOn a b → PopsOne pop a b → MakesNoPost a b
 no_post_pop (O.Took frame) a b goes p = no_post_by a b (A.Popped frame ∷ A.Took frame ∷ []) goes (two_acts a.journal b.journal (A.Popped frame) (A.Took frame) p) (tt, (tt, tt))
 no_post_pop O.Empty a b goes p = no_post_itself a b p
@@ -111,14 +115,23 @@ no_post_put limit (Err e) a b goes next err = no_post_itself a b err
 
 -- SINCE THE LOCK
 
+-- a result is still there, or was let go among what was done since
+held_or_let_go : (a b : PortView) (more since : List Act) → IsSamePort a b → b.journal ≡ a.journal ++ more → (name : Name) (call : ℕ) (f : Finished) → result_on (node_in a) name call ≡ Some f
+    → (result_on (node_in b) name call ≡ Some f) ⊎ HasLetGo (since ++ more) name call
+held_or_let_go a b more since same grows name call f there = elim (held_after a.setup.operations more (process_in a) name call f there) [
+  | inl still ↦ inl (subst (λ (v : ProcessView). result_on v.node name call ≡ Some f) (sym (made_same a b same (a.journal ++ more) grows ∙ after-append a.setup.operations a.journal more (at_start a.setup a.me))) still)
+  | inr gone ↦ inr (let_go_behind since more name call gone)
+]
+
 gone_on_more : {setup : Setup} {me : ℕ} {opening : List Act} (a b : PortView) (more : List Act) → HasGoneOn setup me opening a → IsSamePort a b → b.journal ≡ a.journal ++ more → IsPrefix (made_in a) (made_in b) → HasGoneOn setup me opening b
 gone_on_more {setup} {me} {opening} a b more g same grows made = record {
   since = g.since ++ more;
   journal = grows ∙ ap (λ (js : List Act). js ++ more) g.journal ∙ append_assoc opening g.since more;
   posts = prefix_then (made_at setup me opening) (made_in a) (made_in b) g.posts made;
-  results = λ name call f e.
-      subst (λ (v : ProcessView). slice_get (results_on v.node name) call ≡ Some f) (sym (made_same a b same (a.journal ++ more) grows ∙ after-append a.setup.operations a.journal more (at_start a.setup a.me)))
-      ((kept_after a.setup.operations more (process_in a)).results_kept name call f (g.results name call f e));
+  results = λ name call f e. elim (g.results name call f e) [
+    | inl there ↦ held_or_let_go a b more g.since same grows name call f there
+    | inr gone ↦ inr (let_go_before g.since more name call gone)
+  ];
 }
 
 -- a context that is dead stays so
@@ -161,7 +174,7 @@ held_new {table} {setup} {me} {opening} {before} {total} contexts b d is counted
         since = [];
         journal = is ∙ sym (append-nil opening);
         posts = prefix_itself (made_at setup me opening) (made_in b) (sym same);
-        results = λ name call f e. sym (λ i. slice_get (results_on (node_at (sym d.setup_is i) (sym d.me_is i) (sym is i)) name) call) ∙ e;
+        results = λ name call f e. inl (sym (λ i. result_on (node_at (sym d.setup_is i) (sym d.me_is i) (sym is i)) name call) ∙ e);
       };
       listed = λ k m low there. absurd (let l = within (made_in b) k m there in let long = ap length same in omega (arith, l, low, long));
     }
@@ -297,12 +310,12 @@ held_posts {table} {setup} {me} {opening} {before} {total} {contexts} amount nam
 
 -- DOCKED PORTS
 
-pub lawful_result : (table : TableId) (setup : Setup) (me : ℕ) (port : PortView) (name : Name) (call : ℕ) (f : Finished) → IsLawful table setup me port → slice_get (results_on (node_in port) name) call ≡ Some f → IsFinished setup me name call f
+pub lawful_result : (table : TableId) (setup : Setup) (me : ℕ) (port : PortView) (name : Name) (call : ℕ) (f : Finished) → IsLawful table setup me port → result_on (node_in port) name call ≡ Some f → IsFinished setup me name call f
 lawful_result table setup me port name call f d e =
     subst (λ (x : Setup × ℕ). IsFinished x.0 x.1 name call f) (λ i. (d.setup_is i, d.me_is i))
     (record { happenings = d.stood.happenings; may = d.stood.may; begins = d.stood.planned; value = stood_value port.setup port.me port.journal d.stood name call f e })
 
-pub lawful_mine : (table : TableId) (setup : Setup) (me : ℕ) (port : PortView) (name : Name) (call : ℕ) (f : Finished) → IsLawful table setup me port → slice_get (results_on (node_in port) name) call ≡ Some f → slice_get (posts_on name (made_in port)) call ≡ Some f.mine
+pub lawful_mine : (table : TableId) (setup : Setup) (me : ℕ) (port : PortView) (name : Name) (call : ℕ) (f : Finished) → IsLawful table setup me port → result_on (node_in port) name call ≡ Some f → slice_get (posts_on name (made_in port)) call ≡ Some f.mine
 lawful_mine table setup me port name call f d e = own_beside port.setup port.me port.journal d.stood name call f e
 
 -- its node knows its frees

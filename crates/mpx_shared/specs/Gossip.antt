@@ -27,6 +27,7 @@ IsHarvestOrPruning (A.Posted name draft) = ⊥
 IsHarvestOrPruning (A.Harvested name) = Unit {0}
 IsHarvestOrPruning (A.Gathered parent tag ranks) = ⊥
 IsHarvestOrPruning (A.Pruned name n) = Unit {0}
+IsHarvestOrPruning (A.Forgot name below) = ⊥
 IsHarvestOrPruning (A.Took bytes) = ⊥
 IsHarvestOrPruning (A.StoppedTaking bytes left) = ⊥
 IsHarvestOrPruning (A.Acknowledged board) = ⊥

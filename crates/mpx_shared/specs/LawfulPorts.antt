@@ -10,10 +10,10 @@ use Rattle.mpx_post.specs.Drafts.{at, checked}
 use Rattle.mpx_board.specs.Boards.{IsGone, Look}
 use Rattle.mpx_value.specs.Histories.{Made, History, Results, history_of, birth_of, has_freed, posts_on, results_of}
 use Rattle.mpx_node.specs.declared.finished.Finished.{Finished}
-use Rattle.mpx_node.specs.Nodes.{results_on}
+use Rattle.mpx_node.specs.Nodes.{result_on}
 use Rattle.mpx_bus.specs.declared.act.Act.{Act}
 use Rattle.mpx_bus.specs.declared.act.Setup.{Setup}
-use Rattle.mpx_bus.specs.Acts.{node_at, process_at}
+use Rattle.mpx_bus.specs.Acts.{HasLetGo, node_at, process_at}
 use Rattle.mpx_bus.specs.Rule.{Stood, planned_posts}
 use Rattle.mpx_bus.specs.Ports.{PortView, PortGoesOn, KeepsPlan, node_in}
 pub use Rattle.mpx_ticket.specs.Tickets.{made_in}
@@ -38,13 +38,13 @@ abbrev pub made_at : Setup → (me : ℕ) → List Act → List Made
 made_at setup me opening = (process_at setup me opening).made
 
 -- the port goes on from where its process had done these: what it did since stands behind them, the posts of then begin its
--- posts, and the results of then are still there
+-- posts, and each result of then is still there, or the port has let it go since
 pub record HasGoneOn (setup : Setup) (me : ℕ) (opening : List Act) (port : PortView) : Type 0 where
   pub since : List Act
   pub journal : port.journal ≡ opening ++ since
   pub posts : IsPrefix (made_at setup me opening) (made_in port)
-  pub results : (name : Name) (call : ℕ) (f : Finished) → slice_get (results_on (node_at setup me opening) name) call ≡ Some f
-      → slice_get (results_on (node_in port) name) call ≡ Some f
+  pub results : (name : Name) (call : ℕ) (f : Finished) → result_on (node_at setup me opening) name call ≡ Some f
+      → (result_on (node_in port) name call ≡ Some f) ⊎ HasLetGo since name call
 
 -- the world, or one of these contexts
 abbrev pub IsListedContext : Name → List Name → Type 0

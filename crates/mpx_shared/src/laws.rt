@@ -6,7 +6,7 @@ ghost use Rattle.mpx_birth.specs.Births.{BirthView};
 ghost use Rattle.mpx_board.specs.Boards.{told};
 ghost use Rattle.mpx_value.specs.Histories.{has_freed, posts_on};
 ghost use Rattle.mpx_node.specs.declared.finished.Finished.{Finished};
-ghost use Rattle.mpx_node.specs.Nodes.{freed_on, results_on};
+ghost use Rattle.mpx_node.specs.Nodes.{freed_on, result_on};
 ghost use Rattle.mpx_bus.specs.declared.act.Setup.{Setup};
 ghost use Rattle.mpx_bus.specs.Rule.{planned_posts};
 ghost use Rattle.mpx_bus.specs.Ports.{PortView, IsNew, node_in};
@@ -18,9 +18,9 @@ ghost use Rattle.mpx_shared.specs.Laws.{IsBirthByPlan, IsFinished, IsPlannedResu
 /// first of the plan, and the results and births are the plan's.
 pub fn lawful_ports_hold_what_is_so()
     ensures results { (table : TableId) (setup : Setup) (me : ℕ) (port : PortView) (name : Name) (call : ℕ) (f : Finished) → IsLawful table setup me port
-        → slice_get (results_on (node_in port) name) call ≡ Some f → IsFinished setup me name call f }
+        → result_on (node_in port) name call ≡ Some f → IsFinished setup me name call f }
     ensures mine { (table : TableId) (setup : Setup) (me : ℕ) (port : PortView) (name : Name) (call : ℕ) (f : Finished) → IsLawful table setup me port
-        → slice_get (results_on (node_in port) name) call ≡ Some f → slice_get (posts_on name (made_in port)) call ≡ Some f.mine }
+        → result_on (node_in port) name call ≡ Some f → slice_get (posts_on name (made_in port)) call ≡ Some f.mine }
     ensures planned_results { (setup : Setup) (me : ℕ) (name : Name) (call : ℕ) (f : Finished) → setup.planned ≡ true
         → IsFinished setup me name call f → IsPlannedResult setup me name call f }
     ensures frees { (table : TableId) (setup : Setup) (me : ℕ) (port : PortView) (name : Name) → IsLawful table setup me port

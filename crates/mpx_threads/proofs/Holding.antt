@@ -10,7 +10,7 @@ use Rattle.mpx_birth.specs.Births.{BirthView}
 use Rattle.mpx_value.specs.declared.outcomes.Outcome.{Outcome}
 use Rattle.mpx_value.specs.Histories.{Answer, Results, Within, answer_with, posts_on}
 use Rattle.mpx_node.specs.declared.finished.Finished.{Finished}
-use Rattle.mpx_node.specs.Nodes.{NodeView, results_on}
+use Rattle.mpx_node.specs.Nodes.{NodeView, result_on}
 use Rattle.mpx_world.proofs.Lists.{names_same}
 use Rattle.mpx_bus.specs.declared.act.Setup.{Setup}
 use Rattle.mpx_bus.specs.Ports.{PortView, node_in}
@@ -59,15 +59,15 @@ some_there None e = cc e
 some_there (Some x) e = (x, refl)
 
 -- of each call that was told the node holds a result
-held_at : (node : NodeView) (ts : List ToldCall) → AllHeld node ts → (name : Name) (call : ℕ) → is_among ts name call ≡ true → (f : Finished) × (slice_get (results_on node name) call ≡ Some f)
+held_at : (node : NodeView) (ts : List ToldCall) → AllHeld node ts → (name : Name) (call : ℕ) → is_among ts name call ≡ true → (f : Finished) × (result_on node name call ≡ Some f)
 held_at node ts held name call e =
     let there = among_place ts name call e in
     let t : ToldCall = there.1.0 in
     let same = both_true (t.call == call) (same_name t.name name) there.1.1.1 in
     let call_is : t.call ≡ call = (Decides-eqb t.call call).0 same.0 in
     let name_is : t.name ≡ name = names_same t.name name same.1 in
-    let found = some_there (slice_get (results_on node t.name) t.call) (held there.0 t there.1.1.0) in
-    (found.0, (λ i. slice_get (results_on node (sym name_is i)) (sym call_is i)) ∙ found.1)
+    let found = some_there (result_on node t.name t.call) (held there.0 t there.1.1.0) in
+    (found.0, (λ i. result_on node (sym name_is i) (sym call_is i)) ∙ found.1)
 
 told_among : (known : Results) (ts : List ToldCall) (name : Name) (call : ℕ) (answer : Answer) → told_of known ts name call ≡ Some answer → (is_among ts name call ≡ true) × (known name call ≡ Some answer)
 told_among known ts name call answer e = by_test (is_among ts name call) e where
@@ -79,13 +79,13 @@ told_among known ts name call answer e = by_test (is_among ts name call) e where
 
 module _ (table : TableId) (setup : Setup) (me : ℕ) (port : PortView) (lawful : IsLawful table setup me port) (planned : setup.planned ≡ true) where
   -- a result is what the plan's posts give
-  result_is : (name : Name) (call : ℕ) (f : Finished) → slice_get (results_on (node_in port) name) call ≡ Some f → planned_results setup me name call ≡ Some (answer_with (planned_birth setup) f.outcome)
+  result_is : (name : Name) (call : ℕ) (f : Finished) → result_on (node_in port) name call ≡ Some f → planned_results setup me name call ≡ Some (answer_with (planned_birth setup) f.outcome)
   result_is name call f e = (P.result_is_planned setup me name call f planned (lawful_result table setup me port name call f lawful e)).result
 
   -- what the node tells the plan's posts give
   tells_planned : Within (node_tells (planned_birth setup) (node_in port)) (planned_results setup me)
   tells_planned name call answer e =
-      let found = mapped_some (λ (f : Finished). answer_with (planned_birth setup) f.outcome) (slice_get (results_on (node_in port) name) call) answer e in
+      let found = mapped_some (λ (f : Finished). answer_with (planned_birth setup) f.outcome) (result_on (node_in port) name call) answer e in
       result_is name call found.0 found.1 ∙ ap Some found.2
 
   module _ (script : ScriptView) (relays : ℕ) (plan : Plans script relays setup) (ts : List ToldCall) (count : ℕ) (lines : List (List ℕ)) (waits : Bool) (calls : List (Name × ℕ)) (come : HasCome script setup me ts count lines waits calls) (counted : length (made_in port) ≡ count) (held : AllHeld (node_in port) ts) where
@@ -93,7 +93,7 @@ module _ (table : TableId) (setup : Setup) (me : ℕ) (port : PortView) (lawful 
     goes_there = subst (λ r. Goes setup.operations r (start_state script.statements script.ranks me) come.to) (results_are script relays setup plan me) come.goes
 
     -- the result of a line that tells an outcome
-    line_held : (i : ℕ) (name : Name) (call : ℕ) (outcome : Outcome) → slice_get come.to.lines i ≡ Some (Told name call outcome) → (f : Finished) × (slice_get (results_on (node_in port) name) call ≡ Some f) × (f.outcome ≡ outcome)
+    line_held : (i : ℕ) (name : Name) (call : ℕ) (outcome : Outcome) → slice_get come.to.lines i ≡ Some (Told name call outcome) → (f : Finished) × (result_on (node_in port) name call ≡ Some f) × (f.outcome ≡ outcome)
     line_held i name call outcome e =
         let said = mapped_some (λ (a : Answer). a.outcome) (told_of (planned_results setup me) ts name call) outcome (come.tells i name call outcome e) in
         let among = told_among (planned_results setup me) ts name call said.0 said.1 in
@@ -178,11 +178,11 @@ left_is script p n b xs e f same = ap not e ∙ by_list xs ∙ ap has_statements
 -- EACH OF SOME
 
 -- the first so many are held, and so is the next
-pub held_next : (node : NodeView) (ts : List ToldCall) (n : ℕ) (t : ToldCall) → slice_get ts n ≡ Some t → AllHeld node (take n ts) → IsTrue (is_some (slice_get (results_on node t.name) t.call)) → AllHeld node (take (suc n) ts)
+pub held_next : (node : NodeView) (ts : List ToldCall) (n : ℕ) (t : ToldCall) → slice_get ts n ≡ Some t → AllHeld node (take n ts) → IsTrue (is_some (result_on node t.name t.call)) → AllHeld node (take (suc n) ts)
 held_next node [] n t e held is = λ i v at. cc e
 held_next node (u ∷ ts) zero t e held is = first where
   first : AllHeld node (u ∷ [])
-  first zero v at = subst (λ (x : ToldCall). IsTrue (is_some (slice_get (results_on node x.name) x.call))) (sym (same_Some u t e) ∙ same_Some u v at) is
+  first zero v at = subst (λ (x : ToldCall). IsTrue (is_some (result_on node x.name x.call))) (sym (same_Some u t e) ∙ same_Some u v at) is
   first (suc i) v at = cc at
 held_next node (u ∷ ts) (suc n) t e held is = next (held_next node ts n t e (λ j w there. held (suc j) w there) is) where
   next : AllHeld node (take (suc n) ts) → AllHeld node (u ∷ take (suc n) ts)
@@ -190,5 +190,5 @@ held_next node (u ∷ ts) (suc n) t e held is = next (held_next node ts n t e (�
   next rest (suc i) v at = rest i v at
 
 -- one isn't, so not all are
-pub one_lacks : (node : NodeView) (ts : List ToldCall) (i : ℕ) (t : ToldCall) → slice_get ts i ≡ Some t → is_some (slice_get (results_on node t.name) t.call) ≡ false → AllHeld node ts → ⊥
+pub one_lacks : (node : NodeView) (ts : List ToldCall) (i : ℕ) (t : ToldCall) → slice_get ts i ≡ Some t → is_some (result_on node t.name t.call) ≡ false → AllHeld node ts → ⊥
 one_lacks node ts i t at lacking held = let never : true ≡ false = sym (held i t at) ∙ lacking in cc never

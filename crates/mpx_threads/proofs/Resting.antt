@@ -1,5 +1,5 @@
 -- Ranks of which all ports say that none can go on have come to the evaluation's end.
-use Rattle.std.proofs.Common.{◌≡◌, ℕ, zero, suc, ◌<◌, ◌≤◌, ◌==◌, false, List, [], ◌∷◌, length, Option, Some, None, refl, sym, ap, ◌∙◌, subst, arith, inl, inr}
+use Rattle.std.proofs.Common.{◌≡◌, ℕ, ◌<◌, ◌≤◌, ◌==◌, false, List, [], ◌∷◌, Option, Some, None, refl, sym, ap, ◌∙◌, subst, arith, inl, inr}
 use Rattle.std.specs.Prelude.{◌⊎◌, slice_get, is_some}
 use Rattle.std.specs.Option.{option_map}
 use Rattle.std.proofs.lemmas.List.Quantifiers.{position-Some}
@@ -15,7 +15,7 @@ use Rattle.mpx_board.specs.Boards.{IsGone, Look, told}
 use Rattle.mpx_value.specs.Values.{value}
 use Rattle.mpx_value.specs.Histories.{Answer, History, Results, Within, answer_with, birth_of, outcome_of, outcomes_by, posts_on, results_of, row_of, value_for}
 use Rattle.mpx_value.proofs.Growth.{birth-grows, posts_on-append, results-grow}
-use Rattle.mpx_node.specs.Nodes.{front_on, results_on}
+use Rattle.mpx_node.specs.Nodes.{front_on}
 use Rattle.mpx_world.proofs.Freeing.{all_of_at}
 use Rattle.mpx_world.proofs.Lists.{same_number}
 use Rattle.mpx_world.proofs.Retention.{IsKeptOn}
@@ -223,11 +223,7 @@ module _ (script : ScriptView) (relays : ℕ) (setup : Setup) (plan : Plans scri
 
     -- what it lacks it hasn't harvested
     not_harvested : k < front_on (node_in (at p l).port) name → ⊥
-    not_harvested low = by_list (results_on (node_in (at p l).port) name) k lacks.none low where
-      by_list : {A : Type 0} (xs : List A) (i : ℕ) → slice_get xs i ≡ None → i < length xs → ⊥
-      by_list [] i e m = omega (arith, m)
-      by_list (x ∷ xs) zero e m = cc e
-      by_list (x ∷ xs) (suc i) e m = by_list xs i e (omega (arith, m))
+    not_harvested low = let later = lacks.later in omega (arith, later, low)
 
     module _ (answer : Answer) (e : known setup.operations script.ranks ours p name k ≡ Some answer) where
       row : IsOfRow (history setup.operations ours) script.ranks p name k

@@ -1,9 +1,9 @@
 -- When all ports say, once their threads have ended, that no rank can go on.
-use Rattle.std.specs.Prelude.{◌≡◌, ◌⊎◌, ℕ, ◌<◌, false, List, [], ◌∷◌, Option, Some, None, slice_get}
+use Rattle.std.specs.Prelude.{◌≡◌, ◌⊎◌, ℕ, ◌<◌, ◌≤◌, false, List, [], ◌∷◌, Option, Some, None, slice_get}
 use Rattle.mpx_name.specs.Name.{Name}
 use Rattle.mpx_birth.specs.Births.{BirthView}
 use Rattle.mpx_board.specs.Boards.{Look, told}
-use Rattle.mpx_node.specs.Nodes.{NodeView, results_on}
+use Rattle.mpx_node.specs.Nodes.{NodeView, front_on}
 use Rattle.mpx_bus.specs.Ports.{PortView, node_in}
 use Rattle.mpx_statement.specs.declared.statement.Statement.{Statement}
 use Rattle.mpx_statement.specs.declared.statement.Statement.TheVariants.{Wait}
@@ -32,9 +32,9 @@ pub data WaitsFor (s : Local) (call : Name × ℕ) : Type 0 where
 abbrev pub OneLacks : Look → Name → (call : ℕ) → (members : List ℕ) → Type 0
 OneLacks board name call members = (place : ℕ) × ((member : ℕ) × ((slice_get members place ≡ Some member) × (told ((board.contexts name).posts call member) ≡ None)))
 
--- the node has no result of the call, and its board tells who the context's members are, and lacks the post of one of them
+-- the node hasn't harvested the call, and its board tells who the context's members are, and lacks the post of one of them
 pub record Lacks (node : NodeView) (call : Name × ℕ) : Type 0 where
-  pub none : slice_get (results_on node call.0) call.1 ≡ None
+  pub later : front_on node call.0 ≤ call.1
   pub birth : BirthView
   pub born : told (node.board.contexts call.0).birth ≡ Some birth
   pub one : OneLacks node.board call.0 call.1 birth.members

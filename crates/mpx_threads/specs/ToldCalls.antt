@@ -15,7 +15,7 @@ use Rattle.mpx_statement.specs.Statements.{draft_of, gathers_of}
 use Rattle.mpx_meaning.specs.Ranks.{attempt_in, bound_by, next_call, post_gathered, post_on}
 use Rattle.mpx_meaning.specs.Transcripts.{outcome_text}
 use Rattle.mpx_meaning.specs.Evaluation.{IsPrefixOf}
-use Rattle.mpx_node.specs.Nodes.{NodeView, results_on}
+use Rattle.mpx_node.specs.Nodes.{NodeView, result_on}
 use Rattle.mpx_bus.specs.declared.act.Setup.{Setup}
 use Rattle.mpx_bus.specs.Rule.{planned_posts}
 use Rattle.mpx_ticket.specs.declared.ticket.Ticket.{Ticket}
@@ -42,7 +42,7 @@ is_among (t ∷ ts) name call = is_at name call t || is_among ts name call
 
 -- the node holds a result of each of these calls
 abbrev pub AllHeld : NodeView → List ToldCall → Type 0
-AllHeld node told = (i : ℕ) (t : ToldCall) → slice_get told i ≡ Some t → IsTrue (is_some (slice_get (results_on node t.name) t.call))
+AllHeld node told = (i : ℕ) (t : ToldCall) → slice_get told i ≡ Some t → IsTrue (is_some (result_on node t.name t.call))
 
 -- of these answers those of calls that were told
 abbrev pub told_of : Results → List ToldCall → Results

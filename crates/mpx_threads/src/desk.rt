@@ -126,6 +126,7 @@ impl<'a, L: PortLock, R: Wait> ThreadDesk<'a, L, R> {
         match self.port.test(self.rt, alloc, ticket)? {
             TicketTested::Done(finished) => Ok(Some(finished)),
             TicketTested::NotYet => Ok(None),
+            TicketTested::LetGo => Ok(None),
             TicketTested::Strange => Ok(None),
         }
     }

@@ -90,13 +90,13 @@ fn has_ended_or_lacks(worked: &Worked) -> bool
     false
 }
 
-// Whether the node has no result of the call, and its board lacks the post of a member.
+// Whether the node hasn't harvested the call, and its board lacks the post of a member.
 fn lacks(node: &Node, call: &(Name, u32)) -> bool
     ensures yes { result ≡ true → Lacks (node_of node.now) call.now }
     ensures no { result ≡ false → Lacks (node_of node.now) call.now → ⊥ }
 {
     let (name, number) = call;
-    if node.result(name, *number).is_some() {
+    if *number < node.front(name) {
         return false;
     }
     let Some(birth) = node.board().birth(name) else {

@@ -1,12 +1,12 @@
 -- What a port that stands in a world that can be reached answers a ticket.
-use Rattle.std.proofs.Common.{◌≡◌, ℕ, true, false, Option, None, Some, slice_get, sym, ap, ◌∙◌, subst, true≢false}
+use Rattle.std.proofs.Common.{◌≡◌, ◌<◌, ◌≤◌, ℕ, true, false, Option, None, Some, slice_get, sym, ap, ◌∙◌, subst, true≢false}
 use Rattle.std.specs.Prelude.{Result, Ok, Err, OnErr}
 use Rattle.std.proofs.lemmas.Option.{same_Some}
 use Rattle.mpx_post.specs.Posts.{Given}
 use Rattle.mpx_post.specs.Equality.{same_given, given_equality}
 use Rattle.mpx_board.specs.Boards.{Look, told}
 use Rattle.mpx_node.specs.declared.finished.Finished.{Finished}
-use Rattle.mpx_node.specs.Nodes.{NodeView, results_on}
+use Rattle.mpx_node.specs.Nodes.{NodeView, front_on, result_on}
 use Rattle.mpx_bus.specs.Ports.{PortView, node_in}
 use Rattle.mpx_bus.specs.Rule.{Stood}
 use Rattle.mpx_ticket.specs.declared.ticket.Ticket.{Ticket}
@@ -29,23 +29,29 @@ on_err (Ok x) p = tt
 on_err (Err e) p = p
 
 module _ (port : PortView) (ticket : Ticket) (n : NodeView) (stood : Stood port.setup port.me port.journal) (here : n ≡ node_in port) where
-  held_in : (o : Option Finished) → slice_get (results_on n ticket.name) ticket.call ≡ o → slice_get (results_on (node_in port) ticket.name) ticket.call ≡ o
-  held_in o e = ap (λ (x : NodeView). slice_get (results_on x ticket.name) ticket.call) (sym here) ∙ e
+  held_in : (o : Option Finished) → result_on n ticket.name ticket.call ≡ o → result_on (node_in port) ticket.name ticket.call ≡ o
+  held_in o e = ap (λ (x : NodeView). result_on x ticket.name ticket.call) (sym here) ∙ e
 
-  pub answer_other : (f : Finished) → slice_get (results_on n ticket.name) ticket.call ≡ Some f → same_given f.mine ticket.post ≡ false → IsAnswer port ticket T.Strange
+  front_in : front_on n ticket.name ≤ ticket.call → front_on (node_in port) ticket.name ≤ ticket.call
+  front_in later = subst (λ (x : NodeView). front_on x ticket.name ≤ ticket.call) here later
+
+  pub answer_other : (f : Finished) → result_on n ticket.name ticket.call ≡ Some f → same_given f.mine ticket.post ≡ false → IsAnswer port ticket T.Strange
   answer_other f held differ e = not_same f.mine ticket.post (own_post port ticket) (own_beside port.setup port.me port.journal stood ticket.name ticket.call f (held_in (Some f) held)) differ e
 
-  pub answer_done : (f copy : Finished) → slice_get (results_on n ticket.name) ticket.call ≡ Some f → same_given f.mine ticket.post ≡ true → copy ≡ f → IsAnswer port ticket (T.Done copy)
+  pub answer_done : (f copy : Finished) → result_on n ticket.name ticket.call ≡ Some f → same_given f.mine ticket.post ≡ true → copy ≡ f → IsAnswer port ticket (T.Done copy)
   answer_done f copy held same is = (held_in (Some f) held ∙ ap Some (sym is), ap (λ (x : Finished). x.mine) is ∙ given_equality.sound f.mine ticket.post same)
 
   -- a result of which no copy was had
-  pub answer_held : (f : Finished) → slice_get (results_on n ticket.name) ticket.call ≡ Some f → same_given f.mine ticket.post ≡ true → HoldsAnswer port ticket
+  pub answer_held : (f : Finished) → result_on n ticket.name ticket.call ≡ Some f → same_given f.mine ticket.post ≡ true → HoldsAnswer port ticket
   answer_held f held same = record { finished = f; held = held_in (Some f) held; mine = given_equality.sound f.mine ticket.post same }
 
-  module _ (b : Look) (who : ℕ) (none : slice_get (results_on n ticket.name) ticket.call ≡ None) (board : b ≡ n.board) (who_is : who ≡ port.me) where
+  pub answer_let_go : result_on n ticket.name ticket.call ≡ None → ticket.call < front_on n ticket.name → IsAnswer port ticket T.LetGo
+  answer_let_go none l = (subst (λ (x : NodeView). ticket.call < front_on x ticket.name) here l, held_in None none)
+
+  module _ (b : Look) (who : ℕ) (later : front_on n ticket.name ≤ ticket.call) (board : b ≡ n.board) (who_is : who ≡ port.me) where
     own_is : (o : Option Given) → o ≡ told ((b.contexts ticket.name).posts ticket.call who) → own_post port ticket ≡ o
     own_is o e =
-        own_on_board port.setup port.me port.journal stood ticket.name ticket.call (held_in None none)
+        own_on_board port.setup port.me port.journal stood ticket.name ticket.call (front_in later)
         ∙ ap (λ (x : Look × ℕ). told ((x.0.contexts ticket.name).posts ticket.call x.1)) (λ i. (sym (board ∙ ap (λ (x : NodeView). x.board) here) i, sym who_is i))
         ∙ sym e
 
@@ -56,4 +62,4 @@ module _ (port : PortView) (ticket : Ticket) (n : NodeView) (stood : Stood port.
     answer_kept x e differ f = not_same x ticket.post (own_post port ticket) (own_is (Some x) e) differ f
 
     pub answer_not_yet : (x : Given) → Some x ≡ told ((b.contexts ticket.name).posts ticket.call who) → same_given x ticket.post ≡ true → IsAnswer port ticket T.NotYet
-    answer_not_yet x e same = (own_is (Some x) e ∙ ap Some (given_equality.sound x ticket.post same), held_in None none)
+    answer_not_yet x e same = (own_is (Some x) e ∙ ap Some (given_equality.sound x ticket.post same), front_in later)

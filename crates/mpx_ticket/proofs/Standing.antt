@@ -16,7 +16,8 @@ use Rattle.mpx_post.specs.declared.draft.PostError.TheVariants.{Closed}
 use Rattle.mpx_board.specs.Boards.{IsGone, floor_on, minimum, told}
 use Rattle.mpx_value.specs.Histories.{posts_on}
 use Rattle.mpx_node.specs.declared.finished.Finished.{Finished}
-use Rattle.mpx_node.specs.Nodes.{OpenedView, checked_by, checked_there, freed_by, freed_on, front_on, is_fine_free, is_nothing, is_past_free, posted_by, posted_on, results_on}
+use Rattle.mpx_node.specs.Nodes.{OpenedView, checked_by, checked_there, freed_by, freed_on, front_on, is_fine_free, is_nothing, is_past_free, posted_by, posted_on, result_on, results_on}
+use Rattle.mpx_node.specs.Stored.{stored_at}
 use Rattle.mpx_world.specs.Worlds.{ProcessView, WorldView, births, history, own_front}
 use Rattle.mpx_world.specs.Soundness.{AgreesWithFact, HaveHarvested, IsMember, IsValue}
 use Rattle.mpx_world.proofs.Born.{option_map_some}
@@ -47,19 +48,14 @@ within [] k x e = absurd (cc e)
 within (y ∷ ys) zero x e = omega arith
 within (y ∷ ys) (suc k) x e = let l = within ys k x e in omega (arith, l)
 
-past : {A : Type 0} (xs : List A) (k : ℕ) → slice_get xs k ≡ None → length xs ≤ k
-past [] k e = omega arith
-past (x ∷ xs) zero e = absurd (cc e)
-past (x ∷ xs) (suc k) e = let l = past xs k e in omega (arith, l)
-
 -- of results beside posts of which none is a free the last is none
-unfreed_last : (posts : List Given) (results : List Finished) → list_any is_free posts ≡ false → ((k : ℕ) (f : Finished) → slice_get results k ≡ Some f → slice_get posts k ≡ Some f.mine) → (n : ℕ) → is_past_free results n ≡ false
-unfreed_last posts results none beside n = by_last (slice_get results (length results - 1)) refl where
+unfreed_last : (posts : List Given) (results : List (Option Finished)) → list_any is_free posts ≡ false → ((k : ℕ) (f : Finished) → stored_at results k ≡ Some f → slice_get posts k ≡ Some f.mine) → (n : ℕ) → is_past_free results n ≡ false
+unfreed_last posts results none beside n = by_last (stored_at results (length results - 1)) refl where
   by_free : (f : Finished) → slice_get posts (length results - 1) ≡ Some f.mine → (free : Bool) → is_free f.mine ≡ free → ((free && is_nothing f.outcome) && nat_le (length results) n) ≡ false
   by_free f mine true t = let some = any_at is_free posts (length results - 1) f.mine mine t in cc (none, some)
   by_free f mine false t = refl
 
-  by_last : (o : Option Finished) → slice_get results (length results - 1) ≡ o → (option_map_or is_fine_free o false && nat_le (length results) n) ≡ false
+  by_last : (o : Option Finished) → stored_at results (length results - 1) ≡ o → (option_map_or is_fine_free o false && nat_le (length results) n) ≡ false
   by_last None e = refl
   by_last (Some f) e = by_free f (beside (length results - 1) f e) (is_free f.mine) refl
 
@@ -91,7 +87,7 @@ module _ (setup : Setup) (me : ℕ) (journal : List Act) (s : Stood setup me jou
   stood_good = subst (Good w me) s.stands (well.holds.processes me)
 
   -- a result is a value
-  pub stood_value : (name : Name) (call : ℕ) (f : Finished) → slice_get (results_on (node_at setup me journal) name) call ≡ Some f → IsValue (world_of setup s.happenings) me name call f
+  pub stood_value : (name : Name) (call : ℕ) (f : Finished) → result_on (node_at setup me journal) name call ≡ Some f → IsValue (world_of setup s.happenings) me name call f
   stood_value name call f e = stood_good.values name call f e
 
   -- its own posts are those of the history
@@ -122,18 +118,18 @@ module _ (setup : Setup) (me : ℕ) (journal : List Act) (s : Stood setup me jou
       let so : fronts me ≤ front_on v.node name = subst (λ (u : ProcessView). fronts me ≤ front_on u.node name) s.stands (((board_so w me v stood_good).contexts_so name).fronts_so me) in
       omega (arith, least, below, so)
 
-  -- an own post without a result is on the board
-  own_kept : (name : Name) (call : ℕ) (x : Given) → slice_get (results_on (node_at setup me journal) name) call ≡ None → slice_get (posts_on name ((process_at setup me journal).made)) call ≡ Some x
+  -- an own post whose call isn't harvested is on the board
+  own_kept : (name : Name) (call : ℕ) (x : Given) → front_on (node_at setup me journal) name ≤ call → slice_get (posts_on name ((process_at setup me journal).made)) call ≡ Some x
       → told (((node_at setup me journal).board.contexts name).posts call me) ≡ Some x
   own_kept name call x none mine =
       let v = process_at setup me journal in
       let l : call < length (posts_on name v.made) = within (posts_on name v.made) call x mine in
       let b = own_member name (omega (arith, l, stood_good.counted name)) in
-      let front : length (results_on ((w.each me).node) name) ≤ call = past (results_on ((w.each me).node) name) call (ap (λ (u : ProcessView). slice_get (results_on u.node name) call) s.stands ∙ none) in
+      let front : front_on ((w.each me).node) name ≤ call = subst (λ (u : ProcessView). front_on u.node name ≤ call) (sym s.stands) none in
       let kept = retention w well.holds well.stores well.members name b.birth b.born b.rank me b.member call me x front (stood_history name call ∙ mine) in
       ap (λ (u : ProcessView). told ((u.node.board.contexts name).posts call me)) (sym s.stands) ∙ ap told kept
 
-  pub own_on_board : (name : Name) (call : ℕ) → slice_get (results_on (node_at setup me journal) name) call ≡ None
+  pub own_on_board : (name : Name) (call : ℕ) → front_on (node_at setup me journal) name ≤ call
       → slice_get (posts_on name ((process_at setup me journal).made)) call ≡ told (((node_at setup me journal).board.contexts name).posts call me)
   own_on_board name call none = by (slice_get (posts_on name ((process_at setup me journal).made)) call) refl where
     by : (o : Option Given) → slice_get (posts_on name ((process_at setup me journal).made)) call ≡ o → o ≡ told (((node_at setup me journal).board.contexts name).posts call me)
@@ -163,7 +159,7 @@ module _ (setup : Setup) (me : ℕ) (journal : List Act) (s : Stood setup me jou
       subst (λ (u : ProcessView). call < front_on u.node name) s.stands front
 
   -- a result stands beside the own post
-  pub own_beside : (name : Name) (call : ℕ) (f : Finished) → slice_get (results_on (node_at setup me journal) name) call ≡ Some f → slice_get (posts_on name ((process_at setup me journal).made)) call ≡ Some f.mine
+  pub own_beside : (name : Name) (call : ℕ) (f : Finished) → result_on (node_at setup me journal) name call ≡ Some f → slice_get (posts_on name ((process_at setup me journal).made)) call ≡ Some f.mine
   own_beside name call f e = sym (stood_history name call) ∙ (stood_value name call f e).mine
 
   -- where it has posted no free none of its results is one

@@ -9,8 +9,8 @@ use mpx_bus::Port;
 use mpx_group::Proc;
 use std::alloc::Global;
 
-/// What the port of this process answers a ticket: the call's result, or that it has none yet, or that the post isn't its own. An
-/// `Err` is want of memory for a copy of the result, which is there then.
+/// What the port of this process answers a ticket: the call's result, or that it has none yet or none any more, or that the post isn't
+/// its own. An `Err` is want of memory for a copy of the result, which is there then.
 pub fn answer_to(
     alloc: Global,
     port: &Port,
@@ -28,6 +28,9 @@ pub fn answer_to(
             return Ok(TicketTested::Strange);
         }
         return Ok(TicketTested::Done(finished.copy(alloc)?));
+    }
+    if ticket.call < node.front(&ticket.name) {
+        return Ok(TicketTested::LetGo);
     }
     let Some(mine) = node.board().holds(&ticket.name, ticket.call, me) else {
         return Ok(TicketTested::Strange);

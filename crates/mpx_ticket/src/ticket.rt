@@ -18,6 +18,8 @@ pub enum TicketTested {
     Done(Finished),
     /// The port has no result of the call yet.
     NotYet,
+    /// The port had the call's result, and has let it go.
+    LetGo,
     /// The port made no such post as this call.
     Strange,
 }
