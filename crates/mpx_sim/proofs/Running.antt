@@ -15,13 +15,13 @@ use Rattle.mpx_node.specs.declared.finished.Finished.{Finished}
 use Rattle.mpx_node.specs.declared.node.Harvest.{Harvest}
 use Rattle.mpx_node.specs.declared.node.Harvest.TheVariants.{Done, NotYet, NotOpened}
 use Rattle.mpx_node.specs.Harvests.{Harvests as HarvestsOn}
-use Rattle.mpx_node.specs.Nodes.{NodeView, acknowledge, add_result, children_on, front_on, learn, learn_some, next_result, prune_part, results_on}
-use Rattle.mpx_world.specs.Worlds.{WorldView, Happening, IsNoPost, MayHappen, happens, stores, drops, takes, acknowledges, harvests, prunes, Harvests, Prunes, Takes, Acknowledges, at_process, ProcessView as InWorld}
+use Rattle.mpx_node.specs.Nodes.{NodeView, acknowledge, add_result, children_on, front_on, learn, learn_some, next_result, prune_part, result_on}
+use Rattle.mpx_world.specs.Worlds.{WorldView, Happening, MayHappen, happens, stores, drops, takes, acknowledges, harvests, prunes, Harvests, Prunes, Takes, Acknowledges, at_process, ProcessView as InWorld}
 use Rattle.mpx_world.proofs.Kept.{kept_stores, taken_node}
 use Rattle.mpx_world.proofs.Steps.{at_here}
 use Rattle.mpx_meaning.specs.Evaluation.{Script}
 use Rattle.mpx_rank.specs.Moves.{RankView}
-use Rattle.mpx_system.specs.Systems.{System, Doing, Nets, does, MayDo, start_system}
+use Rattle.mpx_system.specs.Systems.{IsPassive, System, Doing, Nets, does, MayDo, start_system}
 use Rattle.mpx_system.proofs.Coupling.{Couples}
 use Rattle.mpx_system.proofs.Leading.{coupled, leads_on}
 use Rattle.mpx_system.proofs.Posting.{each_other}
@@ -79,7 +79,7 @@ module _ (ops : List Operation) (script : Script) (ranks size : ℕ) (begun : Mo
       }
 
   -- something of process p that makes no post, and changes its node so
-  net_on : (p : ℕ) (r : RankView Name) (old new : NodeView) → slice_get processes p ≡ Some (record { rank = r; node = old }) → (h : Happening) (f : InWorld → InWorld) → IsNoPost h → IsIn phase (Nets h) → MayHappen run.system.world h
+  net_on : (p : ℕ) (r : RankView Name) (old new : NodeView) → slice_get processes p ≡ Some (record { rank = r; node = old }) → (h : Happening) (f : InWorld → InWorld) → IsPassive h → IsIn phase (Nets h) → MayHappen run.system.world h
       → happens run.system.world h ≡ at_process p f run.system.world → new ≡ (f (run.system.world.each p)).node → IsUnderWay ops script ranks size begun phase (set processes p (record { rank = r; node = new })) frames
   net_on p r old new at h f net into may is e =
       let s = run.system in
@@ -157,7 +157,7 @@ run_scheduled ops script ranks size begun turn t u ps qs bs cs s p f run = run_s
 -- A NODE'S STEPS
 
 -- a step of a node that happens in each world of these operations where the node is so
-keeps_net : (phase : Phase) (ops : List Operation) (old new : NodeView) (h : ℕ → Happening) (f : List Operation → InWorld → InWorld) → ((p : ℕ) → IsNoPost (h p)) → ((w : WorldView) (p : ℕ) → happens w (h p) ≡ at_process p (f w.operations) w) → ((p : ℕ) → IsIn phase (Nets (h p)))
+keeps_net : (phase : Phase) (ops : List Operation) (old new : NodeView) (h : ℕ → Happening) (f : List Operation → InWorld → InWorld) → ((p : ℕ) → IsPassive (h p)) → ((w : WorldView) (p : ℕ) → happens w (h p) ≡ at_process p (f w.operations) w) → ((p : ℕ) → IsIn phase (Nets (h p)))
     → ((w : WorldView) (p : ℕ) → (w.each p).node ≡ old → MayHappen w (h p)) → ((v : InWorld) → v.node ≡ old → new ≡ (f ops v).node) → KeepsNode phase ops old new
 keeps_net phase ops old new h f net is into may e r script ranks size begun processes frames p at run =
     let w = run.system.world in
@@ -193,13 +193,13 @@ stores_or_not ops true name None (Err refused) old new x = absurd x
 
 -- it keeps the run, and what the node held
 pub keeps_harvest : (ops : List Operation) (name : Name) (answer : Result Harvest OutOfMemory) (old new : NodeView) → HarvestsOn ops (is_some (old.opened name)) name (next_result ops old name) answer old new
-    → KeepsNode Alone ops old new × ((n : Name) (k : ℕ) (x : Finished) → slice_get (results_on old n) k ≡ Some x → slice_get (results_on new n) k ≡ Some x)
+    → KeepsNode Alone ops old new × ((n : Name) (k : ℕ) (x : Finished) → result_on old n k ≡ Some x → result_on new n k ≡ Some x)
 keeps_harvest ops name answer old new h =
     let next = next_result ops old name in
     let v : InWorld = record { node = old; made = []; learned = [] } in
     elim (stores_or_not ops (is_some (old.opened name)) name next answer old new h) [
-      | inl same ↦ (keeps_node_itself Alone ops old new same, λ n k x e. subst (λ m. slice_get (results_on m n) k ≡ Some x) (sym same) e)
-      | inr is ↦ (keeps_stored ops name old new is, λ n k x e. subst (λ m. slice_get (results_on m n) k ≡ Some x) (stores_node ops name next v ∙ sym is) ((kept_stores ops name next v).results_kept n k x e))
+      | inl same ↦ (keeps_node_itself Alone ops old new same, λ n k x e. subst (λ m. result_on m n k ≡ Some x) (sym same) e)
+      | inr is ↦ (keeps_stored ops name old new is, λ n k x e. subst (λ m. result_on m n k ≡ Some x) (stores_node ops name next v ∙ sym is) ((kept_stores ops name next v).results_kept n k x e))
     ]
 
 -- a process acknowledges what its board has
