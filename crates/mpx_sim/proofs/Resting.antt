@@ -7,7 +7,7 @@ use Rattle.mpx_num.specs.declared.own.Operation.{Operation}
 use Rattle.mpx_name.specs.Name.{Name}
 use Rattle.mpx_board.specs.Boards.{IsBoardBelow}
 use Rattle.mpx_value.specs.Histories.{Answer, Results}
-use Rattle.mpx_node.specs.Nodes.{NodeView, has_next, results_on}
+use Rattle.mpx_node.specs.Nodes.{NodeView, has_next, result_on}
 use Rattle.mpx_world.specs.Worlds.{WorldView}
 use Rattle.mpx_world.proofs.Reached.{are_least}
 use Rattle.mpx_world.proofs.Steps.{Holds}
@@ -58,7 +58,7 @@ module _ (ops : List Operation) (ranks : ℕ) (s : System) (p : ℕ) (l : p < ra
   todo_is waits todo e f = stands.stands.todo ∙ λ i. todo_of (e i) (f i)
 
   untold : (name : Name) (call : ℕ) → IsOpen v.node name call → told name call ≡ None
-  untold name call pending = hand name call (ap (λ (n : NodeView). slice_get (results_on n name) call) (sym at.node) ∙ pending.none) (ap (λ (n : NodeView). has_next n name) (sym at.node) ∙ pending.next)
+  untold name call pending = hand name call (ap (λ (n : NodeView). result_on n name call) (sym at.node) ∙ pending.none) (ap (λ (n : NodeView). has_next n name) (sym at.node) ∙ pending.next)
 
   not_done : (words : List (List ℕ)) → OneIsOpen v.node v.rank.requests words → are_done (outcomes_of told) (named (s.ranks p).requests) words ≡ false
   not_done words o =

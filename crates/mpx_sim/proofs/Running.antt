@@ -12,13 +12,13 @@ use Rattle.mpx_board.specs.Changes.{pruned_on}
 use Rattle.mpx_delta.specs.Digests.{HasUpTo}
 use Rattle.mpx_node.specs.declared.finished.Finished.{Finished}
 use Rattle.mpx_node.specs.Harvests.{with_next}
-use Rattle.mpx_node.specs.Nodes.{NodeView, acknowledge, learn, learn_some, next_result, prune_part, results_on}
-use Rattle.mpx_world.specs.Worlds.{WorldView, Happening, IsNoPost, MayHappen, happens, stores, drops, takes, acknowledges, harvests, prunes, Harvests, Prunes, Takes, Acknowledges, at_process, ProcessView as InWorld}
+use Rattle.mpx_node.specs.Nodes.{NodeView, acknowledge, learn, learn_some, next_result, prune_part, result_on}
+use Rattle.mpx_world.specs.Worlds.{WorldView, Happening, MayHappen, happens, stores, drops, takes, acknowledges, harvests, prunes, Harvests, Prunes, Takes, Acknowledges, at_process, ProcessView as InWorld}
 use Rattle.mpx_world.proofs.Kept.{kept_stores, taken_node}
 use Rattle.mpx_world.proofs.Steps.{at_here}
 use Rattle.mpx_meaning.specs.Evaluation.{Script}
 use Rattle.mpx_rank.specs.Moves.{RankView}
-use Rattle.mpx_system.specs.Systems.{System, Doing, Nets, does, MayDo, start_system}
+use Rattle.mpx_system.specs.Systems.{IsPassive, System, Doing, Nets, does, MayDo, start_system}
 use Rattle.mpx_system.proofs.Coupling.{Couples}
 use Rattle.mpx_system.proofs.Leading.{coupled, leads_on}
 use Rattle.mpx_system.proofs.Posting.{each_other}
@@ -75,7 +75,7 @@ module _ (ops : List Operation) (script : Script) (ranks size : ℕ) (begun : Mo
       }
 
   -- something of process p that makes no post, and changes its node so
-  net_on : (p : ℕ) (r : RankView Name) (old new : NodeView) → slice_get processes p ≡ Some (record { rank = r; node = old }) → (h : Happening) (f : InWorld → InWorld) → IsNoPost h → IsIn phase (Nets h) → MayHappen run.system.world h
+  net_on : (p : ℕ) (r : RankView Name) (old new : NodeView) → slice_get processes p ≡ Some (record { rank = r; node = old }) → (h : Happening) (f : InWorld → InWorld) → IsPassive h → IsIn phase (Nets h) → MayHappen run.system.world h
       → happens run.system.world h ≡ at_process p f run.system.world → new ≡ (f (run.system.world.each p)).node → IsUnderWay ops script ranks size begun phase (set processes p (record { rank = r; node = new })) frames
   net_on p r old new at h f net into may is e =
       let s = run.system in
@@ -153,7 +153,7 @@ run_scheduled ops script ranks size begun turn t u ps qs bs cs s p f run = run_s
 -- A NODE'S STEPS
 
 -- a step of a node that happens in each world of these operations where the node is so
-keeps_net : (phase : Phase) (ops : List Operation) (old new : NodeView) (h : ℕ → Happening) (f : List Operation → InWorld → InWorld) → ((p : ℕ) → IsNoPost (h p)) → ((w : WorldView) (p : ℕ) → happens w (h p) ≡ at_process p (f w.operations) w) → ((p : ℕ) → IsIn phase (Nets (h p)))
+keeps_net : (phase : Phase) (ops : List Operation) (old new : NodeView) (h : ℕ → Happening) (f : List Operation → InWorld → InWorld) → ((p : ℕ) → IsPassive (h p)) → ((w : WorldView) (p : ℕ) → happens w (h p) ≡ at_process p (f w.operations) w) → ((p : ℕ) → IsIn phase (Nets (h p)))
     → ((w : WorldView) (p : ℕ) → (w.each p).node ≡ old → MayHappen w (h p)) → ((v : InWorld) → v.node ≡ old → new ≡ (f ops v).node) → KeepsNode phase ops old new
 keeps_net phase ops old new h f net is into may e r script ranks size begun processes frames p at run =
     let w = run.system.world in
@@ -167,13 +167,13 @@ stores_node ops name (Some finished) v = refl
 
 -- a harvest keeps the run, and what the node held
 pub keeps_next : (ops : List Operation) (name : Name) (old : NodeView) → KeepsNode Alone ops old (with_next ops (next_result ops old name) name old)
-    × ((n : Name) (k : ℕ) (x : Finished) → slice_get (results_on old n) k ≡ Some x → slice_get (results_on (with_next ops (next_result ops old name) name old) n) k ≡ Some x)
+    × ((n : Name) (k : ℕ) (x : Finished) → result_on old n k ≡ Some x → result_on (with_next ops (next_result ops old name) name old) n k ≡ Some x)
 keeps_next ops name old =
     let next = next_result ops old name in
     let v : InWorld = record { node = old; made = []; learned = [] } in (
       keeps_net Alone ops old (with_next ops next name old) (λ p. Harvests p name) (λ o. harvests o name) (λ p. tt) (λ w p. refl) (λ p. tt) (λ w p same. tt)
           (λ v same. (λ i. with_next ops (next_result ops (sym same i) name) name (sym same i)) ∙ sym (stores_node ops name (next_result ops v.node name) v)),
-      λ n k x e. subst (λ m. slice_get (results_on m n) k ≡ Some x) (stores_node ops name next v) ((kept_stores ops name next v).results_kept n k x e),
+      λ n k x e. subst (λ m. result_on m n k ≡ Some x) (stores_node ops name next v) ((kept_stores ops name next v).results_kept n k x e),
     )
 
 -- a process acknowledges what its board has

@@ -14,7 +14,7 @@ use Rattle.mpx_board.specs.Boards.{told}
 use Rattle.mpx_value.specs.declared.outcomes.Outcome.{Outcome}
 use Rattle.mpx_value.specs.declared.outcomes.Outcome.TheVariants.{Nothing, Absent, Items, NewComm, Null, Fault}
 use Rattle.mpx_node.specs.declared.finished.Finished.{Finished}
-use Rattle.mpx_node.specs.Nodes.{NodeView, Opens, checked_on, freed_on, gathering_name, gathers_on, open_gathering_node, posted_on, results_on, with_post}
+use Rattle.mpx_node.specs.Nodes.{NodeView, Opens, checked_on, freed_on, gathering_name, gathers_on, open_gathering_node, posted_on, result_on, with_post}
 use Rattle.mpx_node.specs.Shown.{node_of}
 use Rattle.mpx_statement.specs.declared.statement.Posting.{Posting}
 use Rattle.mpx_statement.specs.Statements.{Gathers, draft_of, gathers_of}
@@ -67,7 +67,7 @@ IsContext on (Some asked) result old new = Opens on (gathers_on old on asked.tag
 
 -- the stored result of a call
 abbrev pub stored_at : NodeView → Name → (call : ℕ) → Option Finished
-stored_at node name call = slice_get (results_on node name) call
+stored_at node name call = result_on node name call
 
 -- the outcome of a result
 abbrev pub outcome_in : Option Finished → Option Outcome

@@ -1,7 +1,7 @@
 -- When a run ends before its last turn.
 use Rattle.std.specs.Prelude.{◌≡◌, ◌⊎◌, ℕ, ◌<◌, ◌≤◌, true, false, List, [], ◌∷◌, map, Option, None, Some, slice_get}
 use Rattle.mpx_name.specs.Name.{Name}
-use Rattle.mpx_node.specs.Nodes.{NodeView, has_next, results_on}
+use Rattle.mpx_node.specs.Nodes.{NodeView, has_next, result_on}
 use Rattle.mpx_statement.specs.declared.statement.Statement.{Statement}
 use Rattle.mpx_statement.specs.declared.statement.Statement.TheVariants.{Wait}
 use Rattle.mpx_meaning.specs.Standing.{WaitView}
@@ -23,7 +23,7 @@ pub record OneWaits (count : ℕ) (processes : List ProcessView) : Type 0 where
 
 -- the call has no result, and the next one on its context can't be had
 pub record IsOpen (node : NodeView) (name : Name) (call : ℕ) : Type 0 where
-  pub none : slice_get (results_on node name) call ≡ None
+  pub none : result_on node name call ≡ None
   pub next : has_next node name ≡ false
 
 -- the call of one of these words' requests isn't done, and the next one on its context can't be had

@@ -6,7 +6,7 @@ use Rattle.mpx_delta.specs.Facts.{OnlyFactsOf}
 use Rattle.mpx_node.specs.Deltas.{lacking_on}
 use Rattle.mpx_node.specs.Nodes.{NodeView}
 use Rattle.mpx_script.specs.ScriptView.{ScriptView}
-use Rattle.mpx_world.specs.Worlds.{Posts, Harvests, Gathers, Prunes, Sends, Takes, TakesPartly, Acknowledges}
+use Rattle.mpx_world.specs.Worlds.{Posts, Harvests, Gathers, Prunes, Sends, Takes, TakesPartly, Acknowledges, Forgets}
 use Rattle.mpx_meaning.specs.Evaluation.{State}
 use Rattle.mpx_meaning.specs.Reports.{is_left}
 use Rattle.mpx_system.specs.Systems.{System, Doing, Nets, Drives, MayDoAll, does_all, start_system}
@@ -23,6 +23,7 @@ IsOwn (Nets (Sends p part)) = ⊥
 IsOwn (Nets (Takes p place)) = ⊥
 IsOwn (Nets (TakesPartly p place left)) = ⊥
 IsOwn (Nets (Acknowledges p numbers)) = ⊥
+IsOwn (Nets (Forgets p name below)) = ⊥
 
 -- a process says what it has
 abbrev pub IsSaid : Doing → Type 0
@@ -35,6 +36,7 @@ IsSaid (Nets (Sends p part)) = ⊥
 IsSaid (Nets (Takes p place)) = ⊥
 IsSaid (Nets (TakesPartly p place left)) = ⊥
 IsSaid (Nets (Acknowledges p numbers)) = Unit {0}
+IsSaid (Nets (Forgets p name below)) = ⊥
 
 -- a frame comes
 abbrev pub IsTaken : Doing → Type 0
@@ -47,6 +49,7 @@ IsTaken (Nets (Sends p part)) = ⊥
 IsTaken (Nets (Takes p place)) = Unit {0}
 IsTaken (Nets (TakesPartly p place left)) = ⊥
 IsTaken (Nets (Acknowledges p numbers)) = ⊥
+IsTaken (Nets (Forgets p name below)) = ⊥
 
 abbrev pub AreAllSo : (Doing → Type 0) → List Doing → Type 0
 AreAllSo P [] = Unit {0}

@@ -10,11 +10,13 @@ use Rattle.mpx_post.specs.declared.draft.PostError.{PostError}
 use Rattle.mpx_value.specs.declared.outcomes.Outcome.TheVariants.{NewComm}
 use Rattle.mpx_value.specs.Histories.{Answer, Made, answer_with, birth_of, posts_on, Results, Within, results_of}
 use Rattle.mpx_node.specs.Nodes.{OpenedView, fresh, opened_at_start}
-use Rattle.mpx_world.specs.Worlds.{WorldView, history, births, Happening, IsNoPost, happens, MayHappen, goes_on as goes_on_world}
+use Rattle.mpx_world.specs.Worlds.{WorldView, history, births, Happening, Posts, Harvests, Gathers, Prunes, Sends, Takes, TakesPartly, Acknowledges, Forgets, IsNoPost, happens, MayHappen, goes_on as goes_on_world}
 use Rattle.mpx_world.proofs.Lists.{same_number, name_itself}
 use Rattle.mpx_world.proofs.Later.{Later, later_happens, later_itself, made_happens}
 use Rattle.mpx_world.proofs.Steps.{holds_start}
 use Rattle.mpx_world.proofs.Opened.{in_start}
+use Rattle.mpx_world.proofs.Complete.{all_start}
+use Rattle.mpx_world.specs.Forgetting.{LetsNothingGo}
 use Rattle.mpx_statement.specs.declared.statement.Posting.{Posting}
 use Rattle.mpx_statement.specs.declared.statement.Question.{Question}
 use Rattle.mpx_statement.specs.declared.statement.Statement.{Statement}
@@ -30,8 +32,22 @@ use Rattle.mpx_meaning.proofs.Ahead.{goes_on_cases}
 use Rattle.mpx_meaning.proofs.Ends.{goes_on-at}
 use Rattle.mpx_meaning.proofs.Passing.{carries_out-grows, step-carries_out, carried_out-tell}
 use Rattle.mpx_meaning.proofs.Tells.{each-me, each-bound, given_by, named-bound}
-use Rattle.mpx_system.specs.Systems.{System, posts_bound, posts_of, Doing, Nets, Drives, does, does_all, MayDo, MayDoAll, start_system, TellsResults, world_tells}
+use Rattle.mpx_system.specs.Systems.{System, posts_bound, posts_of, Doing, IsPassive, Nets, Drives, does, does_all, MayDo, MayDoAll, start_system, TellsResults, world_tells}
 use Rattle.mpx_system.proofs.Posting.{Upheld, upheld_happens, is_there, tells_at, tells_on, value_known, Follows, Driven, follows_itself, IsBoundSo, driven_bound}
+
+-- WHAT GOES ON WITHOUT A RANK'S MOVE
+
+-- it makes no post and lets nothing go
+passive_so : (h : Happening) → IsPassive h → IsNoPost h × LetsNothingGo h
+passive_so (Posts p name given) none = absurd none
+passive_so (Harvests p name) none = (tt, tt)
+passive_so (Gathers p parent tag ranks) none = (tt, tt)
+passive_so (Prunes p name n) none = (tt, tt)
+passive_so (Sends p part) none = (tt, tt)
+passive_so (Takes p place) none = (tt, tt)
+passive_so (TakesPartly p place left) none = (tt, tt)
+passive_so (Acknowledges p numbers) none = (tt, tt)
+passive_so (Forgets p name below) none = absurd none
 
 -- A WORLD AND ITS RANKS
 
@@ -145,17 +161,18 @@ module _ (ops : List Operation) (script : List (List Statement)) (ranks : ℕ) (
   couples_stay : (p : ℕ) → step ops (world_tells s.world p) (s.ranks p) ≡ None → Couples ops script ranks (record { world = s.world; ranks = rank_goes_on ops s.ranks p (world_tells s.world p) })
   couples_stay p e = subst (λ u. Couples ops script ranks (record { world = s.world; ranks = u })) (goes_on-none ops s.ranks p (world_tells s.world p) e) c
 
-  -- what is no post
-  couples_net : (h : Happening) → IsNoPost h → MayHappen s.world h → Couples ops script ranks (record { world = happens s.world h; ranks = s.ranks })
-  couples_net h net m =
+  -- what goes on without a rank's move
+  couples_net : (h : Happening) → IsPassive h → MayHappen s.world h → Couples ops script ranks (record { world = happens s.world h; ranks = s.ranks })
+  couples_net h passive m =
+      let net = passive_so h passive in
       let later = later_happens s.world h in
-      let upheld = upheld_happens s.world h c.upheld m in
+      let upheld = upheld_happens s.world h net.1 c.upheld m in
       record {
         upheld = upheld;
         size = sym later.ranks ∙ c.size;
         operations = sym later.operations ∙ c.operations;
         opened = λ p l word name birth e. (later.kept p).opened_kept name (c.opened p l word name birth e);
-        made = λ p. made_happens s.world h net p ∙ c.made p;
+        made = λ p. made_happens s.world h net.0 p ∙ c.made p;
         relays = c.relays;
         told = λ p. carries_out-grows ops (world_tells s.world p) (world_tells (happens s.world h) p) (tells_on s.world (happens s.world h) later c.upheld upheld p) (bound_at_start ranks) (statements_of script p) (s.ranks p) (c.told p);
         reached = c.reached;
@@ -267,7 +284,7 @@ bound_first ranks false name birth e = cc e
 
 pub couples_start : (ops : List Operation) (script : List (List Statement)) (ranks size : ℕ) → Couples ops script ranks (start_system ops script ranks size)
 couples_start ops script ranks size = record {
-  upheld = record { holds = holds_start ops ranks size; in_all = in_start ops ranks size };
+  upheld = record { holds = holds_start ops ranks size; in_all = in_start ops ranks size; complete = λ q. all_start ranks size q };
   size = refl;
   operations = refl;
   opened = λ p l word name birth e. subst (λ n. IsTrue (is_some (opened_at_start p ranks n))) (sym (bound_first ranks (bytes_eq word (codes "world")) name birth e)) (opened_first ranks p l);

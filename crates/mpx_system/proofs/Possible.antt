@@ -12,9 +12,11 @@ use Rattle.mpx_board.specs.Boards.{Look, IsBoardBelow}
 use Rattle.mpx_board.proofs.Facts.{below_through}
 use Rattle.mpx_value.specs.Histories.{Answer, answer_with}
 use Rattle.mpx_node.specs.declared.finished.Finished.{Finished}
-use Rattle.mpx_node.specs.Nodes.{OpenedView, front_on, has_next, next_of, next_result, results_on}
+use Rattle.mpx_node.specs.Nodes.{OpenedView, front_on, has_next, next_of, next_result, result_on, results_on}
 use Rattle.mpx_node.proofs.Nexts.{next_is_there}
 use Rattle.mpx_world.specs.Worlds.{ProcessView, WorldView, Harvests, Sends, Takes, births, happens, harvests, made_next, own_front, stores}
+use Rattle.mpx_node.proofs.Gone.{past_all}
+use Rattle.mpx_world.proofs.Complete.{HasAll}
 use Rattle.mpx_world.proofs.Later.{Later, later_goes_on, later_happens, later_itself, later_then}
 use Rattle.mpx_world.proofs.Lists.{slice_get-push}
 use Rattle.mpx_world.proofs.Kept.{front_added}
@@ -30,7 +32,7 @@ use Rattle.mpx_system.specs.Systems.{System, Doing, Nets, Drives, MayDoAll, Lead
 use Rattle.mpx_system.specs.Rest.{AreFullRounds, IsFullRound, IsSettled, WaitsBy, WasSettled, after_rounds}
 use Rattle.mpx_system.proofs.Coupling.{Couples, couples_all, couples_does}
 use Rattle.mpx_system.proofs.Leading.{coupled}
-use Rattle.mpx_system.proofs.Results.{some_at}
+use Rattle.mpx_system.proofs.Posting.{held_all}
 use Rattle.mpx_system.proofs.Rounds.{rounds_end}
 
 -- LISTS
@@ -139,10 +141,10 @@ module _ (ops : List Operation) (script : List (List Statement)) (ranks : ℕ) w
     -- HARVESTING
 
     abbrev IsHeld : System → Name → ℕ → Type 0
-    IsHeld t name k = is_some (slice_get (results_on (t.world.each p).node name) k) ≡ true
+    IsHeld t name k = is_some (result_on (t.world.each p).node name k) ≡ true
 
     abbrev IsLacked : System → Name → ℕ → Type 0
-    IsLacked t name k = (slice_get (results_on (t.world.each p).node name) k ≡ None) × (has_next (t.world.each p).node name ≡ false)
+    IsLacked t name k = (result_on (t.world.each p).node name k ≡ None) × (has_next (t.world.each p).node name ≡ false)
 
     abbrev Stays : System → System → Type 0
     Stays s t = Later s.world t.world × (t.ranks ≡ s.ranks)
@@ -150,27 +152,27 @@ module _ (ops : List Operation) (script : List (List Statement)) (ranks : ℕ) w
     stays_then : (a b c : System) → Stays a b → Stays b c → Stays a c
     stays_then a b c h k = (later_then a.world b.world c.world h.0 k.0, k.1 ∙ h.1)
 
-    held_later : (s t : System) → Later s.world t.world → (name : Name) (k : ℕ) → IsHeld s name k → IsHeld t name k
-    held_later s t later name k h =
-        let f = some_there (slice_get (results_on (s.world.each p).node name) k) h in
-        ap is_some ((later.kept p).results_kept name k f.0 f.1)
+    held_later : (s t : System) → Later s.world t.world → HasAll (t.world.each p).node → (name : Name) (k : ℕ) → IsHeld s name k → IsHeld t name k
+    held_later s t later all name k h =
+        let f = some_there (result_on (s.world.each p).node name k) h in
+        ap is_some (held_all (t.world.each p).node name k f.0 (all name) ((later.kept p).results_kept name k f.0 f.1))
 
     abbrev IsTried : Name → ℕ → System → System → Type 0
     IsTried name k s t = Stays s t × (IsHeld t name k ⊎ IsLacked t name k)
 
     -- it has a result, or it has none and none can be had; else the next one is harvested
-    try_by : (name : Name) (k : ℕ) (s : System) → (slice_get (results_on (s.world.each p).node name) k ≡ None → has_next (s.world.each p).node name ≡ true → Comes ranks s (IsTried name k s)) → Comes ranks s (IsTried name k s)
-    try_by name k s more = by_result (slice_get (results_on (s.world.each p).node name) k) refl where
-      by_next : slice_get (results_on (s.world.each p).node name) k ≡ None → (b : Bool) → has_next (s.world.each p).node name ≡ b → Comes ranks s (IsTried name k s)
+    try_by : (name : Name) (k : ℕ) (s : System) → (result_on (s.world.each p).node name k ≡ None → has_next (s.world.each p).node name ≡ true → Comes ranks s (IsTried name k s)) → Comes ranks s (IsTried name k s)
+    try_by name k s more = by_result (result_on (s.world.each p).node name k) refl where
+      by_next : result_on (s.world.each p).node name k ≡ None → (b : Bool) → has_next (s.world.each p).node name ≡ b → Comes ranks s (IsTried name k s)
       by_next none false next = at_once s (IsTried name k s) ((later_itself s.world, refl), inr (none, next))
       by_next none true next = more none next
 
-      by_result : (o : Option Finished) → slice_get (results_on (s.world.each p).node name) k ≡ o → Comes ranks s (IsTried name k s)
+      by_result : (o : Option Finished) → result_on (s.world.each p).node name k ≡ o → Comes ranks s (IsTried name k s)
       by_result (Some f) e = at_once s (IsTried name k s) ((later_itself s.world, refl), inl (ap is_some e))
       by_result None e = by_next e (has_next (s.world.each p).node name) refl
 
     tries : (fuel : ℕ) (name : Name) (k : ℕ) (s : System) → Couples ops script ranks s → k < own_front s.world name p + fuel → Comes ranks s (IsTried name k s)
-    tries zero name k s c fits = try_by name k s (λ none next. let f = some_at (results_on (s.world.each p).node name) k (omega (arith, fits)) in let held = f.1 in cc (held, none))
+    tries zero name k s c fits = try_by name k s (λ none next. let past = past_all (results_on (s.world.each p).node name) k (c.upheld.complete p name) none in absurd (omega (arith, fits, past)))
     tries (suc fuel) name k s c fits = try_by name k s (λ none next.
         let t : is_some (next_result s.world.operations (s.world.each p).node name) ≡ true = next_is_there s.world.operations (s.world.each p).node name ∙ next in
         let o = opened_there s.world.operations ((s.world.each p).node.opened name) (s.world.each p).node.board name (s.world.each p).node.me t in
@@ -206,15 +208,15 @@ module _ (ops : List Operation) (script : List (List Statement)) (ranks : ℕ) w
                 is = (
                   stays_then s t u h.0 r.is.0,
                   elim r.is.1 [
-                    | inl all ↦ inl (first_and t u call rest (r.is.0.0) held all)
+                    | inl all ↦ inl (first_and t u call rest (r.is.0.0) ((couples_all ops script ranks r.ds t d r.may).upheld.complete p) held all)
                     | inr one ↦ inr (record { place = suc one.place; call = one.call; at = one.at; lacked = one.lacked })
                   ],
                 );
               }
         ]) where
-          first_and : (t u : System) (call : Name × ℕ) (rest : List (Name × ℕ)) → Later t.world u.world → IsHeld t call.0 call.1 → AllHeld u rest → AllHeld u (call ∷ rest)
-          first_and t u call rest later held all zero x e = subst (λ (y : Name × ℕ). IsHeld u y.0 y.1) (same_Some call x e) (held_later t u later call.0 call.1 held)
-          first_and t u call rest later held all (suc i) x e = all i x e
+          first_and : (t u : System) (call : Name × ℕ) (rest : List (Name × ℕ)) → Later t.world u.world → HasAll (u.world.each p).node → IsHeld t call.0 call.1 → AllHeld u rest → AllHeld u (call ∷ rest)
+          first_and t u call rest later has held all zero x e = subst (λ (y : Name × ℕ). IsHeld u y.0 y.1) (same_Some call x e) (held_later t u later has call.0 call.1 held)
+          first_and t u call rest later has held all (suc i) x e = all i x e
 
     -- GOING ON UNTIL IT WAITS
 
@@ -232,7 +234,7 @@ module _ (ops : List Operation) (script : List (List Statement)) (ranks : ℕ) w
     held_moves : (s t : System) → Couples ops script ranks t → t.ranks ≡ s.ranks → (calls : List (Name × ℕ)) (act : List Answer → Act) → next ops (s.ranks p) ≡ Asks calls act → AllHeld t calls → (u : Local) × (step t.world.operations (world_tells t.world p) (t.ranks p) ≡ Some u)
     held_moves s t d same calls act asks all =
         let asks_now : next ops (t.ranks p) ≡ Asks calls act = (λ i. next ops (same i p)) ∙ asks in
-        let given = all_given (λ (call : Name × ℕ). world_tells t.world p call.0 call.1) calls (λ i call e. mapped_there (births t.world) (slice_get (results_on (t.world.each p).node call.0) call.1) (all i call e)) in
+        let given = all_given (λ (call : Name × ℕ). world_tells t.world p call.0 call.1) calls (λ i call e. mapped_there (births t.world) (result_on (t.world.each p).node call.0 call.1) (all i call e)) in
         let u : Local = done (t.ranks p) (act given.0) in
         let steps : step ops (world_tells t.world p) (t.ranks p) ≡ Some u = ap (step_by (world_tells t.world p) (t.ranks p)) asks_now ∙ ap (option_and_then (λ xs. let o : Option Local = Some (done (t.ranks p) (act xs)) in o)) given.1 in
         (u, (λ i. step (d.operations i) (world_tells t.world p) (t.ranks p)) ∙ steps)

@@ -17,9 +17,13 @@ use Rattle.mpx_post.proofs.Gatherings.{closed_gathering}
 use Rattle.mpx_board.specs.Boards.{IsGone, told}
 use Rattle.mpx_value.specs.Histories.{Answer, Made, answer_with, gathered, has_freed, outcomes_by, posts_on, Within, results_of, value_for}
 use Rattle.mpx_node.specs.declared.finished.Finished.{Finished}
-use Rattle.mpx_node.specs.Nodes.{OpenedView, freed_by, freed_on, posted_by, results_on, checked_by, checked_on, checked_there, gathering_name, gathers_by, gathers_on, gathers_there, open_gathering_node}
+use Rattle.mpx_node.specs.Nodes.{NodeView, OpenedView, freed_by, freed_on, posted_by, result_on, results_on, checked_by, checked_on, checked_there, gathering_name, gathers_by, gathers_on, gathers_there, open_gathering_node}
 use Rattle.mpx_world.specs.Worlds.{ProcessView, WorldView, history, births, at_process, gathers, makes, opens_gathering, Happening, Posts, Gathers, happens, MayGoOn, MayHappen, MayPost, goes_on as goes_on_world}
+use Rattle.mpx_world.specs.Forgetting.{IsHeldOrGone, LetsNothingGo}
 use Rattle.mpx_world.specs.Soundness.{IsValue}
+use Rattle.mpx_world.proofs.Complete.{HasAll, all_happens}
+use Rattle.mpx_node.specs.Stored.{count_gone, stored_at}
+use Rattle.mpx_node.proofs.Gone.{AllThere}
 use Rattle.mpx_world.proofs.Freeing.{all_of_at}
 use Rattle.mpx_world.proofs.Lists.{any_at, same_number}
 use Rattle.mpx_world.proofs.Later.{Later, births_grow, later_happens, later_itself, later_then, made_happens}
@@ -40,9 +44,10 @@ use Rattle.mpx_value.proofs.Histories.{same_answer, gathered_there}
 pub record Upheld (w : WorldView) : Type 0 where
   pub holds : Holds w
   pub in_all : AllIn w
+  pub complete : (q : ℕ) → HasAll (w.each q).node
 
-pub upheld_happens : (w : WorldView) (h : Happening) → Upheld w → MayHappen w h → Upheld (happens w h)
-upheld_happens w h u m = record { holds = holds_happens w h u.holds m; in_all = in_happens w h u.holds m u.in_all }
+pub upheld_happens : (w : WorldView) (h : Happening) → LetsNothingGo h → Upheld w → MayHappen w h → Upheld (happens w h)
+upheld_happens w h none u m = record { holds = holds_happens w h u.holds m; in_all = in_happens w h u.holds m u.in_all; complete = all_happens w h none u.complete }
 
 -- of a member's draft and gathering on an opened context the node asks what the birth, its posts and its free say, where it is freed or
 -- the birth is told
@@ -130,14 +135,25 @@ module _ (w : WorldView) (u : Upheld w) (p : ℕ) where
       ∙ λ i. gathering birth p (length name) (g.closed name i) tag ranks
 
   -- the result behind an answer
-  pub tells_at : (name : Name) (k : ℕ) (answer : Answer) → world_tells w p name k ≡ Some answer → (f : Finished) × (slice_get (results_on (w.each p).node name) k ≡ Some f) × (answer_with (births w) f.outcome ≡ answer)
-  tells_at name k answer e = mapped_some (λ (f : Finished). answer_with (births w) f.outcome) (slice_get (results_on (w.each p).node name) k) answer e
+  pub tells_at : (name : Name) (k : ℕ) (answer : Answer) → world_tells w p name k ≡ Some answer → (f : Finished) × (result_on (w.each p).node name k ≡ Some f) × (answer_with (births w) f.outcome ≡ answer)
+  tells_at name k answer e = mapped_some (λ (f : Finished). answer_with (births w) f.outcome) (result_on (w.each p).node name k) answer e
+
+-- where each is there none is gone
+none_gone : {A : Type 0} (xs : List (Option A)) (k : ℕ) → AllThere xs → k < count_gone xs → ⊥
+none_gone [] k all l = absurd (omega (arith, l))
+none_gone (None ∷ xs) k all l = let t = all 0 (omega arith) in cc t
+none_gone (Some x ∷ xs) k all l = absurd (omega (arith, l))
+
+-- where nothing was let go, what is held or gone is held
+pub held_all : (node : NodeView) (name : Name) (k : ℕ) (f : Finished) → AllThere (results_on node name) → IsHeldOrGone node name k f → result_on node name k ≡ Some f
+held_all node name k f all (inl held) = held
+held_all node name k f all (inr gone) = absurd (none_gone (results_on node name) k all gone)
 
 -- who holds more tells more
 pub tells_on : (w new : WorldView) → Later w new → Upheld w → Upheld new → (q : ℕ) → Within (world_tells w q) (world_tells new q)
 tells_on w new later u v q name k answer e =
     let found = tells_at w u q name k answer e in
-    let held = (later.kept q).results_kept name k found.0 found.1 in
+    let held = held_all (new.each q).node name k found.0 (v.complete q name) ((later.kept q).results_kept name k found.0 found.1) in
     ap (option_map (λ (f : Finished). answer_with (births new) f.outcome)) held
     ∙ ap Some (same_answer (births new) (births w) found.0.outcome (λ at size rank is. let x = is_there w u q at ((u.holds.processes q).opened_given name k found.0 found.1 at size rank is) in births_grow w new later at x.birth x.born ∙ sym x.born)
     ∙ found.2)
@@ -188,7 +204,7 @@ module _ (w : WorldView) (u : Upheld w) (p : ℕ) (name : Name) where
   driven_made : (given : Given) → MayPost ((w.each p).node.opened name) → Driven w p (Posts p name given ∷ []) (Ok (record { name = name; given = given }))
   driven_made given may = record {
     follows = record {
-      upheld = upheld_happens w (Posts p name given) u may;
+      upheld = upheld_happens w (Posts p name given) tt u may;
       later = later_happens w (Posts p name given);
       here = ap (λ (x : ProcessView). x.made) (at_here w p (makes name given));
       others = λ q d. ap (λ b. (cond b (makes name given (w.each q)) (w.each q)).made) d;
@@ -222,7 +238,7 @@ module _ (w : WorldView) (u : Upheld w) (p : ℕ) (name : Name) (birth : BirthVi
       let h : Happening = Gathers p name asked.tag asked.ranks in
       let accepted : gathers_on (w.each p).node name asked.tag asked.ranks ≡ Ok g = gathers_so w u p name birth t b asked.tag asked.ranks ∙ e in
       record {
-        upheld = upheld_happens w h u tt;
+        upheld = upheld_happens w h tt u tt;
         node = ap (λ (x : ProcessView). x.node) (at_here w p (gathers name asked.tag asked.ranks)) ∙ ap (λ r. (opens_gathering name r (w.each p)).node) accepted;
         made = made_happens w h tt p;
         there = gathering_opened w p name asked.tag asked.ranks g accepted;

@@ -12,7 +12,8 @@ use Rattle.mpx_birth.specs.Births.{BirthView, rank_in}
 use Rattle.mpx_board.specs.Boards.{told}
 use Rattle.mpx_value.specs.Values.{value}
 use Rattle.mpx_value.specs.Histories.{Answer, History, Made, answer_with, birth_of, outcome_of, outcomes_by, posts_on, results_of, row_of, value_for}
-use Rattle.mpx_node.specs.Nodes.{OpenedView, has_next, next_result, posted_by, posted_on, results_on}
+use Rattle.mpx_node.specs.Nodes.{OpenedView, has_next, next_result, posted_by, posted_on, result_on, results_on}
+use Rattle.mpx_node.proofs.Gone.{past_all}
 use Rattle.mpx_node.proofs.Nexts.{next_is_there}
 use Rattle.mpx_world.specs.Worlds.{Happening, MayGoOn, WorldView, births, goes_on as goes_on_world, history, own_front, start as start_world, world_by}
 use Rattle.mpx_world.specs.Enough.{AreDoneUpTo, IsEnough, WasBy}
@@ -34,7 +35,6 @@ use Rattle.mpx_system.specs.Rest.{IsSettled, IsAtRest}
 use Rattle.mpx_system.proofs.Coupling.{Couples, couples_all, couples_start}
 use Rattle.mpx_system.proofs.Happenings.{doings_lead}
 use Rattle.mpx_system.proofs.Leading.{coupled}
-use Rattle.mpx_system.proofs.Results.{some_at}
 
 -- WHAT AN ANSWER COMES OF
 
@@ -152,9 +152,9 @@ module _ (ops : List Operation) (script : List (List Statement)) (ranks size : �
     }
 
     -- so it has a result, or the next one can be had
-    at_hand : slice_get (results_on (now.world.each p).node name) k ≡ None → has_next (now.world.each p).node name ≡ false → ⊥
+    at_hand : result_on (now.world.each p).node name k ≡ None → has_next (now.world.each p).node name ≡ false → ⊥
     at_hand none pending = elim (cases_lt k (own_front now.world name p)) [
-      | inl less ↦ let f = some_at (results_on (now.world.each p).node name) k less in let held = f.1 in cc (held, none)
+      | inl less ↦ let past = past_all (results_on (now.world.each p).node name) k (after.upheld.complete p name) none in absurd (omega (arith, less, past))
       | inr over ↦
           let d : IsTrue (is_some (next_result now.world.operations (now.world.each p).node name)) = (done name k enough 1 (omega (arith, over))).0 in
           let there : has_next (now.world.each p).node name ≡ true = sym (next_is_there now.world.operations (now.world.each p).node name) ∙ d in
@@ -162,7 +162,7 @@ module _ (ops : List Operation) (script : List (List Statement)) (ranks size : �
     ]
 
   -- of a call that it lacks nothing is known
-  unknown : (name : Name) (k : ℕ) → slice_get (results_on (now.world.each p).node name) k ≡ None → has_next (now.world.each p).node name ≡ false → known ops ranks base.ranks p name k ≡ None
+  unknown : (name : Name) (k : ℕ) → result_on (now.world.each p).node name k ≡ None → has_next (now.world.each p).node name ≡ false → known ops ranks base.ranks p name k ≡ None
   unknown name k none pending = by_answer (known ops ranks base.ranks p name k) refl where
     by_answer : (o : Option Answer) → known ops ranks base.ranks p name k ≡ o → known ops ranks base.ranks p name k ≡ None
     by_answer None e = e

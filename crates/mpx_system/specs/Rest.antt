@@ -1,9 +1,9 @@
 -- When nobody can hear anything new or move, and rounds after which that is so.
-use Rattle.std.specs.Prelude.{◌≡◌, ℕ, ◌<◌, false, List, [], ◌∷◌, ◌++◌, None, slice_get}
+use Rattle.std.specs.Prelude.{◌≡◌, ℕ, ◌<◌, false, List, [], ◌∷◌, ◌++◌, None}
 use Rattle.mpx_num.specs.declared.own.Operation.{Operation}
 use Rattle.mpx_name.specs.Name.{Name}
 use Rattle.mpx_board.specs.Boards.{IsBoardBelow}
-use Rattle.mpx_node.specs.Nodes.{NodeView, has_next, results_on}
+use Rattle.mpx_node.specs.Nodes.{NodeView, has_next, result_on}
 use Rattle.mpx_value.specs.Histories.{Results}
 use Rattle.mpx_world.specs.Worlds.{WorldView}
 use Rattle.mpx_meaning.specs.Ranks.{Local, step}
@@ -11,7 +11,7 @@ use Rattle.mpx_system.specs.Systems.{System, Doing, MayDoAll, does_all}
 
 -- answers that tell nothing of a call whose result the node doesn't hold, where the next result on that context can't be had
 abbrev pub AreAtHand : NodeView → Results → Type 0
-AreAtHand node answers = (name : Name) (call : ℕ) → slice_get (results_on node name) call ≡ None → has_next node name ≡ false → answers name call ≡ None
+AreAtHand node answers = (name : Name) (call : ℕ) → result_on node name call ≡ None → has_next node name ≡ false → answers name call ≡ None
 
 -- a rank waits: whatever it is told of what is at hand at its node, it has no move
 abbrev pub WaitsBy : List Operation → NodeView → Local → Type 0

@@ -10,8 +10,8 @@ use Rattle.mpx_post.specs.Gatherings.{GatheringView, gathering}
 use Rattle.mpx_value.specs.declared.outcomes.Outcome.{Outcome}
 use Rattle.mpx_value.specs.Histories.{Made, Results, answer_with, has_freed, posts_on}
 use Rattle.mpx_node.specs.declared.finished.Finished.{Finished}
-use Rattle.mpx_node.specs.Nodes.{NodeView, results_on}
-use Rattle.mpx_world.specs.Worlds.{WorldView, Happening, Posts, Gathers, IsNoPost, births, happens, MayHappen, MayGoOn, world_by, goes_on as goes_on_world, start as start_world}
+use Rattle.mpx_node.specs.Nodes.{NodeView, result_on}
+use Rattle.mpx_world.specs.Worlds.{WorldView, Happening, Posts, Gathers, Forgets, births, happens, MayHappen, MayGoOn, world_by, goes_on as goes_on_world, start as start_world}
 use Rattle.mpx_statement.specs.declared.statement.Posting.{Posting}
 use Rattle.mpx_statement.specs.declared.statement.Statement.{Statement}
 use Rattle.mpx_statement.specs.declared.statement.Statement.TheVariants.{Post}
@@ -26,7 +26,7 @@ pub record System : Type 0 where
 
 -- what the results that a node holds tell, where communicators came to be so
 abbrev pub node_tells : (born : Name → Option BirthView) → NodeView → Results
-node_tells born node name k = option_map (λ (f : Finished). answer_with born f.outcome) (slice_get (results_on node name) k)
+node_tells born node name k = option_map (λ (f : Finished). answer_with born f.outcome) (result_on node name k)
 
 -- what those of a process tell in its world
 abbrev pub world_tells : WorldView → (process : ℕ) → Results
@@ -58,7 +58,7 @@ module _ (ops : List Operation) where
   posts_of p made bound (Do (Post posting) ∷ rest) = posts_bound p made posting (named bound (communicator_word posting))
   posts_of p made bound todo = []
 
--- something that makes no post, or a rank's next move by what its node's results tell and by the world's own operations, with the
+-- something that goes on without a rank's move, or a rank's next move by what its node's results tell and by the world's own operations, with the
 -- posts that it makes there
 pub data Doing : Type 0 where
   Nets : Happening → Doing
@@ -75,9 +75,15 @@ abbrev pub does_all : System → List Doing → System
 does_all s [] = s
 does_all s (d ∷ ds) = does_all (does s d) ds
 
+-- what goes on without a rank's move: no post is made, and no result is let go
+abbrev pub IsPassive : Happening → Type 0
+IsPassive (Posts p name given) = ⊥
+IsPassive (Forgets p name below) = ⊥
+IsPassive h = Unit {0}
+
 -- processes send what they have seen and acknowledge what they have, and ranks alone move
 abbrev pub MayDo : (ranks : ℕ) → System → Doing → Type 0
-MayDo ranks s (Nets h) = IsNoPost h × MayHappen s.world h
+MayDo ranks s (Nets h) = IsPassive h × MayHappen s.world h
 MayDo ranks s (Drives p) = p < ranks
 
 abbrev pub MayDoAll : (ranks : ℕ) → System → List Doing → Type 0
@@ -102,7 +108,7 @@ pub record IsOfHappenings (ops : List Operation) (ranks size : ℕ) (w : WorldVi
 -- the node holds a result of the call with this outcome, beside the rank's own post of that call
 pub record IsResultOf (node : NodeView) (s : Local) (name : Name) (call : ℕ) (outcome : Outcome) : Type 0 where
   pub finished : Finished
-  pub held : slice_get (results_on node name) call ≡ Some finished
+  pub held : result_on node name call ≡ Some finished
   pub is : finished.outcome ≡ outcome
   pub mine : slice_get (posts_on name s.made) call ≡ Some finished.mine
 
