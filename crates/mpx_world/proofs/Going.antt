@@ -20,7 +20,7 @@ use Rattle.mpx_node.specs.declared.finished.Finished.{Finished}
 use Rattle.mpx_node.specs.declared.node.Harvest.{Harvest}
 use Rattle.mpx_node.specs.declared.node.Harvest.TheVariants as H
 use Rattle.mpx_node.specs.Deltas.{SaysWhatItHas}
-use Rattle.mpx_node.specs.Harvests.{Harvests, HarvestsOpened}
+use Rattle.mpx_node.specs.Harvests.{Harvests, HarvestsOpened, harvested, with_next}
 use Rattle.mpx_node.specs.Nodes.{NodeView, Opens, Posts as MakesPost, StopsTaking, acknowledge, add_result, checked_on, gathers_on, learn, learn_some, next_result, open_gathering_node, with_post, prune_part, result_on}
 use Rattle.mpx_node.specs.Forgetting.{forgets}
 use Rattle.mpx_world.specs.Worlds.{ProcessView, WorldView, MayLeave, MayPost, makes, made_next, stores, opens_gathering, drops, takes, learns, harvests, gathers, prunes, acknowledges, Happening, Posts, Harvests as HappensHarvest, Gathers, Prunes, Sends, Takes, TakesPartly, Acknowledges, Forgets, lets_results_go, at_process, happens, MayHappen, MayGoOn, start, world_by}
@@ -142,12 +142,43 @@ harvest_cases : (ops : List Operation) (is_opened : Bool) (name : Name) (next : 
 harvest_cases ops false name next result old new h = inl h.1
 harvest_cases ops true name next result old new h = opened_cases ops name next result old new h
 
-pub harvest_step : (ops : List Operation) (old new : NodeView) (name : Name) (result : Result Harvest OutOfMemory) → Harvests ops (is_some (old.opened name)) name (next_result ops old name) result old new → IsNodeStep ops old new
-harvest_step ops old new name result h n s with_ops p at = elim (harvest_cases ops (is_some (old.opened name)) name (next_result ops old name) result old new h) [
+next_step : (ops : List Operation) (old new : NodeView) (name : Name) → (new ≡ old) ⊎ ((finished : Finished) × (next_result ops old name ≡ Some finished) × (new ≡ add_result name finished (made_next ops name old) old)) → IsNodeStep ops old new
+next_step ops old new name h n s with_ops p at = elim h [
   | inl same ↦ unchanged_step ops old new same n s with_ops p at
   | inr made ↦ by_step n p old new (harvests (world_in n).operations name) (HappensHarvest p name) s at tt refl (let v = (world_in n).each p in let here = s.each p old at in let same = operations_in n ∙ with_ops in
       made.2 ∙ ap (λ o. add_result name made.0 (made_next o name old) old) (sym same) ∙ ap (λ x. add_result name made.0 (made_next (world_in n).operations name x) x) here ∙ ap (λ o. (stores (world_in n).operations name o v).node) (sym (ap (λ x. next_result (world_in n).operations x name) (sym here) ∙ ap (λ o. next_result o old name) same ∙ made.1)))
 ]
+
+pub harvest_step : (ops : List Operation) (old new : NodeView) (name : Name) (result : Result Harvest OutOfMemory) → Harvests ops (is_some (old.opened name)) name (next_result ops old name) result old new → IsNodeStep ops old new
+harvest_step ops old new name result h = next_step ops old new name (harvest_cases ops (is_some (old.opened name)) name (next_result ops old name) result old new h)
+
+-- one step after the other
+set_there : (nodes : List NodeView) (p : ℕ) (new old : NodeView) → slice_get nodes p ≡ Some old → slice_get (set nodes p new) p ≡ Some new
+set_there [] p new old at = cc at
+set_there (x ∷ nodes) zero new old at = refl
+set_there (x ∷ nodes) (suc p) new old at = set_there nodes p new old at
+
+set_twice : (nodes : List NodeView) (p : ℕ) (first second : NodeView) → set (set nodes p first) p second ≡ set nodes p second
+set_twice [] zero first second = refl
+set_twice [] (suc p) first second = refl
+set_twice (x ∷ nodes) zero first second = refl
+set_twice (x ∷ nodes) (suc p) first second = ap (λ xs. x ∷ xs) (set_twice nodes p first second)
+
+steps_then : (ops : List Operation) (old middle new : NodeView) → IsNodeStep ops old middle → IsNodeStep ops middle new → IsNodeStep ops old new
+steps_then ops old middle new first second n s with_ops p at =
+    let one = first n s with_ops p at in
+    let two = second (network_of one) one.network with_ops p (set_there n.nodes p middle old at) in
+    subst (λ nodes. NetworkGoesOn n nodes n.parts) (set_twice n.nodes p middle new) (further n (set n.nodes p middle) (set (set n.nodes p middle) p new) n.parts n.parts one two)
+
+with_next_cases : (ops : List Operation) (name : Name) (next : Option Finished) (old new : NodeView) → new ≡ with_next ops next name old → (new ≡ old) ⊎ ((finished : Finished) × (next ≡ Some finished) × (new ≡ add_result name finished (made_next ops name old) old))
+with_next_cases ops name None old new e = inl e
+with_next_cases ops name (Some finished) old new e = inr (finished, refl, e)
+
+pub harvested_step : (ops : List Operation) (old new : NodeView) (name : Name) (times : ℕ) → new ≡ harvested ops times name old → IsNodeStep ops old new
+harvested_step ops old new name zero e = unchanged_step ops old new e
+harvested_step ops old new name (suc n) e =
+    let middle = harvested ops n name old in
+    steps_then ops old middle new (harvested_step ops old middle name n refl) (next_step ops middle new name (with_next_cases ops name (next_result ops middle name) middle new e))
 
 gather_cases : (parent : Name) (r : Result GatheringView PostError) (result : Result Name PostError) (old new : NodeView) → Opens parent r result old new → (new ≡ old) ⊎ ((g : GatheringView) × (r ≡ Ok g) × (new ≡ open_gathering_node parent g old))
 gather_cases parent (Err refusal) result old new h = inl h.1

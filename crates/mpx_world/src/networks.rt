@@ -13,7 +13,7 @@ ghost use Rattle.mpx_delta.specs.Facts.{OnlyFactsOf};
 ghost use Rattle.mpx_node.specs.declared.node.Harvest.{Harvest};
 ghost use Rattle.mpx_node.specs.Deltas.{SaysWhatItHas};
 ghost use Rattle.mpx_node.specs.Forgetting.{forgets};
-ghost use Rattle.mpx_node.specs.Harvests.{Harvests};
+ghost use Rattle.mpx_node.specs.Harvests.{Harvests, harvested};
 ghost use Rattle.mpx_node.specs.Nodes.{NodeView, Opens, Posts, StopsTaking, checked_on, gathers_on, learn, next_result};
 ghost use Rattle.mpx_world.specs.Worlds.{Forgets};
 ghost use Rattle.mpx_world.specs.Soundness.{Agree, AgreeAcross, AreCommunicators, AreLeast, AreMembers, ArePermanent, Retains, Sound};
@@ -27,7 +27,7 @@ pub fn networks_begin()
         → IsNetwork (new_network ops ranks size nodes) }
 {}
 
-/// What a call of a node leaves is a network again, whatever it answered: [`Node::post`](mpx_node::Node::post), `harvest`,
+/// What a call of a node leaves is a network again, whatever it answered: [`Node::post`](mpx_node::Node::post), `harvest`, `harvest_to`,
 /// `open_gathering`, `prune`, `forget`, `take` of a part that was sent, and `deltas`. So it is where a call left the node as it was, or only
 /// looked at it. Parts that `part`, `parts` or `deltas` gave were sent then. The premises are what the calls promise. Parts that were
 /// sent may be left out, and of two steps the second goes on where the first ended.
@@ -36,6 +36,7 @@ pub fn networks_go_on()
         → Posts name (checked_on ops old name draft) result old new → IsNodeStep ops old new }
     ensures harvest { (ops : List Operation) (old new : NodeView) (name : Name) (result : Result Harvest OutOfMemory)
         → Harvests ops (is_some (old.opened name)) name (next_result ops old name) result old new → IsNodeStep ops old new }
+    ensures harvest_to { (ops : List Operation) (old new : NodeView) (name : Name) (times : ℕ) → new ≡ harvested ops times name old → IsNodeStep ops old new }
     ensures open_gathering { (ops : List Operation) (old new : NodeView) (parent : Name) (tag : ℤ) (ranks : List ℤ) (result : Result Name PostError)
         → Opens parent (gathers_on old parent tag ranks) result old new → IsNodeStep ops old new }
     ensures prune { (ops : List Operation) (old new : NodeView) (name : Name) (m : ℕ) (result : Result (Unit {0}) PruneError)

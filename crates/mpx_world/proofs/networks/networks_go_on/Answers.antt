@@ -1,4 +1,4 @@
-use Rattle.mpx_world.proofs.Going.{post_step, harvest_step, gather_step, prune_step, take_step, forget_step, deltas_step, unchanged_step, part_given, parts_given, fewer_sent, further}
+use Rattle.mpx_world.proofs.Going.{post_step, harvest_step, harvested_step, gather_step, prune_step, take_step, forget_step, deltas_step, unchanged_step, part_given, parts_given, fewer_sent, further}
 use Rattle.mpx_world.proofs.networks.networks_go_on.Goals as goal
 
 pub returns-clause-post : goal.returns-clause-post
@@ -6,6 +6,9 @@ returns-clause-post c = post_step
 
 pub returns-clause-harvest : goal.returns-clause-harvest
 returns-clause-harvest c = harvest_step
+
+pub returns-clause-harvest_to : goal.returns-clause-harvest_to
+returns-clause-harvest_to c = harvested_step
 
 pub returns-clause-open_gathering : goal.returns-clause-open_gathering
 returns-clause-open_gathering c = gather_step
