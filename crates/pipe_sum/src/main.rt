@@ -61,7 +61,7 @@ fn sum_at(alloc: Global, desk: &mut Desk<Node>, ops: &Ops) -> Option<i128> {
 fn sum_heard(rt: &HostRuntime, desk: &mut Desk<Node>, ops: &Ops) -> Option<i128> {
     let alloc = rt.alloc();
     for line in rt.lines(alloc) {
-        hear(alloc, desk, line.ok()?.as_str())?;
+        hear(alloc, desk, line.ok()?.as_bytes())?;
         let sum = sum_at(alloc, desk, ops);
         if sum.is_some() {
             return sum;

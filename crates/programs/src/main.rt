@@ -56,7 +56,7 @@ fn print_all<R: Threads + Wait + Sync, W: Write>(
     ops: &Ops,
 ) -> Option<()> {
     print_job(rt, alloc, out, "scan", 6, &Scan, ops)?;
-    print_job(rt, alloc, out, "sort", 6, &Sort { each: 500 }, ops)?;
+    print_job(rt, alloc, out, "sort", 16, &Sort { each: 200 }, ops)?;
     print_job(rt, alloc, out, "paths", 8, &Paths, ops)?;
     print_job(rt, alloc, out, "flight", 3, &Flight, ops)?;
     out.flush().ok()

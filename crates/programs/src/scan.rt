@@ -27,9 +27,9 @@ impl Program for Scan {
     }
 }
 
-// The matrix of a rank: its number and 1 above, 1 and 0 below.
+// The matrix of a rank: 30,000 and its number, and 1, above; 1 and 0 below.
 fn matrix_of(rank: u8) -> i128 {
-    i128::from(rank) + (1 << 16) + (1 << 32)
+    30_000 + i128::from(rank) + (1 << 16) + (1 << 32)
 }
 
 // Both rows of a matrix.
