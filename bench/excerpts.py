@@ -3,8 +3,8 @@
 
     bench/excerpts.py
 
-Each block of docs/CALLING.md, and of the tour's own page, stands, line by line, in a file of crates/first_sum (what it prints, and the program whole) or of
-crates/tour. Each block of docs/TESTING.md, docs/EXAMPLES.md, docs/SCRIPTS.md and README.md that is a script or a program stands in a file of
+Each block of docs/CALLING.md, and of the tour's own page, stands, line by line, in a file of crates/first_sum (what it prints, and the program whole), of
+crates/programs, matrix_product or pipe_sum, or of crates/tour. Each block of docs/TESTING.md, docs/EXAMPLES.md, docs/SCRIPTS.md and README.md that is a script or a program stands in a file of
 examples/; one that is a script alone may also be a row of crates/job_rows. Blocks of commands, and of what a command prints, are passed over."""
 import pathlib
 import re
@@ -34,7 +34,8 @@ def faults(page, blocks, sources):
 
 
 def main():
-    code = files("crates/first_sum/src/*.rt", "crates/first_sum/stdout", "crates/tour/src/*.rt")
+    code = files("crates/first_sum/src/*.rt", "crates/first_sum/stdout", "crates/programs/src/*.rt", "crates/matrix_product/src/*.rt",
+                 "crates/pipe_sum/src/*.rt", "crates/tour/src/*.rt")
     scripts = files("examples/*.job", "examples/*.py", "examples/testing/*", "crates/job_rows/stdin")
     told, count = [], 0
     of_code = ("docs/CALLING.md", "crates/tour/README.md")

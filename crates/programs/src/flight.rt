@@ -30,8 +30,14 @@ impl Program for Flight {
     }
 }
 
-// Posts the rank's number. It waits for nobody.
-fn post<H: Host>(alloc: Global, desk: &mut Desk<H>, world: &Comm, op: Op, ops: &Ops) -> Option<()> {
+/// Posts the rank's number. It waits for nobody.
+pub fn post<H: Host>(
+    alloc: Global,
+    desk: &mut Desk<H>,
+    world: &Comm,
+    op: Op,
+    ops: &Ops,
+) -> Option<()> {
     let mine = Numbers::one(i128::from(world.rank()) + 3);
     let request = desk.iallreduce(alloc, world, op, Ty::I32, mine, ops);
     drop(request.ok()?);

@@ -1,12 +1,14 @@
 //! The program `programs`: small programs by `ranks`, as the tutorials of MPI have them, each in a file of its own.
 #![tactic(auto)]
 
+mod asks;
 mod flight;
 mod given;
 mod paths;
 mod scan;
 mod sort;
 
+use asks::Asks;
 use flight::Flight;
 use matrix_product::Product;
 use mpx_num::{Ops, OwnOp};
@@ -59,6 +61,7 @@ fn print_all<R: Threads + Wait + Sync, W: Write>(
     print_job(rt, alloc, out, "sort", 16, &Sort { each: 200 }, ops)?;
     print_job(rt, alloc, out, "paths", 8, &Paths, ops)?;
     print_job(rt, alloc, out, "flight", 3, &Flight, ops)?;
+    print_job(rt, alloc, out, "asks", 3, &Asks, ops)?;
     out.flush().ok()
 }
 
