@@ -14,6 +14,7 @@ mod comm;
 mod communicators;
 mod desk;
 mod exchanges;
+mod forgetting;
 mod host;
 mod laws;
 mod lines;
