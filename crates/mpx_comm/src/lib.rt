@@ -33,5 +33,6 @@ pub use desk::Desk;
 pub use host::Host;
 pub use laws::{
     answers_are_stored_results, calls_keep_posts_and_results, results_say_what_was_posted,
+    results_stay_until_they_are_let_go,
 };
 pub use request::Request;
