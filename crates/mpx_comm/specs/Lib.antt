@@ -9,3 +9,4 @@ pub mod Keeps
 pub mod Comms
 pub mod Harvested
 pub mod Forgetting
+pub mod Given

@@ -15,6 +15,7 @@ mod communicators;
 mod desk;
 mod exchanges;
 mod forgetting;
+mod given;
 mod host;
 mod laws;
 mod lines;
@@ -30,6 +31,7 @@ pub use answers::{CallError, Tested, TurnError, WaitError};
 pub use asking::{AskError, Relation};
 pub use comm::{Comm, OpenedGathering};
 pub use desk::Desk;
+pub use given::{GivenError, integer_of, integers_of, numbers_of};
 pub use host::Host;
 pub use laws::{
     answers_are_stored_results, calls_keep_posts_and_results, results_say_what_was_posted,
