@@ -1,7 +1,7 @@
 use Rattle.std.proofs.Common.{inl, ◌∙◌}
 use Rattle.mpx_node.specs.Nodes.{posted_on}
 use Rattle.mpx_post.specs.Drafts.{given_by}
-use Rattle.mpx_comm.proofs.Forgetting.{gone_forgets, own_kept, stored_forgets}
+use Rattle.mpx_comm.proofs.Forgets.{gone_forgets, own_kept, stored_forgets}
 use Rattle.mpx_comm.proofs.Posting.{holds_posted, same_or_gone, stored_then}
 use Rattle.mpx_comm.proofs.laws.results_stay_until_they_are_let_go.Goals as goal
 
