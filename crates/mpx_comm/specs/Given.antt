@@ -1,5 +1,5 @@
 -- The numbers that a call gives.
-use Rattle.std.specs.Prelude.{◌≡◌, List, [], ℤ, Result, Ok, Err}
+use Rattle.std.specs.Prelude.{◌≡◌, List, [], length, ℤ, Result, Ok, Err}
 use Rattle.std.specs.List.{Any}
 use Rattle.mpx_match.specs.declared.faults.Fault.{Fault as FaultView}
 use Rattle.mpx_num.specs.Types.{IsOutOfRange}
@@ -24,3 +24,8 @@ IsWhyNone ty (Err fault) why = why ≡ G.Fault fault
 IsWhyNone ty (Ok numbers) (G.Fault fault) = ⊥
 IsWhyNone ty (Ok numbers) G.OutOfRange = Any (IsOutOfRange ty) numbers
 IsWhyNone ty (Ok numbers) G.OutOfMemory = Unit {0}
+
+-- there is a fault, or not one number, or it is out of the type's range
+abbrev pub IsNotOne : Ty → (given : Result (List ℤ) FaultView) → Type 0
+IsNotOne ty (Err fault) = Unit {0}
+IsNotOne ty (Ok numbers) = length numbers ≡ 1 → Any (IsOutOfRange ty) numbers

@@ -1,6 +1,6 @@
 //! The numbers that a call gave.
-ghost use Rattle.std.specs.Prelude.{◌≡◌, Err, IfErr, IfOk, IfSome, Ok, [], ◌∷◌, map};
-ghost use Rattle.mpx_comm.specs.Given.{IsWhyNone, numbers_given};
+ghost use Rattle.std.specs.Prelude.{◌≡◌, Err, IfErr, IfNone, IfOk, IfSome, Ok, [], ◌∷◌, map};
+ghost use Rattle.mpx_comm.specs.Given.{IsWhyNone, IsNotOne, numbers_given};
 
 use mpx_match::Fault;
 use mpx_node::Finished;
@@ -65,6 +65,7 @@ pub fn integers_of<T: Integer>(alloc: Global, finished: Finished) -> Result<Vec<
 /// the posts are at fault. It takes the result too.
 pub fn integer_of<T: Integer>(finished: Finished) -> Option<T>
     ensures some { IfSome result (λ x. numbers_given finished.outcome ≡ Ok (T.value x ∷ [])) }
+    ensures none { IfNone result (IsNotOne T.ty (numbers_given finished.outcome)) }
 {
     let made = match numbers_of(&finished) {
         Ok(numbers) => integer_in(numbers),
