@@ -5,11 +5,10 @@
 mod carry;
 
 use carry::{hear, say};
-use mpx_comm::{Comm, Desk};
+use mpx_comm::{Comm, Desk, integer_of};
 use mpx_group::Proc;
-use mpx_node::{Finished, Node};
+use mpx_node::Node;
 use mpx_num::{Numbers, Op, Ops, Ty};
-use mpx_value::Outcome;
 use std::alloc::Global;
 use std::io::Write;
 use std::process::ExitCode;
@@ -22,16 +21,6 @@ fn rank_told(rt: &HostRuntime) -> Option<u8> {
         [_, word] => word.as_str().parse::<u8>().ok(),
         _ => None,
     }
-}
-
-// The number that a call gave.
-fn number_in(finished: Finished) -> Option<i128> {
-    let number = match &finished.outcome {
-        Outcome::Items(items) => items.nums().first().copied(),
-        _ => None,
-    };
-    drop(finished);
-    number
 }
 
 // Posts the rank's number to the sum of both, and says so.
@@ -50,15 +39,15 @@ fn begin<W: Write>(
 }
 
 // The sum, where it is known.
-fn sum_at(alloc: Global, desk: &mut Desk<Node>, ops: &Ops) -> Option<i128> {
+fn sum_at(alloc: Global, desk: &mut Desk<Node>, ops: &Ops) -> Option<i64> {
     match desk.testany(alloc, ops).ok()? {
-        Some((_request, finished)) => number_in(finished),
+        Some((_request, finished)) => integer_of(finished),
         None => None,
     }
 }
 
 // Hears the other's lines until the sum is known.
-fn sum_heard(rt: &HostRuntime, desk: &mut Desk<Node>, ops: &Ops) -> Option<i128> {
+fn sum_heard(rt: &HostRuntime, desk: &mut Desk<Node>, ops: &Ops) -> Option<i64> {
     let alloc = rt.alloc();
     for line in rt.lines(alloc) {
         hear(alloc, desk, line.ok()?.as_bytes())?;
@@ -70,7 +59,7 @@ fn sum_heard(rt: &HostRuntime, desk: &mut Desk<Node>, ops: &Ops) -> Option<i128>
     None
 }
 
-fn sum(rt: &HostRuntime, desk: &mut Desk<Node>, rank: u8) -> Option<i128> {
+fn sum(rt: &HostRuntime, desk: &mut Desk<Node>, rank: u8) -> Option<i64> {
     let ops = Ops::none(rt.alloc());
     begin(rt.alloc(), desk, rank, &ops, &mut io::writer(rt))?;
     sum_heard(rt, desk, &ops)

@@ -1,6 +1,6 @@
 //! A sum in flight while a group is made: what a rank may ask of its requests, and of a communicator.
+use crate::TURNS;
 use crate::flight::post;
-use crate::given::TURNS;
 use mpx_comm::{Comm, Desk, Host, Request};
 use mpx_num::{Op, Ops};
 use mpx_ranks::Program;
@@ -21,11 +21,13 @@ impl Program for Asks {
         post(alloc, desk, world, Op::Sum, ops)?;
         let request = start_group(alloc, desk, world, ops)?;
         let done = both_done(alloc, desk, ops)?;
-        let is_done = desk.status(alloc, &request, ops);
-        drop(request);
-        let (is_done, more) = (is_done.ok()?, count_more(alloc, desk, ops)?);
-        let members = count_members(alloc, desk, world)?;
-        format!(in alloc; "{done} done, {is_done}, {more} more, of {members} ranks").ok()
+        let is_done = desk.status(alloc, &request, ops).ok()?;
+        let (mine, more) = (
+            group_size(alloc, desk, request, ops)?,
+            count_more(alloc, desk, ops)?,
+        );
+        let all = count_members(alloc, desk, world)?;
+        format!(in alloc; "{done} done, {is_done}, {more} more, in a group of {mine} of {all}").ok()
     }
 
     fn gives_up(&self, answer: &Option<String>) -> bool {
@@ -64,6 +66,19 @@ fn count_done<H: Host>(alloc: Global, desk: &mut Desk<H>, ops: &Ops) -> Option<u
     let count = done.len();
     drop(done);
     Some(count)
+}
+
+// How many ranks the new communicator has. Its result is had once more, and then let go with all that are older.
+fn group_size<H: Host>(
+    alloc: Global,
+    desk: &mut Desk<H>,
+    request: Request,
+    ops: &Ops,
+) -> Option<u8> {
+    let made = desk.wait_and_forget(alloc, request, 0, ops).ok()?;
+    let comm = Comm::of(alloc, &made);
+    drop(made);
+    Some(comm.ok()??.size())
 }
 
 // How many more are done, without a turn.

@@ -1,6 +1,6 @@
 //! Two reductions in flight beside a rank's own work.
-use crate::given::{TURNS, integer_of};
-use mpx_comm::{Comm, Desk, Host};
+use crate::TURNS;
+use mpx_comm::{Comm, Desk, Host, integer_of};
 use mpx_num::{Numbers, Op, Ops, Ty};
 use mpx_ranks::Program;
 use std::alloc::Global;

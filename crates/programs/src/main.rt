@@ -3,7 +3,6 @@
 
 mod asks;
 mod flight;
-mod given;
 mod paths;
 mod scan;
 mod sort;
@@ -22,6 +21,9 @@ use std::io::Write;
 use std::process::ExitCode;
 use std::sync::Wait;
 use std::thread::Threads;
+
+/// So many turns a call waits at most.
+pub const TURNS: u64 = 1_000_000;
 
 // Runs a program by so many ranks, and prints what each answers.
 fn print_job<P, R: Threads + Wait + Sync, W: Write>(

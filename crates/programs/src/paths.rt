@@ -1,6 +1,6 @@
 //! Shortest paths by relaxation: each rank is a vertex of a directed graph with weights, and finds how far it is from rank 0.
-use crate::given::{TURNS, comm_of, integer_of, integers_of};
-use mpx_comm::{Comm, Desk, Host};
+use crate::TURNS;
+use mpx_comm::{Comm, Desk, Host, integer_of, integers_of};
 use mpx_num::{Numbers, Op, Ops, Ty};
 use mpx_post::DraftedEdge;
 use mpx_ranks::Program;
@@ -36,7 +36,10 @@ impl Program for Paths {
 fn graph_of<H: Host>(alloc: Global, desk: &mut Desk<H>, world: &Comm, ops: &Ops) -> Option<Comm> {
     let edges = edges_of(alloc, world.rank(), world.size())?;
     let made = desk.dist_graph(alloc, world, true, edges, TURNS, ops);
-    comm_of(alloc, made.ok()?)
+    let made = made.ok()?;
+    let graph = Comm::of(alloc, &made);
+    drop(made);
+    graph.ok()?
 }
 
 fn edges_of(alloc: Global, rank: u8, ranks: u8) -> Option<Vec<DraftedEdge>> {
@@ -54,13 +57,14 @@ fn edges_of(alloc: Global, rank: u8, ranks: u8) -> Option<Vec<DraftedEdge>> {
     vec![in alloc; even, odd].ok()
 }
 
-// Hears from its sources how far they are, round by round, until all say that nothing came nearer.
+// Hears from its sources how far they are, round by round, until all say that nothing came nearer. Each round lets its results go.
 fn relaxed<H: Host>(alloc: Global, desk: &mut Desk<H>, graph: &Comm, ops: &Ops) -> Option<u32> {
     let mut distance = if graph.rank() == 0 { 0 } else { FAR };
     for _round in 0..graph.size() {
         let near = nearest(alloc, desk, graph, distance, ops)?;
         let are_done = all(alloc, desk, graph, distance <= near, ops)?;
         distance = distance.min(near);
+        desk.forget(graph);
         if are_done {
             break;
         }
@@ -78,7 +82,7 @@ fn nearest<H: Host>(
 ) -> Option<u32> {
     let mine = Numbers::one(i128::from(distance));
     let heard = desk.neighbor_allgather(alloc, graph, Ty::U32, 1, mine, TURNS, ops);
-    let heard: Vec<u32> = integers_of(alloc, heard.ok()?)?;
+    let heard: Vec<u32> = integers_of(alloc, heard.ok()?).ok()?;
     let mut near = FAR;
     for (distance, source) in heard.iter().zip(desk.sources(graph).ok()?) {
         near = near.min(distance.saturating_add(source.weight));

@@ -1,6 +1,6 @@
 //! A scan of matrices by the program's own operation: each rank gets the product of its own matrix behind all before it.
-use crate::given::{TURNS, integer_of};
-use mpx_comm::{Comm, Desk, Host};
+use crate::TURNS;
+use mpx_comm::{Comm, Desk, Host, integer_of};
 use mpx_num::{Numbers, Op, Ops, Ty};
 use mpx_ranks::Program;
 use std::alloc::Global;
