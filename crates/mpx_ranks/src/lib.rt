@@ -2,8 +2,8 @@
 //!
 //! In the order of reading: [`Program`], what every rank runs; [`ranks`], which runs it, and [`Ran`], what comes of it; how a rank goes
 //! on in its thread (`work.rt`), over a `Member`, the host of its desk (`member.rt`), whose turns gossip (`gossip.rt`) and rest
-//! (`news.rt`); what the threads tell each other (`crew.rt`); what a call gave, [`numbers_of`]; and what follows of the answers,
-//! [`one_row_for_all`].
+//! (`news.rt`); where the threads meet before any of them begins (`start.rt`), and what they tell each other (`crew.rt`); what a call
+//! gave, [`numbers_of`]; and what follows of the answers, [`one_row_for_all`].
 #![tactic(auto)]
 
 mod crew;
@@ -16,6 +16,7 @@ mod member;
 mod news;
 mod program;
 mod seat;
+mod start;
 mod work;
 
 pub use given::numbers_of;
