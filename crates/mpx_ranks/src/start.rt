@@ -30,10 +30,10 @@ pub(crate) struct AllCame<K: Ledger> {
 /// The places of threads that have none yet.
 #[derive(Drop)]
 pub(crate) struct Places<K: Ledger> {
-    count: u64,
+    left: u64,
     share: Share<K>,
-    ghost parts_are: { share.parts ≡ count },
-    ghost amount_is: { share.amount ≡ count },
+    ghost parts_are: { share.parts ≡ left },
+    ghost amount_is: { share.amount ≡ left },
 }
 
 /// The place of one thread that is still to come.
@@ -60,7 +60,7 @@ impl<K: Ledger> Start<K> {
             lacking: Mutex::new(lacking),
             all: OnceLock::new(),
         };
-        (start, Places { count, share })
+        (start, Places { left: count, share })
     }
 
     /// A thread comes, and gives up its place.
@@ -109,11 +109,11 @@ impl<K: Ledger> AllCame<K> {
 impl<K: Ledger> Places<K> {
     /// The place of one thread more; none where all are given.
     pub(crate) fn next(&mut self) -> Option<Place<K>> {
-        let Places { count, share } = self;
-        if *count == 0 {
+        let Places { left, share } = self;
+        if *left == 0 {
             return None;
         }
-        *count -= 1;
+        *left -= 1;
         Some(Place {
             share: share.split_off(1, 1),
         })
