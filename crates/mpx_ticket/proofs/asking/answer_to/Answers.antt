@@ -1,7 +1,8 @@
 use Rattle.std.proofs.Common.{◌∙◌, arith, sym}
 use Rattle.mpx_node.specs.Shown.{node_of}
+use Rattle.mpx_node.proofs.Harvested.{on_err}
 use Rattle.mpx_board.specs.Looks.{look}
-use Rattle.mpx_ticket.proofs.Answering.{answer_done, answer_held, answer_kept, answer_let_go, answer_not_yet, answer_other, answer_unknown, on_err}
+use Rattle.mpx_ticket.proofs.Answering.{answer_done, answer_held, answer_kept, answer_let_go, answer_not_yet, answer_other, answer_unknown}
 use Rattle.mpx_ticket.proofs.asking.answer_to.Goals as goal
 
 pub returns-then-not-same-clause-answer : goal.returns-then-not-same-clause-answer
@@ -30,4 +31,4 @@ returns-clause-answer c =
 
 pub returns-in_err-copy-clause-memory : goal.returns-in_err-copy-clause-memory
 returns-in_err-copy-clause-memory c =
-    on_err c.from_residual.result (answer_held c.args.port.now c.args.ticket.now (node_of c.node-node.result.now) (c.node-node.ensures.stood c.requires.plan) c.node-node.ensures.node c.in-Some.finished.now (sym c.in-Some.ensures) (sym c.same.ensures ∙ c.if-not-same.false))
+    on_err c.from_residual.result _ (answer_held c.args.port.now c.args.ticket.now (node_of c.node-node.result.now) (c.node-node.ensures.stood c.requires.plan) c.node-node.ensures.node c.in-Some.finished.now (sym c.in-Some.ensures) (sym c.same.ensures ∙ c.if-not-same.false))
