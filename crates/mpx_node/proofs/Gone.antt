@@ -1,5 +1,5 @@
 -- What is so of results of which the first were let go.
-use Rattle.std.proofs.Common.{◌≡◌, ℕ, zero, suc, ◌+◌, ◌-◌, ◌<◌, ◌≤◌, Bool, true, false, cond, List, [], ◌∷◌, ◌++◌, length, drop, map, Option, Some, None, refl, sym, ap, ◌∙◌, inl, inr, subst, arith, length-append}
+use Rattle.std.proofs.Common.{◌≡◌, ℕ, zero, suc, ◌+◌, ◌-◌, ◌<◌, ◌≤◌, true, List, [], ◌∷◌, ◌++◌, length, drop, map, Option, Some, None, refl, sym, ap, ◌∙◌, inl, inr, subst, arith, length-append}
 use Rattle.std.specs.Prelude.{◌⊎◌, IsTrue, is_some, nat_le, slice_get, slice_index_or}
 use Rattle.std.specs.Borrow.{Bor}
 use Rattle.std.specs.Slice.{IsGetResult}
@@ -49,10 +49,6 @@ module _ {A : Type 0} where
   stored_from zero xs k l = kept_there xs k ∙ ap (slice_get xs) (omega arith)
   stored_from (suc n) xs zero l = absurd (omega (arith, l))
   stored_from (suc n) xs (suc k) l = stored_from n xs k (omega (arith, l)) ∙ ap (slice_get xs) (omega (arith, l))
-
-  pub counted_gone : (gone : ℕ) (x : A) (xs : List A) → count_gone (after_gone gone (x ∷ xs)) ≡ gone
-  counted_gone zero x xs = refl
-  counted_gone (suc n) x xs = ap suc (counted_gone n x xs)
 
   pub counted_all : (gone : ℕ) (xs : List A) → count_gone (after_gone gone xs) ≡ gone
   counted_all zero [] = refl
