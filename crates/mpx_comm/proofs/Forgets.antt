@@ -1,7 +1,6 @@
 -- What a desk lets go, and what it keeps.
-use Rattle.std.proofs.Common.{◌≡◌, ℕ, zero, suc, ◌<◌, ◌≤◌, ◌&&◌, Bool, true, false, cond, List, [], ◌∷◌, length, Option, Some, None, ◌⊎◌, inl, inr, refl, sym, ap, ◌∙◌, subst, arith, is_some}
+use Rattle.std.proofs.Common.{◌≡◌, ℕ, zero, suc, ◌<◌, ◌≤◌, ◌&&◌, Bool, true, false, cond, List, [], ◌∷◌, Option, Some, None, ◌⊎◌, inl, inr, refl, sym, ap, ◌∙◌, subst, arith, is_some}
 use Rattle.std.specs.Prelude.{slice_get, nat_lt}
-use Rattle.std.specs.List.{fold}
 use Rattle.std.specs.Option.{option_flatten, option_map}
 use Rattle.std.proofs.lemmas.Bool.Decides.{nat_tests}
 use Rattle.std.proofs.lemmas.Option.{same_Some}
@@ -18,7 +17,7 @@ use Rattle.mpx_comm.specs.declared.request.Request.{Request}
 use Rattle.mpx_comm.specs.Forgetting.{AreUntouched, forgets_but, least_call, lesser_call}
 use Rattle.mpx_comm.specs.Later.{is_empty, is_let_go, result_at, IsOwn}
 use Rattle.mpx_post.specs.Posts.{Given}
-use Rattle.mpx_comm.specs.Requests.{ArePosted, has_let_go}
+use Rattle.mpx_comm.specs.Requests.{ArePosted}
 
 -- THE LEAST CALL
 

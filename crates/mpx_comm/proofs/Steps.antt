@@ -225,7 +225,7 @@ ahead_kept node name call l = ap is_empty (slice_get_past (results_on node name)
 
 -- nor what is there
 there_in : (xs : List (Option Finished)) (k : ℕ) (x : Finished) → Some x ≡ stored_at xs k → false ≡ is_empty (slice_get xs k)
-there_in [] k x e = cc e
+there_in [] k x e = refl
 there_in (Some y ∷ xs) zero x e = refl
 there_in (None ∷ xs) zero x e = cc e
 there_in (o ∷ xs) (suc k) x e = there_in xs k x e

@@ -1,5 +1,5 @@
 -- What a desk lets go: results that none of its open requests is for.
-use Rattle.std.specs.Prelude.{◌≡◌, ◌⊎◌, ◌&&◌, ℕ, cond, nat_lt, List, slice_get, Option, Some, Result, Ok, Err}
+use Rattle.std.specs.Prelude.{◌≡◌, ◌&&◌, ℕ, cond, nat_lt, List, slice_get, Some, Result, Ok, Err}
 use Rattle.std.specs.List.{fold}
 use Rattle.mpx_name.specs.Name.{Name, same_name}
 use Rattle.mpx_node.specs.declared.finished.Finished.{Finished}

@@ -1,5 +1,5 @@
 //! How a test looks for results, and a wait looks between turns.
-ghost use Rattle.std.specs.Prelude.{◌≡◌, ◌≤◌, ℕ, IfOk, IfErr, MatchOption, length, slice_get};
+ghost use Rattle.std.specs.Prelude.{◌≡◌, ◌≤◌, ℕ, IfOk, IfErr, MatchOption, false, length, slice_get};
 ghost use Rattle.mpx_comm.specs.Any.{AwaitsAny, FindsAny, GivesUpAny, LooksInVain, LooksLast};
 ghost use Rattle.mpx_comm.specs.Harvested.{Harvested};
 ghost use Rattle.mpx_comm.specs.Later.{Later, IsAtHand, IsPending};

@@ -1,5 +1,5 @@
 //! How tests and waits look for all that is done.
-ghost use Rattle.std.specs.Prelude.{◌≡◌, ◌≢◌, [], IfOk, IfErr, MatchOption, OnOk, map};
+ghost use Rattle.std.specs.Prelude.{◌≡◌, ◌≢◌, [], IfOk, IfErr, MatchOption, OnOk, false, map};
 ghost use Rattle.mpx_comm.specs.Any.{AddsIfDone, AwaitsAny, GivesUpAny, LooksInVain, LooksLast, PicksDone};
 ghost use Rattle.mpx_comm.specs.Harvested.{Harvested};
 ghost use Rattle.mpx_comm.specs.Later.{Later, IsAtHand};

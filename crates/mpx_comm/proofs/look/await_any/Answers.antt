@@ -1,4 +1,4 @@
-use Rattle.std.proofs.Common.{◌≡◌, ◌-◌, ◌<◌, inl, refl, arith}
+use Rattle.std.proofs.Common.{◌≡◌, ◌<◌, inl, refl, arith}
 use Rattle.std.proofs.lemmas.Result.{err_from_is_err_and}
 use Rattle.mpx_comm.specs.Any.{FindsAny, LooksAt, LooksInVain}
 use Rattle.mpx_comm.specs.Requests.{OneIsAtHand}

@@ -28,5 +28,5 @@ returns-in_ok-look_some-in-Some-clause-found g c =
     let on = by_first g.H.Host.goes_by c.args.host.now c.await_any.new.host _ (λ ops. LooksAt ops g.H.Host.node g.H.Host.turned c.await_any.new.host c.look_some.new.host × PicksDone ops (g.H.Host.node c.await_any.new.host) (g.H.Host.node c.look_some.new.host) c.args.requests.now c.in_ok-look_some-in-Some.field-0.items) (g.met.H.Host.stays_by _ _ turns.0 turns.1) (((c.look_some.ensures.no_turn, c.look_some.ensures.later), c.look_some.ensures.harvested), c.in_ok-look_some-in-Some.ensures.found) in
     some_last _ g.H.Host.node g.H.Host.turned g.met.H.Host.turns_more c.args.requests.now c.args.turns c.args.host.now c.await_any.new.host c.look_some.new.host _ _ c.in_ok-look_some-in-Some.field-0.items found on.0 on.1
 
-pub look_some-requires-in-Some : goal.look_some-requires-in-Some
-look_some-requires-in-Some g c = record { kept = kept_later (g.H.Host.node c.args.host.now) (g.H.Host.node c.await_any.new.host) c.args.requests.now c.await_any.ensures.later c.requires.kept }
+pub look_some-requires : goal.look_some-requires
+look_some-requires g c = record { kept = kept_later (g.H.Host.node c.args.host.now) (g.H.Host.node c.await_any.new.host) c.args.requests.now c.await_any.ensures.later c.requires.kept }

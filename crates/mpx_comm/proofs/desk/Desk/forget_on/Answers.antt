@@ -1,9 +1,8 @@
 use Rattle.std.proofs.Common.{◌∙◌, ap}
 use Rattle.mpx_node.specs.Forgetting.{forgets}
-use Rattle.mpx_node.specs.Nodes.{front_on}
 use Rattle.mpx_comm.specs.Forgetting.{least_call}
 use Rattle.mpx_comm.proofs.Forgets.{posted_forgets, untouched}
-use Rattle.mpx_comm.proofs.forgetting.Desk.forget_on.Goals as goal
+use Rattle.mpx_comm.proofs.desk.Desk.forget_on.Goals as goal
 
 pub returns-clause-forgets : goal.returns-clause-forgets
 returns-clause-forgets g c =
