@@ -201,7 +201,7 @@ def sums(left, right, size):
 
 class Wheel:
     """A run without loss, in which all processes do the same: process p knows of p + x what process 0 knows of x. So process 0 alone is modelled, list by
-    list. `lists` has, of each list, the bytes of its frames, and of these the acknowledgements'."""
+    list. `lists` has of each list how many fronts, posts of each call, and rows by their bytes it tells."""
 
     def __init__(self, size, calls, post, seed=1, acks="rows"):
         self.size, self.calls, self.acks = size, calls, acks
@@ -236,7 +236,7 @@ class Wheel:
         calls = [self.lacked(call, [self.told[v][0] > call for v in self.heard]) for call in range(self.dropped, most)]
         fronts = sum(count for v, count in counted.items() if self.told[v][1])
         rows = [self.told[v][3] for v in self.heard]
-        self.lists.append((parts(self.layout, fronts, [it for it in calls if it], rows), sum(rows), sum(calls)))
+        self.lists.append((fronts, [it for it in calls if it], rows))
 
     def go_on(self):
         """What comes is taken; then the process harvests what it can, posts anew, and drops what all have harvested."""
@@ -250,11 +250,11 @@ class Wheel:
             self.dropped = max(self.dropped, min(self.front, *(self.told[v][1] for v in others)))
 
     def whole(self):
-        """The run to its end: its lists."""
+        """The run to its end: of each list the bytes of its frames."""
         while self.front < self.calls:
             self.say()
             self.go_on()
-        return self.lists
+        return [parts(self.layout, *it) for it in self.lists]
 
 
 def frames_of(program, size, calls, statement, seed=1, loss=0):
@@ -263,3 +263,28 @@ def frames_of(program, size, calls, statement, seed=1, loss=0):
     ran = subprocess.run([program, "run", "--seed", str(seed), "--loss", str(loss), "--trace"], input=script.encode(), capture_output=True)
     told = re.findall(r"^turn (\d+): (\d+) -> (\d+) (sent|lost) (\d+) bytes$", ran.stderr.decode(), re.M)
     return [(int(turn), int(p), int(to), int(length), word == "lost") for turn, p, to, word, length in told]
+
+
+def same(program, size, calls, call, seed, loss):
+    """Whether a run's frames are the model's, to the byte; and how many they are, with their bytes and turns."""
+    _, post, statement = call
+    told = frames_of(program, size, calls, statement, seed, loss)
+    if loss == 0:
+        lists = Wheel(size, calls, post, seed).whole()
+        alike = all([it[3] for it in told if it[1] == p] == [it for made in lists for it in made] for p in range(size))
+    else:
+        alike = True
+    if call is not LONG:
+        run = Run(size, calls, post, seed, loss)
+        alike = alike and run.whole() == told[-1][0] and run.frames == told
+    return alike, len(told), sum(it[3] for it in told), told[-1][0]
+
+
+def check(program):
+    runs = [(size, 4, call, seed, loss) for size in (8, 16, 32, 33, 64) for call in (BARRIER, ALLREDUCE) for seed, loss in ((1, 0), (2, 10), (3, 50))]
+    found = [(it, *same(program, *it)) for it in [*runs, (33, 5, LONG, 1, 0), (64, 5, LONG, 1, 0)]]
+    for (size, calls, call, seed, loss), alike, frames, length, turns in found:
+        print(f"{size} ranks, {calls} times {call[0]}, seed {seed}, loss {loss}: {turns} turns, {frames} frames, {length:,} bytes; the model "
+              + ("tells the same, frame by frame" if alike else "DIFFERS"), flush=True)
+    print(f"{len(found)} runs, {sum(it[2] for it in found):,} frames, {sum(it[3] for it in found):,} bytes; {sum(not it[1] for it in found)} differ")
+    return any(not it[1] for it in found)
