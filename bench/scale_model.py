@@ -51,7 +51,7 @@ def shifts_of(words, size):
 
 
 class Run:
-    """A run of up to some thousand processes that loses frames, each process by itself. `frames` has (turn, from, to, bytes, lost) for each frame."""
+    """A run of up to some thousand processes in which frames may be lost. `frames` has of each its turn, from whom, to whom, its bytes, and whether it is lost."""
 
     def __init__(self, size, calls, post, seed=1, loss=0, acks="rows"):
         self.size, self.calls, self.loss = size, calls, loss
