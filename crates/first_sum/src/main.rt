@@ -1,10 +1,9 @@
 //! The program `first_sum`: four ranks, each in a thread of its own, add their numbers, split, and gather.
 #![tactic(auto)]
 
-use mpx_comm::{Comm, Desk, Host};
-use mpx_node::Finished;
+use mpx_comm::{Comm, Desk, Host, integer_of, integers_of};
 use mpx_num::{Numbers, Op, Ops, Ty};
-use mpx_ranks::{Program, RanksError, numbers_of, ranks};
+use mpx_ranks::{Program, RanksError, ranks};
 use std::alloc::Global;
 use std::process::ExitCode;
 
@@ -27,7 +26,7 @@ impl Program for FirstSum {
         let sum = sum_of(alloc, desk, world, mine, ops)?;
         let half = half_of(alloc, desk, world, mine % 2, ops)?;
         let all = gathered(alloc, desk, &half, mine, ops)?;
-        format!(in alloc; "{sum:?}, {} of {}, {all:?}", half.rank(), half.size()).ok()
+        format!(in alloc; "{sum}, {} of {}, {all:?}", half.rank(), half.size()).ok()
     }
 
     fn gives_up(&self, answer: &Option<String>) -> bool {
@@ -42,10 +41,10 @@ fn sum_of<H: Host>(
     world: &Comm,
     mine: i128,
     ops: &Ops,
-) -> Option<Vec<i128>> {
+) -> Option<i64> {
     let mine = Numbers::one(mine);
     let sum = desk.allreduce(alloc, world, Op::Sum, Ty::I64, mine, TURNS, ops);
-    numbers_in(alloc, sum.ok()?)
+    integer_of(sum.ok()?)
 }
 
 // The communicator of all ranks that give this colour.
@@ -69,20 +68,10 @@ fn gathered<H: Host>(
     half: &Comm,
     mine: i128,
     ops: &Ops,
-) -> Option<Vec<i128>> {
+) -> Option<Vec<i64>> {
     let mine = Numbers::one(mine);
     let all = desk.gather(alloc, half, 0, Ty::I64, mine, TURNS, ops);
-    numbers_in(alloc, all.ok()?)
-}
-
-// The numbers that a call gave. Its result is dropped here, so that no exit of another function drops it.
-fn numbers_in(alloc: Global, finished: Finished) -> Option<Vec<i128>> {
-    let numbers = match numbers_of(&finished) {
-        Ok(numbers) => Vec::from_slice(alloc, numbers).ok(),
-        Err(_) => None,
-    };
-    drop(finished);
-    numbers
+    integers_of(alloc, all.ok()?).ok()
 }
 
 fn main(rt: HostRuntime) -> Result<ExitCode, RanksError> {

@@ -4,7 +4,6 @@ ghost use Rattle.mpx_comm.specs.Comms.{comm_of};
 ghost use Rattle.mpx_comm.specs.Requests.{result_of};
 
 use crate::desks::number_in;
-use crate::polling::sums_in_flight;
 use crate::stop::Stop;
 use mpx_comm::{Comm, Desk, Host, Request, Tested};
 use mpx_node::Finished;
@@ -16,16 +15,13 @@ use std::alloc::Global;
 // So many turns a call waits at most.
 const TURNS: u64 = 1_000_000;
 
-/// What one rank got: two sums that overlapped, and two beside its own work; its new communicators' size and its rank there, where it is in one; what it heard in a
-/// ring; what the program's own operation gave.
+/// What one rank got: two sums that overlapped; its new communicators' size and its rank there, where it is in one; what it heard in a ring.
 #[derive(Drop)]
 pub struct Got {
     pub sums: (i128, i128),
-    pub in_flight: (i128, i128),
     pub split: Option<(u8, u8)>,
     pub group: Option<(u8, u8)>,
     pub heard: i128,
-    pub own: i128,
 }
 
 /// Each rank makes all of these calls.
@@ -43,11 +39,9 @@ impl Program for Calls {
     ) -> Result<Got, Stop> {
         Ok(Got {
             sums: two_sums(alloc, desk, world, ops)?,
-            in_flight: sums_in_flight(alloc, desk, world, ops)?,
             split: split_by_key(alloc, desk, world, ops)?,
             group: group_of_two(alloc, desk, world, ops)?,
             heard: heard_in_ring(alloc, desk, world, ops)?,
-            own: combined(alloc, desk, world, ops)?,
         })
     }
 
@@ -195,15 +189,4 @@ fn heard_in_ring<H: Host>(
     let heard = heard_in(alloc, desk, &ring, 20 + i128::from(world.rank()), ops);
     drop(ring);
     heard
-}
-
-// A number by the first operation of the program's list.
-fn combined<H: Host>(
-    alloc: Global,
-    desk: &mut Desk<H>,
-    world: &Comm,
-    ops: &Ops,
-) -> Result<i128, Stop> {
-    let items = Numbers::one(7 + i128::from(world.rank()));
-    number_in(desk.allreduce(alloc, world, Op::Own(0), Ty::I32, items, TURNS, ops)?)
 }

@@ -3,7 +3,7 @@ ghost use Rattle.std.specs.Prelude.{◌≡◌, ◌<◌, ◌≤◌, IfOk};
 ghost use Rattle.mpx_board.specs.Looks.{look};
 ghost use Rattle.mpx_node.specs.Shown.{node_of};
 
-use crate::calls::post_sum;
+use crate::nodes::sum_draft;
 use crate::stop::Stop;
 use mpx_board::Board;
 use mpx_comm::{Comm, Desk};
@@ -65,8 +65,8 @@ fn sum_of_both(
     right: &mut Desk<Node>,
     ops: &Ops,
 ) -> Result<i128, Stop> {
-    let sum = post_sum(alloc, left, &Comm::world(alloc, 2, 0), 1, ops)?;
-    post_sum(alloc, right, &Comm::world(alloc, 2, 1), 2, ops)?;
+    let sum = left.post(alloc, &Comm::world(alloc, 2, 0), sum_draft(1), ops)?;
+    right.post(alloc, &Comm::world(alloc, 2, 1), sum_draft(2), ops)?;
     swap(alloc, left, right)?;
     number_in(left.wait(alloc, sum, 0, ops)?)
 }

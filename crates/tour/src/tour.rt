@@ -2,7 +2,6 @@
 use crate::calls::{Calls, Got};
 use crate::desks::sum_by_hand;
 use crate::nodes::sums_of_own_nodes;
-use crate::primes::print_primes;
 use crate::stop::Stop;
 use crate::waiting::sum_from_inbox;
 use mpx_num::Ops;
@@ -25,11 +24,11 @@ fn all_got<R: Threads + Wait + Sync>(
 
 // The line of a rank.
 fn print_got<W: Write>(out: &mut W, rank: usize, got: &Got) -> Result<(), Stop> {
-    let ((first, last), (third, fourth)) = (got.sums, got.in_flight);
+    let (first, last) = got.sums;
     writeln!(
         out,
-        "rank {rank}: sums {first} {last} {third} {fourth}, split {:?}, group {:?}, ring {}, own {}",
-        got.split, got.group, got.heard, got.own
+        "rank {rank}: sums {first} {last}, split {:?}, group {:?}, ring {}",
+        got.split, got.group, got.heard
     )?;
     Ok(())
 }
@@ -75,7 +74,6 @@ pub fn print_tour<R: Threads + Wait + Sync, W: Write>(
     ops: &Ops,
 ) -> Result<(), Stop> {
     print_calls(rt, alloc, out, ops)?;
-    print_primes(rt, alloc, out, ops)?;
     print_by_hand(alloc, out, ops)?;
     Ok(out.flush()?)
 }

@@ -1,0 +1,88 @@
+//! The program `programs`: small programs by `ranks`, as the tutorials of MPI have them, each in a file of its own.
+#![tactic(auto)]
+
+mod asks;
+mod flight;
+mod paths;
+mod scan;
+mod sort;
+
+use asks::Asks;
+use flight::Flight;
+use matrix_product::Product;
+use mpx_num::{Ops, OwnOp};
+use mpx_ranks::{Program, ranks};
+use paths::Paths;
+use scan::Scan;
+use sort::Sort;
+use std::alloc::Global;
+use std::io;
+use std::io::Write;
+use std::process::ExitCode;
+use std::sync::Wait;
+use std::thread::Threads;
+
+/// So many turns a call waits at most.
+pub const TURNS: u64 = 1_000_000;
+
+// Runs a program by so many ranks, and prints what each answers.
+fn print_job<P, R: Threads + Wait + Sync, W: Write>(
+    rt: &R,
+    alloc: Global,
+    out: &mut W,
+    name: &str,
+    count: u8,
+    program: &P,
+    ops: &Ops,
+) -> Option<()>
+where
+    P: Program<Answer = Option<String>> + Sync,
+{
+    let ran = ranks(rt, alloc, count, 0, program, ops).ok()?;
+    drop(ran.nodes);
+    let printed = print_answers(out, name, &ran.answers);
+    drop(ran.answers);
+    printed
+}
+
+fn print_answers<W: Write>(out: &mut W, name: &str, answers: &[Option<String>]) -> Option<()> {
+    for (rank, answer) in answers.iter().enumerate() {
+        let text = answer.as_ref()?;
+        writeln!(out, "{name}, rank {rank}: {text}").ok()?;
+    }
+    Some(())
+}
+
+fn print_all<R: Threads + Wait + Sync, W: Write>(
+    rt: &R,
+    alloc: Global,
+    out: &mut W,
+    ops: &Ops,
+) -> Option<()> {
+    print_job(rt, alloc, out, "scan", 6, &Scan, ops)?;
+    print_job(rt, alloc, out, "sort", 16, &Sort { each: 200 }, ops)?;
+    print_job(rt, alloc, out, "paths", 8, &Paths, ops)?;
+    print_job(rt, alloc, out, "flight", 3, &Flight, ops)?;
+    print_job(rt, alloc, out, "asks", 3, &Asks, ops)?;
+    out.flush().ok()
+}
+
+// The job's own operations.
+fn own_ops(alloc: Global) -> Option<Ops> {
+    let mut list: Vec<Box<dyn OwnOp + Send + Sync + Drop>> = Vec::new(alloc);
+    list.push(Box::new(alloc, Product).ok()?).ok()?;
+    Ops::new(list).ok()
+}
+
+fn main(rt: HostRuntime) -> ExitCode {
+    let Some(ops) = own_ops(rt.alloc()) else {
+        return ExitCode::FAILURE;
+    };
+    match print_all(&rt, rt.alloc(), &mut io::writer(&rt), &ops) {
+        Some(()) => ExitCode::SUCCESS,
+        None => {
+            let _told = writeln!(rt.stderr(), "gave up");
+            ExitCode::FAILURE
+        }
+    }
+}
