@@ -2,7 +2,7 @@
 ghost use Rattle.std.specs.Prelude.{◌≡◌, ◌<◌, ◌≤◌, IfOk};
 ghost use Rattle.mpx_bus.specs.Ports.{IsFleet};
 ghost use Rattle.mpx_bus.specs.Buses.{table_of};
-ghost use Rattle.port_tests.specs.Fresh.{ArePair, IsFresh};
+ghost use Rattle.port_tests.specs.Fresh.{ArePair};
 
 use mpx_bus::{Bus, Named, Port};
 use mpx_num::{Listing, Ops};
@@ -25,19 +25,6 @@ fn ports_of<N: Named>(
 {
     let _ = ops;
     Ok(Bus::new::<N>(alloc, room, ranks, ranks)?)
-}
-
-/// A bus of one rank with room for so many frames, and its port.
-pub fn one_port(alloc: Global, room: usize, ops: &Ops) -> Result<(Bus, Port), Fail>
-    requires some { 0 < room }
-    requires most { room ≤ 65536 }
-    ensures { IfOk result (λ r. IsFresh (⟦<Ops as Listing>⟧.operations ops.now) (table_of r.0) 0 r.1) }
-{
-    let (bus, mut ports) = ports_of::<Brand>(alloc, room, 1, ops)?;
-    let Some(port) = ports.pop() else {
-        return Err(Fail::from("no port"));
-    };
-    Ok((bus, port))
 }
 
 /// A bus of two ranks with room for so many frames, and its ports.

@@ -1,9 +1,10 @@
-//! Eight ports on a queue with room for one frame, and on one with room for 256. A frame that comes back is pushed on later, and each that a
-//! port pops in its turn goes in three times more. Results are the same.
+//! Eight ports on a queue with room for one frame, and on one with room for 256. Each finds that room. A frame that comes back is pushed on
+//! later, and each that a port pops in its turn goes in three times more. Results are the same.
 ghost use Rattle.std.specs.Prelude.{◌≡◌, ◌<◌, ◌≤◌, All, []};
 ghost use Rattle.mpx_bus.specs.Ports.{CanPush, PortGoesOn, IsSamePort};
 ghost use Rattle.port_tests.specs.Homes.{IsHome, eight};
 
+use crate::port_rooms::have_room;
 use crate::ports::{LIMIT, harvests, posts, sum_at};
 use mpx_bus::{Bus, Frame, Pop, Port, Push};
 use mpx_num::{Listing, Ops};
@@ -139,18 +140,22 @@ fn meet_last(bus: &Bus, mut ports: Vec<Port>) -> Option<u64>
     Some(bus.meet(first, second).both)
 }
 
-// How many of eight ports get the sum, once they have posted their numbers and made turns.
+// How many of eight ports get the sum, once they have found so much room, posted their numbers and made turns.
 fn sum_up<R: Wait>(
     rt: &R,
     alloc: Global,
     bus: &Bus,
     ports: &mut [Port],
+    room: usize,
     ops: &Ops,
 ) -> Result<usize, Fail>
     requires list { ⟦<Ops as Listing>⟧.operations ops.now ≡ [] }
     requires homes { All (IsHome bus.now eight) ports.old }
     ensures { All (IsHome bus.now eight) ports.new }
 {
+    if !have_room(rt, alloc, bus, ports, room)? {
+        return Err(Fail::from("another room"));
+    }
     let posted = post_all(alloc, bus, ports, ops)?;
     let turned = turns(rt, alloc, bus, ports, 100)?;
     if !posted || !turned {
@@ -171,7 +176,7 @@ pub fn all_results<R: Wait>(
     requires most { room ≤ 65536 }
 {
     let (bus, mut ports) = Bus::new::<Brand>(alloc, room, 8, 8)?;
-    let sums = sum_up(rt, alloc, &bus, ports.as_mut_slice(), ops)?;
+    let sums = sum_up(rt, alloc, &bus, ports.as_mut_slice(), room, ops)?;
     let both = meet_last(&bus, ports).ok_or("no ports")?;
     Ok((sums, both))
 }
