@@ -3,16 +3,10 @@
 #![tactic(auto)]
 
 #[cfg(test)]
-mod fleets;
-#[cfg(test)]
 mod port_fleets;
-#[cfg(test)]
-mod port_rooms;
 #[cfg(test)]
 mod ports;
 #[cfg(test)]
 mod shared_pairs;
-#[cfg(test)]
-mod shared_ports;
 #[cfg(test)]
 mod tests;

@@ -1,14 +1,59 @@
 //! What ports and shared ports come to.
-use crate::port_fleets::all_results;
+use crate::port_fleets::{Fleet, both_finish};
+use crate::ports::Act;
 use crate::shared_pairs::meet;
 use mpx_num::Ops;
 use std::test::Fail;
 
+// Fleets, and how many instances their last two ports have both finished in the end. Whatever the room, eight ports find it, and get the sum of
+// 0 to 7. Two ports that don't harvest have finished none. In the last row each of two works in a thread.
+const FLEETS: [(Fleet, u64); 5] = [
+    (
+        (
+            8,
+            1,
+            &[
+                (1, Act::HasRoom(1)),
+                (1, Act::Posts),
+                (100, Act::Gossips),
+                (1, Act::Harvests(28)),
+            ],
+            0,
+        ),
+        1,
+    ),
+    (
+        (
+            8,
+            256,
+            &[
+                (1, Act::HasRoom(256)),
+                (1, Act::Posts),
+                (100, Act::Gossips),
+                (1, Act::Harvests(28)),
+            ],
+            0,
+        ),
+        1,
+    ),
+    (
+        (
+            2,
+            1,
+            &[(1, Act::Posts), (20, Act::Gossips), (1, Act::Harvests(1))],
+            0,
+        ),
+        1,
+    ),
+    ((2, 1, &[(1, Act::Posts), (20, Act::Gossips)], 0), 0),
+    ((2, 4, &[(1, Act::Posts)], 5_000_000), 1),
+];
+
 #[test]
-fn eight_ports_have_one_sum_whatever_the_room(rt: HostRuntime) -> Result<(), Fail> {
+fn two_ports_meet_with_what_both_finished(rt: HostRuntime) -> Result<(), Fail> {
     let ops = Ops::none(rt.alloc());
-    for room in [1, 256] {
-        assert_eq!(rt; all_results(&rt, rt.alloc(), room, &ops)?, (8, 1), "{room}");
+    for (fleet, both) in FLEETS {
+        assert_eq!(rt; both_finish(&rt, rt.alloc(), fleet, &ops)?, Some(both));
     }
     Ok(())
 }
