@@ -379,7 +379,7 @@ fn is_alone(alloc: Global, desk: &Desk<Node>, comm: &Comm, world: &Comm) -> Resu
     let is_like = desk.compare(comm, world)? == Relation::Congruent;
     let count = desk.members(comm)?.len();
     let group = desk.group(alloc, comm)?;
-    let same = group.size() == count;
+    let same = usize::from(group.size()) == count;
     drop(group);
     Ok(is_like && same && count == 1)
 }
