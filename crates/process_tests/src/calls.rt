@@ -400,7 +400,7 @@ fn is_translated(
 fn is_graph(desk: &Desk<Node>, comm: &Comm, world: &Comm) -> Result<bool, AskError> {
     let (sources, destinations) = (desk.sources(comm)?, desk.destinations(comm)?);
     let is_so = sources.len() == 1 && sources[0].weight == 4 && destinations.len() == 1;
-    let has_none = desk.is_weighted(world) == Err(AskError::NoTopology);
+    let has_none = matches!(desk.sources(world), Err(AskError::NoTopology));
     Ok(is_so && desk.is_weighted(comm)? && has_none)
 }
 
