@@ -1,5 +1,5 @@
 //! Each call by its name, blocking and nonblocking, by the only rank of a communicator that has an edge to itself.
-use mpx_comm::{AskError, CallError, Comm, Desk, Relation, Request};
+use mpx_comm::{AskError, CallError, Comm, Desk, Relation, Request, integer_of, integers_of};
 use mpx_group::{Proc, Rank};
 use mpx_kind::{Exchange, Kind, Neighbourhood, NewCommunicator, Reduction};
 use mpx_node::{Finished, Node};
@@ -353,6 +353,16 @@ fn first_wrong(alloc: Global, desk: &mut Desk<Node>, comm: &Comm, ops: &Ops) -> 
     None
 }
 
+// Whether the item is given as integers of a type, in a list and alone.
+fn as_integers(alloc: Global, desk: &mut Desk<Node>, comm: &Comm, ops: &Ops) -> Option<bool> {
+    let all = exchange(alloc, desk, comm, Exchange::Allgather, ops).ok()?;
+    let list = integers_of::<i64>(alloc, all).ok()?;
+    let is_list = list.as_slice() == [7].as_slice();
+    drop(list);
+    let sum = reduction(alloc, desk, comm, Reduction::Allreduce, ops).ok()?;
+    Some(is_list && integer_of::<u8>(sum) == Some(7))
+}
+
 fn gathers(alloc: Global, desk: &mut Desk<Node>, comm: &Comm, ops: &Ops) -> bool {
     let started = start_gathered(alloc, desk, comm, ops);
     gives_later(alloc, desk, kinds::CREATE_GROUP, started, ops)
@@ -414,8 +424,8 @@ fn asks(alloc: Global, desk: &Desk<Node>, comm: &Comm, world: &Comm) -> Result<b
     )
 }
 
-// Whether the rank is told what it asks, and a post on a gathering gives what it should; the first kind whose calls don't; and whether the
-// communicator is closed then.
+// Whether the rank is told what it asks, in integers too, and a post on a gathering gives what it should; the first kind whose calls don't;
+// and whether the communicator is closed then.
 fn come_out(
     alloc: Global,
     desk: &mut Desk<Node>,
@@ -424,11 +434,12 @@ fn come_out(
 ) -> Option<(bool, Option<Kind>, bool)> {
     let comm = with_edges(alloc, desk, world, ops)?;
     let asked = asks(alloc, desk, &comm, world) == Ok(true);
+    let given = as_integers(alloc, desk, &comm, ops) == Some(true);
     let gathered = gathers(alloc, desk, &comm, ops);
     let wrong = first_wrong(alloc, desk, &comm, ops);
     let closed = is_closed(alloc, desk, &comm, ops);
     drop(comm);
-    Some((asked && gathered, wrong, closed))
+    Some((asked && given && gathered, wrong, closed))
 }
 
 #[test]
