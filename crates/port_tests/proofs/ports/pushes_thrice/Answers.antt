@@ -1,7 +1,7 @@
 use Rattle.std.proofs.Common.{sym, subst}
 use Rattle.mpx_bus.specs.Ports.{CanPush}
 use Rattle.mpx_bus.proofs.Goes.{goes_then}
-use Rattle.port_tests.proofs.port_fleets.pushes_thrice.Goals as goal
+use Rattle.port_tests.proofs.ports.pushes_thrice.Goals as goal
 
 pub pushes-once-requires-clause-frame : goal.pushes-once-requires-clause-frame
 pushes-once-requires-clause-frame g c = subst (CanPush c.args.port.now) (sym c.in_ok-first.ensures) c.requires.frame

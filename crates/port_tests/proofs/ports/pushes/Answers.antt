@@ -2,7 +2,7 @@ use Rattle.std.proofs.Common.{sym, subst}
 use Rattle.mpx_bus.specs.Ports.{CanPush}
 use Rattle.mpx_bus.specs.Answers.{PushesOne}
 use Rattle.mpx_bus.proofs.Goes.{goes_then}
-use Rattle.port_tests.proofs.port_fleets.pushes.Goals as goal
+use Rattle.port_tests.proofs.ports.pushes.Goals as goal
 
 -- the frame that came back is the one that was pushed
 pub push_on-requires-2-clause-frame : goal.push_on-requires-2-clause-frame

@@ -96,63 +96,73 @@ fn at_most_4096_items_of_the_range(rt: HostRuntime) -> Result<(), Fail> {
     Ok(())
 }
 
-// Whether the integers are these numbers and come back from them, and the numbers beside the range are none of the type.
-fn there_and_back<T: Integer>(
+// Whether the integers are these numbers, and come back from them; and whether no integers make no numbers.
+fn come_back<T: Integer>(alloc: Global, integers: &[T], numbers: &[i128]) -> Result<bool, Fail> {
+    let made = Numbers::from_slice(alloc, integers)?;
+    let again = integers_in::<T>(alloc, numbers)?;
+    let there = made.as_slice() == numbers;
+    Ok(there && Numbers::from_slice(alloc, &again)?.as_slice() == numbers)
+}
+
+// Whether each of the ends alone is one integer of the type: none is where the list is empty or has both, or a number beside the range.
+fn are_ends<T: Integer>(alloc: Global, ends: [i128; 2], beside: [i128; 2]) -> bool {
+    integer_in::<T>(&ends[..1]).is_some()
+        && integer_in::<T>(&ends[1..]).is_some()
+        && integer_in::<T>(&ends).is_none()
+        && integer_in::<T>(&[]).is_none()
+        && integer_in::<T>(&beside[..1]).is_none()
+        && integer_in::<T>(&beside[1..]).is_none()
+        && integers_in::<T>(alloc, &beside).err() == Some(IntegersError::OutOfRange)
+}
+
+// Both of a type, of its ends and a number between them, and the numbers beside its range.
+fn are_so<T: Integer>(
     alloc: Global,
-    list: &[T],
+    integers: [T; 3],
     numbers: [i128; 3],
     beside: [i128; 2],
-) -> Result<bool, AllocError> {
-    let made = Numbers::from_slice(alloc, list)?;
-    let again = match integers_in::<T>(alloc, made.as_slice()) {
-        Ok(back) => Numbers::from_slice(alloc, &back)?,
-        Err(_) => return Ok(false),
-    };
-    let refused = integer_in::<T>(&beside[..1]).is_none()
-        && integer_in::<T>(&beside[1..]).is_none()
-        && integer_in::<T>(&numbers).is_none()
-        && integer_in::<T>(&numbers[..1]).is_some()
-        && matches!(
-            integers_in::<T>(alloc, &beside),
-            Err(IntegersError::OutOfRange)
-        );
-    Ok(refused && *made.as_slice() == numbers && *again.as_slice() == numbers)
+) -> Result<bool, Fail> {
+    Ok(
+        come_back::<T>(alloc, &integers, &numbers)?
+            && come_back::<T>(alloc, &integers[..0], &[])?
+            && are_ends::<T>(alloc, [numbers[0], numbers[2]], beside),
+    )
 }
 
 #[test]
 fn integers_come_back(rt: HostRuntime) -> Result<(), Fail> {
     let alloc = rt.alloc();
     let all = [
-        there_and_back::<i8>(alloc, &[-128, 0, 127], [-128, 0, 127], [-129, 128])?,
-        there_and_back::<u8>(alloc, &[0, 3, 255], [0, 3, 255], [-1, 256])?,
-        there_and_back::<i16>(
+        are_so::<i8>(alloc, [-128, 0, 127], [-128, 0, 127], [-129, 128])?,
+        are_so::<u8>(alloc, [0, 3, 255], [0, 3, 255], [-1, 256])?,
+        are_so::<i16>(
             alloc,
-            &[-32768, 2, 32767],
+            [-32768, 2, 32767],
             [-32768, 2, 32767],
             [-32769, 32768],
         )?,
-        there_and_back::<u16>(alloc, &[0, 3, 65535], [0, 3, 65535], [-1, 65536])?,
-        there_and_back::<i32>(
+        are_so::<u16>(alloc, [0, 3, 65535], [0, 3, 65535], [-1, 65536])?,
+        are_so::<i32>(
             alloc,
-            &[-2147483648, 0, 2147483647],
+            [-2147483648, 0, 2147483647],
             [-2147483648, 0, 2147483647],
             [-2147483649, 2147483648],
         )?,
-        there_and_back::<u32>(
+        are_so::<u32>(
             alloc,
-            &[0, 3, 4294967295],
+            [0, 3, 4294967295],
             [0, 3, 4294967295],
             [-1, 4294967296],
         )?,
-        there_and_back::<i64>(
+        are_so::<i64>(
             alloc,
-            &[i64::MIN, 0, i64::MAX],
+            [i64::MIN, 0, i64::MAX],
             [-9223372036854775808, 0, 9223372036854775807],
             [-9223372036854775809, 9223372036854775808],
         )?,
-        there_and_back::<u64>(
+        are_so::<u64>(
             alloc,
-            &[0, 3, u64::MAX],
+            [0, 3, u64::MAX],
             [0, 3, 18446744073709551615],
             [-1, 18446744073709551616],
         )?,
