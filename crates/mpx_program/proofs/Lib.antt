@@ -1,2 +1,3 @@
 mod Answering
+mod Explaining
 mod Saying
