@@ -33,7 +33,7 @@ within_get [] k x e = cc e
 within_get (y ∷ xs) zero x e = omega arith
 within_get (y ∷ xs) (suc k) x e = let l = within_get xs k x e in omega (arith, l)
 
-get_within : {A : Type 0} (xs : List A) (k : ℕ) → k < length xs → (x : A) × (slice_get xs k ≡ Some x)
+pub get_within : {A : Type 0} (xs : List A) (k : ℕ) → k < length xs → (x : A) × (slice_get xs k ≡ Some x)
 get_within [] k l = absurd (omega (arith, l))
 get_within (y ∷ xs) zero l = (y, refl)
 get_within (y ∷ xs) (suc k) l = get_within xs k (omega (arith, l))
@@ -44,7 +44,7 @@ read_any [] i x d e = cc e
 read_any (y ∷ xs) zero x d e = same_Some y x e
 read_any (y ∷ xs) (suc i) x d e = read_any xs i x d e
 
-mapped_at : {A B : Type 0} (f : A → B) (xs : List A) (i : ℕ) (y : B) → slice_get (map f xs) i ≡ Some y → (x : A) × ((slice_get xs i ≡ Some x) × (f x ≡ y))
+pub mapped_at : {A B : Type 0} (f : A → B) (xs : List A) (i : ℕ) (y : B) → slice_get (map f xs) i ≡ Some y → (x : A) × ((slice_get xs i ≡ Some x) × (f x ≡ y))
 mapped_at f [] i y e = cc e
 mapped_at f (x ∷ xs) zero y e = (x, (refl, same_Some (f x) y e))
 mapped_at f (x ∷ xs) (suc i) y e = mapped_at f xs i y e

@@ -13,6 +13,7 @@ mod calls;
 mod counts_given;
 mod detail;
 mod ends;
+mod exact;
 mod faults;
 mod forms;
 mod given;

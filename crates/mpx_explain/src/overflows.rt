@@ -1,19 +1,17 @@
 //! Results that are past their signed type: each is named by what the statements of its call give.
-ghost use Rattle.std.specs.Prelude.{◌≡◌, ◌+◌, ◌-◌, ◌++◌, ◌∷◌, IfOk, IfSome, IsSomeAnd, List, None, OnOk, Some, ℕ, ℤ, bytes_eq, codes, cond, take, true};
+ghost use Rattle.std.specs.Prelude.{◌≡◌, ◌-◌, ◌++◌, IfOk, IfSome, OnOk, Some, ℤ, codes, take, true};
 ghost use Rattle.std.specs.List.{All, flat_map};
-ghost use Rattle.std.specs.Option.{option_copied};
 ghost use Rattle.mpx_num.specs.Text.{number_text};
 ghost use Rattle.mpx_num.specs.Types.{IsOutOfRange};
 ghost use Rattle.mpx_waiting.specs.ToldLines.{more_text};
-ghost use Rattle.mpx_explain.specs.Overflows.{AreOverflows, IsOverflow, IsPast, combined, exact_from, given_at, is_summed, neutral, overflow_text, past_text, posted_at, posted_by, reduction_in, taken, type_word, what_text};
+ghost use Rattle.mpx_explain.specs.Overflows.{AreOverflows, IsOverflow, IsPast, overflow_text, past_text, type_word, what_text};
 
+use crate::exact::{exact_of, posted_at, reduced, taken};
 use crate::past::{Candidate, Part, candidates_of, columns_of};
 use join_core::OutOfMemory;
 use mpx_eval::Findings;
-use mpx_kind::{Call, Reduction};
-use mpx_num::{Op, Ty, into_range, is_in_range, print_number};
-use mpx_post::Draft;
-use mpx_script::{Posting, Script, Statement, Word, statement_lines};
+use mpx_num::{Ty, into_range, is_in_range, print_number};
+use mpx_script::{Script, statement_lines};
 use mpx_waiting::{line_at, push_more, push_start};
 use std::alloc::Global;
 
@@ -210,146 +208,6 @@ fn is_past(ty: Ty, exact: Option<i128>) -> bool
     match exact {
         Some(exact) => !is_in_range(ty, exact),
         None => true,
-    }
-}
-
-// The kind of a sum or product of signed numbers.
-pub(crate) fn reduced(draft: &Draft) -> Option<Reduction>
-    ensures { IfSome result (λ r. (reduction_in draft.now.call ≡ Some r) × (is_summed draft.now.op ≡ true)) }
-{
-    match draft.call {
-        Call::Reduction(reduction, _) if is_signed(draft.ty) && is_summed(draft.op) => {
-            Some(reduction)
-        }
-        _ => None,
-    }
-}
-
-fn is_signed(ty: Ty) -> bool {
-    matches!(ty, Ty::I8 | Ty::I16 | Ty::I32 | Ty::I64)
-}
-
-fn is_summed(op: Op) -> bool
-    ensures { result ≡ is_summed op }
-{
-    match op {
-        Op::Sum => true,
-        Op::Prod => true,
-        _ => false,
-    }
-}
-
-// Of the first how many of so many ranks a rank gets what they give.
-fn taken(reduction: Reduction, ranks: usize, rank: u8) -> usize
-    ensures { result ≡ taken reduction ranks rank }
-{
-    match reduction {
-        Reduction::Scan => usize::from(rank) + 1,
-        Reduction::Exscan => usize::from(rank),
-        Reduction::Reduce
-        | Reduction::Allreduce
-        | Reduction::ReduceScatterBlock
-        | Reduction::ReduceScatter => ranks,
-    }
-}
-
-// What the statements with these places give, from rank 0 on, combined; none where it is past 128 bits.
-fn exact_of(script: &Script, op: Op, index: usize, places: &[usize]) -> Option<i128>
-    ensures { IfSome result (λ z. exact_from script.now.statements op index 0 (neutral op) places.now ≡ Some z) }
-{
-    let mut exact = Some(neutral(op));
-    for rank in 0..places.len() {
-        exact = step(script, op, index, rank, places[rank], exact);
-    }
-    exact
-}
-
-// A number combined with that which a rank's statement with this place gives.
-fn step(
-    script: &Script,
-    op: Op,
-    index: usize,
-    rank: usize,
-    place: usize,
-    before: Option<i128>,
-) -> Option<i128>
-    ensures { IfSome result (λ z. IsSomeAnd before (λ b. (more : List ℕ) → exact_from script.now.statements op index (rank + 1) z more ≡ exact_from script.now.statements op index rank b (place ∷ more))) }
-{
-    match before {
-        Some(before) => with_given(op, before, given_at(script, rank, place, index)),
-        None => None,
-    }
-}
-
-fn with_given(op: Op, before: i128, given: Option<i128>) -> Option<i128>
-    ensures { IfSome result (λ z. IsSomeAnd given (λ g. z ≡ combined op before g)) }
-{
-    match given {
-        Some(given) => combined(op, before, given),
-        None => None,
-    }
-}
-
-fn neutral(op: Op) -> i128
-    ensures { result ≡ neutral op }
-{
-    match op {
-        Op::Prod => 1,
-        _ => 0,
-    }
-}
-
-fn combined(op: Op, before: i128, given: i128) -> Option<i128>
-    ensures { IfSome result (λ z. z ≡ combined op before given) }
-{
-    match op {
-        Op::Prod => before.checked_mul(given),
-        _ => before.checked_add(given),
-    }
-}
-
-// The number with this index that the statement with this place gives.
-fn given_at(script: &Script, rank: usize, place: usize, index: usize) -> Option<i128>
-    ensures { IfSome result (λ z. given_at script.now.statements index rank place ≡ Some z) }
-{
-    let draft = posted_at(script, rank, place)?;
-    draft.items.as_slice().get(index).copied()
-}
-
-// What the statement with this place posts on `world`.
-fn posted_at(script: &Script, rank: usize, place: usize) -> Option<&Draft>
-    ensures { IfSome (option_copied result) (λ draft. posted_at script.now.statements rank place ≡ Some draft) }
-{
-    let Ok(rank) = u8::try_from(rank) else {
-        return None;
-    };
-    match script.statements(rank).get(place) {
-        Some(statement) => posted_by(statement),
-        None => None,
-    }
-}
-
-/// What a statement posts on `world`.
-pub(crate) fn posted_by(statement: &Statement) -> Option<&Draft>
-    ensures { option_copied result ≡ posted_by statement.now }
-{
-    match statement {
-        Statement::Post(Posting::Call { on, draft }) => on_world(on, draft),
-        Statement::Post(Posting::Start { on, draft, .. }) => on_world(on, draft),
-        Statement::Post(Posting::New { on, draft, .. }) => on_world(on, draft),
-        Statement::Post(Posting::CreateGroup { .. }) => None,
-        Statement::Wait(_) => None,
-        Statement::Ask(_) => None,
-    }
-}
-
-fn on_world<'d>(on: &Word, draft: &'d Draft) -> Option<&'d Draft>
-    ensures { option_copied result ≡ cond (bytes_eq on.now (codes "world")) (Some draft.now) None }
-{
-    if on.as_bytes() == b"world".as_slice() {
-        Some(draft)
-    } else {
-        None
     }
 }
 

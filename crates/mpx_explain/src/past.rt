@@ -1,7 +1,7 @@
 //! Sums and products that are past the range of their signed type, perhaps: `overflows.rt` names those that are.
 
+use crate::exact::{posted_by, reduced};
 use crate::numbering::marked;
-use crate::overflows::{posted_by, reduced};
 use join_core::OutOfMemory;
 use mpx_eval::Findings;
 use mpx_kind::Reduction;

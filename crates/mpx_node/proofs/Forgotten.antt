@@ -1,15 +1,15 @@
 -- What a process keeps that lets results go.
 use Rattle.std.proofs.Common.{◌≡◌, ℕ, zero, suc, ◌<◌, Bool, true, false, cond, List, [], length, Option, Some, None, refl, sym, ap, ◌∙◌, inl, inr, subst}
-use Rattle.std.specs.Prelude.{◌⊎◌, ◌&&◌, is_some, nat_le}
-use Rattle.std.specs.Option.{option_map, option_map_or}
+use Rattle.std.specs.Prelude.{◌⊎◌, is_some}
+use Rattle.std.specs.Option.{option_map}
 use Rattle.mpx_name.specs.Name.{Name, same_name}
 use Rattle.mpx_name.specs.Order.{name_equality}
 use Rattle.mpx_node.specs.declared.finished.Finished.{Finished}
-use Rattle.mpx_node.specs.Nodes.{NodeView, OpenedView, freed_by, freed_on, front_on, is_fine_free, is_past_free, posted_by, posted_on, result_on, results_by, results_on}
+use Rattle.mpx_node.specs.Nodes.{NodeView, OpenedView, freed_by, freed_on, front_on, posted_by, posted_on, result_on, results_by, results_on}
 use Rattle.mpx_node.specs.Stored.{count_gone, let_go, stored_at}
 use Rattle.mpx_node.specs.Forgetting.{forgets, forgotten_on}
 use Rattle.mpx_node.specs.Opened.{lets_go}
-use Rattle.mpx_node.proofs.Gone.{gone_lets, last_stays, length_lets, stored_before, stored_or_gone}
+use Rattle.mpx_node.proofs.Gone.{gone_lets, length_lets, stored_before, stored_or_gone}
 
 let_go_none : {A : Type 0} (below : ℕ) → let_go {A = A} below [] ≡ []
 let_go_none zero = refl
@@ -55,10 +55,6 @@ module _ (below : ℕ) where
   ]
   or_gone_by_test false xs k x e = inl e
 
-  past_by_test : (b : Bool) (xs : List (Option Finished)) (number : ℕ) → is_past_free (cond b (let_go below xs) xs) number ≡ is_past_free xs number
-  past_by_test true xs number = λ i. option_map_or is_fine_free (last_stays below xs i) false && nat_le (length_lets below xs i) number
-  past_by_test false xs number = refl
-
 module _ (name : Name) (below : ℕ) (node : NodeView) where
   results_forgotten : (n : Name) → results_on (forgets name below node) n ≡ cond (same_name n name) (let_go below (results_on node n)) (results_on node n)
   results_forgotten n = results_by_test below (same_name n name) (node.opened n)
@@ -74,10 +70,6 @@ module _ (name : Name) (below : ℕ) (node : NodeView) where
 
   pub opened_forgotten : (n : Name) → is_some ((forgets name below node).opened n) ≡ is_some (node.opened n)
   opened_forgotten n = opened_by_test below (same_name n name) (node.opened n)
-
-  -- whether a prune goes past its free stays too
-  pub past_forgotten : (n : Name) (number : ℕ) → is_past_free (results_on (forgets name below node) n) number ≡ is_past_free (results_on node n) number
-  past_forgotten n number = ap (λ xs. is_past_free xs number) (results_forgotten n) ∙ past_by_test below (same_name n name) (results_on node n) number
 
   -- what is still there was there
   pub result_before : (n : Name) (k : ℕ) (x : Finished) → result_on (forgets name below node) n k ≡ Some x → result_on node n k ≡ Some x

@@ -50,10 +50,6 @@ module _ {A : Type 0} where
   stored_from (suc n) xs zero l = absurd (omega (arith, l))
   stored_from (suc n) xs (suc k) l = stored_from n xs k (omega (arith, l)) ∙ ap (slice_get xs) (omega (arith, l))
 
-  pub counted_gone : (gone : ℕ) (x : A) (xs : List A) → count_gone (after_gone gone (x ∷ xs)) ≡ gone
-  counted_gone zero x xs = refl
-  counted_gone (suc n) x xs = ap suc (counted_gone n x xs)
-
   pub counted_all : (gone : ℕ) (xs : List A) → count_gone (after_gone gone xs) ≡ gone
   counted_all zero [] = refl
   counted_all zero (x ∷ xs) = refl

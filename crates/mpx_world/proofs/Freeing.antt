@@ -69,7 +69,7 @@ given_nothing ops birth p row name k e =
     (rank, is, nothing-fine ops birth row name k rank (same_Some (value ops birth row name k rank) Nothing given)))
 
 -- the process at a rank
-ranked_at : (p : ℕ) (ps : List ℕ) (rank : ℕ) → rank_in p ps ≡ Some rank → slice_get ps rank ≡ Some p
+pub ranked_at : (p : ℕ) (ps : List ℕ) (rank : ℕ) → rank_in p ps ≡ Some rank → slice_get ps rank ≡ Some p
 ranked_at p ps rank e =
     let at = position-Some (λ q. q == p) ps rank 0 e in
     slice_get-get_or ps rank 0 at.0 ∙ ap Some (same_number (get_or ps rank 0) p at.1)

@@ -1,0 +1,149 @@
+//! Exact sums and products of what statements give on `world`.
+ghost use Rattle.std.specs.Prelude.{◌≡◌, ◌+◌, ◌∷◌, IfSome, IsSomeAnd, List, None, Some, ℕ, ℤ, bytes_eq, codes, cond, true};
+ghost use Rattle.std.specs.Option.{option_copied};
+ghost use Rattle.mpx_explain.specs.Overflows.{combined, exact_from, given_at, is_summed, neutral, posted_at, posted_by, reduction_in, taken};
+
+use mpx_kind::{Call, Reduction};
+use mpx_num::{Op, Ty};
+use mpx_post::Draft;
+use mpx_script::{Posting, Script, Statement, Word};
+
+/// The kind of a sum or product of signed numbers.
+pub(crate) fn reduced(draft: &Draft) -> Option<Reduction>
+    ensures { IfSome result (λ r. (reduction_in draft.now.call ≡ Some r) × (is_summed draft.now.op ≡ true)) }
+{
+    match draft.call {
+        Call::Reduction(reduction, _) if is_signed(draft.ty) && is_summed(draft.op) => {
+            Some(reduction)
+        }
+        _ => None,
+    }
+}
+
+fn is_signed(ty: Ty) -> bool {
+    matches!(ty, Ty::I8 | Ty::I16 | Ty::I32 | Ty::I64)
+}
+
+fn is_summed(op: Op) -> bool
+    ensures { result ≡ is_summed op }
+{
+    match op {
+        Op::Sum => true,
+        Op::Prod => true,
+        _ => false,
+    }
+}
+
+/// Of the first how many of so many ranks a rank gets what they give.
+pub(crate) fn taken(reduction: Reduction, ranks: usize, rank: u8) -> usize
+    ensures { result ≡ taken reduction ranks rank }
+{
+    match reduction {
+        Reduction::Scan => usize::from(rank) + 1,
+        Reduction::Exscan => usize::from(rank),
+        Reduction::Reduce
+        | Reduction::Allreduce
+        | Reduction::ReduceScatterBlock
+        | Reduction::ReduceScatter => ranks,
+    }
+}
+
+/// What the statements with these places give, from rank 0 on, combined; none where it is past 128 bits.
+pub(crate) fn exact_of(script: &Script, op: Op, index: usize, places: &[usize]) -> Option<i128>
+    ensures { IfSome result (λ z. exact_from script.now.statements op index 0 (neutral op) places.now ≡ Some z) }
+{
+    let mut exact = Some(neutral(op));
+    for rank in 0..places.len() {
+        exact = step(script, op, index, rank, places[rank], exact);
+    }
+    exact
+}
+
+// A number combined with that which a rank's statement with this place gives.
+fn step(
+    script: &Script,
+    op: Op,
+    index: usize,
+    rank: usize,
+    place: usize,
+    before: Option<i128>,
+) -> Option<i128>
+    ensures { IfSome result (λ z. IsSomeAnd before (λ b. (more : List ℕ) → exact_from script.now.statements op index (rank + 1) z more ≡ exact_from script.now.statements op index rank b (place ∷ more))) }
+{
+    match before {
+        Some(before) => with_given(op, before, given_at(script, rank, place, index)),
+        None => None,
+    }
+}
+
+fn with_given(op: Op, before: i128, given: Option<i128>) -> Option<i128>
+    ensures { IfSome result (λ z. IsSomeAnd given (λ g. z ≡ combined op before g)) }
+{
+    match given {
+        Some(given) => combined(op, before, given),
+        None => None,
+    }
+}
+
+fn neutral(op: Op) -> i128
+    ensures { result ≡ neutral op }
+{
+    match op {
+        Op::Prod => 1,
+        _ => 0,
+    }
+}
+
+fn combined(op: Op, before: i128, given: i128) -> Option<i128>
+    ensures { IfSome result (λ z. z ≡ combined op before given) }
+{
+    match op {
+        Op::Prod => before.checked_mul(given),
+        _ => before.checked_add(given),
+    }
+}
+
+// The number with this index that the statement with this place gives.
+fn given_at(script: &Script, rank: usize, place: usize, index: usize) -> Option<i128>
+    ensures { IfSome result (λ z. given_at script.now.statements index rank place ≡ Some z) }
+{
+    let draft = posted_at(script, rank, place)?;
+    draft.items.as_slice().get(index).copied()
+}
+
+/// What the statement with this place posts on `world`.
+pub(crate) fn posted_at(script: &Script, rank: usize, place: usize) -> Option<&Draft>
+    ensures { IfSome (option_copied result) (λ draft. posted_at script.now.statements rank place ≡ Some draft) }
+{
+    let Ok(rank) = u8::try_from(rank) else {
+        return None;
+    };
+    match script.statements(rank).get(place) {
+        Some(statement) => posted_by(statement),
+        None => None,
+    }
+}
+
+/// What a statement posts on `world`.
+pub(crate) fn posted_by(statement: &Statement) -> Option<&Draft>
+    ensures { option_copied result ≡ posted_by statement.now }
+{
+    match statement {
+        Statement::Post(Posting::Call { on, draft }) => on_world(on, draft),
+        Statement::Post(Posting::Start { on, draft, .. }) => on_world(on, draft),
+        Statement::Post(Posting::New { on, draft, .. }) => on_world(on, draft),
+        Statement::Post(Posting::CreateGroup { .. }) => None,
+        Statement::Wait(_) => None,
+        Statement::Ask(_) => None,
+    }
+}
+
+fn on_world<'d>(on: &Word, draft: &'d Draft) -> Option<&'d Draft>
+    ensures { option_copied result ≡ cond (bytes_eq on.now (codes "world")) (Some draft.now) None }
+{
+    if on.as_bytes() == b"world".as_slice() {
+        Some(draft)
+    } else {
+        None
+    }
+}
