@@ -5,7 +5,7 @@ use Rattle.std.specs.Option.{option_map}
 use Rattle.std.proofs.lemmas.Bool.Decides.{nat_tests}
 use Rattle.join_core.specs.declared.memory.OutOfMemory.{OutOfMemory}
 use Rattle.mpx_name.specs.Order.{name_equality}
-use Rattle.mpx_name.specs.Name.{Name, same_name}
+use Rattle.mpx_name.specs.Name.{Name}
 use Rattle.mpx_num.specs.declared.own.Operation.{Operation}
 use Rattle.mpx_birth.specs.Births.{BirthView}
 use Rattle.mpx_board.specs.Boards.{Look}

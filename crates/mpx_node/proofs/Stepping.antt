@@ -8,6 +8,7 @@ use Rattle.join_core.specs.declared.memory.OutOfMemory.{OutOfMemory}
 use Rattle.join_core.specs.laws.Cases.{yes, no, answer, is_tied}
 use Rattle.join_core.specs.Flat.{known, unknown}
 use Rattle.mpx_name.specs.Order.{name_cmp, name_exact}
+use Rattle.mpx_name.proofs.Keys.{either}
 use Rattle.mpx_num.specs.declared.own.Operation.{Operation}
 use Rattle.mpx_post.specs.Posts.{Given}
 use Rattle.mpx_post.specs.declared.draft.PostError.{PostError}

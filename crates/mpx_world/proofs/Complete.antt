@@ -1,5 +1,5 @@
 -- A process that lets nothing go has all results that it harvested.
-use Rattle.std.proofs.Common.{◌≡◌, ℕ, ◌==◌, Bool, true, false, cond, List, [], Option, Some, None, refl, sym, subst, arith}
+use Rattle.std.proofs.Common.{ℕ, ◌==◌, Bool, true, false, cond, List, [], Option, Some, None, sym, subst, arith}
 use Rattle.std.specs.Prelude.{nat_lt, slice_get, ◌&&◌, Result, Ok, Err}
 use Rattle.mpx_post.specs.Gatherings.{GatheringView}
 use Rattle.mpx_post.specs.Posts.{Given}
@@ -10,7 +10,7 @@ use Rattle.mpx_board.specs.Changes.{pruned_on}
 use Rattle.mpx_name.specs.Name.{Name, same_name}
 use Rattle.mpx_num.specs.declared.own.Operation.{Operation}
 use Rattle.mpx_node.specs.declared.finished.Finished.{Finished}
-use Rattle.mpx_node.specs.Nodes.{NodeView, OpenedView, fresh, gathering_fact, gathering_name, gathers_on, learn, next_result, prune_part, results_by, results_on}
+use Rattle.mpx_node.specs.Nodes.{NodeView, fresh, gathering_fact, gathering_name, gathers_on, learn, next_result, prune_part, results_by, results_on}
 use Rattle.mpx_node.proofs.Gone.{AllThere, all_push}
 use Rattle.mpx_world.specs.Worlds.{ProcessView, WorldView, Happening, Posts, Harvests, Gathers, Prunes, Sends, Takes, TakesPartly, Acknowledges, Forgets, acknowledges, drops, gathers, happens, harvests, learns, made_next, makes, opens_gathering, prunes, start_process, stores, takes}
 use Rattle.mpx_world.specs.Forgetting.{LetsNothingGo}

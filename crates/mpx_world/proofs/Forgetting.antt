@@ -1,13 +1,13 @@
 -- Results that processes let go, and all others, which stay.
-use Rattle.std.proofs.Common.{◌≡◌, ℕ, zero, suc, ◌<◌, Bool, true, false, cond, List, [], ◌∷◌, Option, Some, None, refl, sym, ap, ◌∙◌, inl, inr, subst}
-use Rattle.std.specs.Prelude.{◌⊎◌, slice_get}
+use Rattle.std.proofs.Common.{◌≡◌, ℕ, suc, ◌<◌, Bool, true, false, cond, List, [], ◌∷◌, Some, refl, sym, inl, inr}
+use Rattle.std.specs.Prelude.{◌⊎◌}
 use Rattle.mpx_name.specs.Name.{Name}
 use Rattle.mpx_node.specs.declared.finished.Finished.{Finished}
 use Rattle.mpx_node.specs.Nodes.{result_on}
 use Rattle.mpx_node.proofs.Forgotten.{result_or_forgotten}
 use Rattle.mpx_world.specs.declared.events.Event.{Event}
 use Rattle.mpx_world.specs.declared.events.Event.TheVariants as E
-use Rattle.mpx_world.specs.Worlds.{ProcessView, WorldView, Happening, Posts, Harvests, Gathers, Prunes, Sends, Takes, TakesPartly, Acknowledges, Forgets, goes_on, happens, lets_results_go}
+use Rattle.mpx_world.specs.Worlds.{WorldView, Happening, Posts, Harvests, Gathers, Prunes, Sends, Takes, TakesPartly, Acknowledges, Forgets, goes_on, happens, lets_results_go}
 use Rattle.mpx_world.specs.Forgetting.{HasForgotten}
 use Rattle.mpx_world.specs.Events.{does, does_all, happening_of, is_refusal, reply}
 use Rattle.mpx_world.proofs.Lists.{at_cases, names_same}

@@ -1,5 +1,5 @@
 -- There is a place for each result, let go or not.
-use Rattle.std.specs.Prelude.{◌≡◌, ℕ, zero, suc, ◌+◌, List, [], ◌∷◌, length, map, Option, Some}
+use Rattle.std.specs.Prelude.{◌≡◌, ℕ, zero, suc, ◌+◌, List, [], ◌∷◌, length, map, Some}
 use Rattle.std.proofs.Common.{refl, ap, arith}
 use Rattle.mpx_node.specs.Stored.{after_gone}
 

@@ -4,7 +4,7 @@ use Rattle.mpx_board.specs.Looks.{look, parts_of}
 use Rattle.mpx_node.specs.Keeping.{named}
 use Rattle.mpx_node.specs.Nodes.{NodeView}
 use Rattle.mpx_node.specs.Shown.{node_of}
-use Rattle.mpx_node.proofs.Frames.{ShowsIts, mapped_err, mapped_ok, shows_its}
+use Rattle.mpx_node.proofs.Frames.{mapped_err, mapped_ok, shows_its}
 use Rattle.mpx_format.proofs.Pieces.{nothing_kept}
 use Rattle.mpx_node.proofs.node.Node.take_frame.Goals as goal
 

@@ -1,4 +1,4 @@
-use Rattle.std.proofs.Common.{◌≡◌, ◌+◌, ◌-◌, ◌<◌, ◌≤◌, length, arith}
+use Rattle.std.proofs.Common.{◌≡◌, arith}
 use Rattle.mpx_node.specs.Stored.{after_gone, let_go}
 use Rattle.mpx_node.proofs.Gone.{lets_up_to, lets_none}
 use Rattle.mpx_node.proofs.opened.Opened.let_go.Goals as goal
