@@ -1,5 +1,5 @@
 -- What a port that goes on keeps.
-use Rattle.std.proofs.Common.{◌≡◌, ℕ, List, [], ◌∷◌, ◌++◌, Some, None, Option, Result, Ok, Err, OnErr, refl, sym, ap, ◌∙◌, subst, append_assoc}
+use Rattle.std.proofs.Common.{◌≡◌, ℕ, List, [], ◌∷◌, ◌++◌, Some, None, Option, refl, sym, ap, ◌∙◌, subst, append_assoc}
 use mathlib.Core.List.{IsPrefix}
 use Rattle.mpx_name.specs.Name.{Name}
 use Rattle.mpx_num.specs.declared.own.Operation.{Operation}
@@ -95,7 +95,3 @@ two_acts journal new a b e = e ∙ append_assoc journal (a ∷ []) (b ∷ [])
 -- whatever frames it keeps
 pub goes_kept : (a : PortView) (kept : List (List ℕ)) (b : PortView) → PortGoesOn (record a { kept = kept }) b → PortGoesOn a b
 goes_kept a kept b g = record { same = record { table = g.same.table; pass = g.same.pass; setup = g.same.setup; me = g.same.me }; keeps = g.keeps; plan = g.plan }
-
-pub on_err : {T E P : Type 0} (r : Result T E) → P → OnErr r P
-on_err (Ok x) p = tt
-on_err (Err e) p = p

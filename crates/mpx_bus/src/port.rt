@@ -370,6 +370,7 @@ impl Port {
             Err(refusal) => Err(refusal),
         }
     }
+
     /// Lets the results of calls below the number on a context go, as [`Node::forget`] does. It takes no memory.
     pub fn forget(&mut self, name: &Name, below: u32)
         ensures port { PortGoesOn self.old self.new }

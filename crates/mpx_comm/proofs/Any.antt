@@ -1,5 +1,5 @@
 -- Looking at the open requests between turns.
-use Rattle.std.proofs.Common.{◌≡◌, ℕ, zero, suc, ◌+◌, ◌-◌, ◌<◌, ◌≤◌, ◌≢◌, List, [], length, map, Some, inl, inr, refl, sym, ◌∙◌, subst, arith}
+use Rattle.std.proofs.Common.{◌≡◌, ℕ, suc, ◌+◌, ◌-◌, ◌<◌, ◌≤◌, ◌≢◌, List, [], map, Some, inr, sym, ◌∙◌, subst, arith}
 use Rattle.std.specs.Prelude.{Ok, remove, slice_get}
 use Rattle.std.proofs.lemmas.Option.{same_Some}
 use Rattle.mpx_num.specs.declared.own.Operation.{Operation}
@@ -7,11 +7,10 @@ use Rattle.mpx_node.specs.declared.finished.Finished.{Finished}
 use Rattle.mpx_node.specs.Nodes.{NodeView}
 use Rattle.mpx_comm.specs.declared.request.Request.{Request}
 use Rattle.mpx_comm.specs.declared.answers.TurnError.{TurnError}
-use Rattle.mpx_comm.specs.declared.answers.TurnError.TheVariants.{OutOfMemory}
-use Rattle.mpx_comm.specs.Any.{AwaitsAny, ClosesDone, FindsAny, GivesUpAny, LooksAt, LooksInVain, LooksLast, PicksDone, VainLooks}
-use Rattle.mpx_comm.specs.Harvested.{ComesByHarvests, Harvested}
+use Rattle.mpx_comm.specs.Any.{AwaitsAny, ClosesDone, FindsAny, GivesUpAny, LooksAt, LooksInVain, LooksLast, PicksDone}
+use Rattle.mpx_comm.specs.Harvested.{ComesByHarvests}
 use Rattle.mpx_comm.specs.Later.{Later}
-use Rattle.mpx_comm.specs.Requests.{OneIsAtHand, TestsAny, WerePending, close_all, result_of}
+use Rattle.mpx_comm.specs.Requests.{OneIsAtHand, TestsAny, close_all, result_of}
 use Rattle.mpx_comm.proofs.Steps.{later_none, later_more}
 use Rattle.mpx_comm.proofs.Harvesting.{harvested_then}
 use Rattle.mpx_comm.proofs.Picks.{picks_any, picks_since}

@@ -1,10 +1,11 @@
 -- The requests that are done, and those that aren't.
-use Rattle.std.proofs.Common.{◌≡◌, ◌≢◌, ℕ, zero, suc, List, [], ◌∷◌, ◌++◌, Option, Some, None, ◌⊎◌, inl, inr, refl, sym, ap, ◌∙◌, subst}
+use Rattle.std.proofs.Common.{◌≡◌, ◌≢◌, ℕ, zero, suc, List, [], ◌∷◌, ◌++◌, Some, inl, inr, refl, sym, ap, subst, arith}
 use Rattle.std.specs.Prelude.{slice_get}
 use Rattle.std.proofs.lemmas.Option.{same_Some}
 use Rattle.mpx_num.specs.declared.own.Operation.{Operation}
 use Rattle.mpx_node.specs.declared.finished.Finished.{Finished}
-use Rattle.mpx_node.specs.Nodes.{NodeView}
+use Rattle.mpx_node.specs.Nodes.{NodeView, results_on}
+use Rattle.mpx_node.proofs.Gone.{stored_within}
 use Rattle.mpx_comm.specs.declared.request.Request.{Request}
 use Rattle.mpx_comm.specs.Any.{AddsIfDone, PicksDone}
 use Rattle.mpx_comm.specs.Harvested.{ComesByHarvests, WasPending}
@@ -65,5 +66,6 @@ picks_any ops b c (q ∷ rs) done place r f at stored (inl (g, rest, found, is, 
 picks_any ops b c (q ∷ rs) done zero r f at stored (inr (w, others)) =
     let same : q ≡ r = same_Some q r at in
     let later : result_of w.moment q ≡ Some f = subst (λ (x : Request). result_of w.moment x ≡ Some f) (sym same) (w.after.later.stored r.name r.call f stored) in
-    absurd (cc (later, w.pending.none))
+    let harvested = stored_within (results_on w.moment q.name) q.call f later in
+    absurd (omega (arith, harvested, w.pending.ahead))
 picks_any ops b c (q ∷ rs) done (suc place) r f at stored (inr (w, others)) = picks_any ops b c rs done place r f at stored others

@@ -1,6 +1,6 @@
 -- Posts, and the open requests.
 use Rattle.std.proofs.Common.{◌≡◌, ℕ, zero, suc, ◌+◌, ◌<◌, ◌≤◌, ◌==◌, ◌&&◌, Bool, true, false, cond, List, [], ◌∷◌, ◌++◌, length, Option, Some, None, ◌⊎◌, inl, inr, refl, sym, ap, ◌∙◌, subst, arith}
-use Rattle.std.specs.Prelude.{Result, Ok, Err, IsOk, IfOk, slice_get, map, drop, remove, nat_lt}
+use Rattle.std.specs.Prelude.{◌||◌, Result, Ok, Err, IsOk, IfOk, slice_get, map, drop, remove, nat_lt}
 use Rattle.std.specs.Option.{option_map, unwrap_or}
 use Rattle.std.specs.List.{list_any}
 use Rattle.std.specs.Set.{remove_key}
@@ -12,27 +12,30 @@ use Rattle.mpx_birth.specs.Births.{BirthView}
 use Rattle.mpx_post.specs.declared.draft.Draft.{Draft}
 use Rattle.mpx_post.specs.declared.draft.PostError.{PostError}
 use Rattle.mpx_post.specs.declared.draft.PostError.TheVariants as R
-use Rattle.mpx_post.specs.Drafts.{at, checked, given_by, refusal_of}
+use Rattle.mpx_post.specs.Drafts.{at, given_by, refusal_of}
 use Rattle.join_core.specs.Flat.{known, unknown}
 use Rattle.mpx_name.specs.Name.{Name, same_name}
 use Rattle.mpx_num.specs.declared.own.Operation.{Operation}
 use Rattle.mpx_board.specs.Boards.{Look, Held, only, nothing, told}
 use Rattle.mpx_node.proofs.Drafted.{accepted}
+use Rattle.mpx_node.proofs.Gone.{stored_within}
+use Rattle.mpx_node.specs.Stored.{stored_at}
 use Rattle.mpx_node.specs.Nodes.{NodeView, OpenedView, posted_on, posted_by, Posts, with_post, posts_more, checked_on, checked_by, results_on, results_by, front_on}
 use Rattle.mpx_comm.specs.declared.request.Request.{Request}
-use Rattle.mpx_comm.specs.Requests.{same_request, close, close_all, ArePosted, result_of, AreResults, WerePending, HasPosted, next_call, IsRefusal, Asks, AwaitsOne, GivesUpOne, Waits, PostsAnd, Calls}
+use Rattle.mpx_comm.specs.Requests.{same_request, close, close_all, AreKept, ArePosted, has_let_go, result_of, AreResults, WerePending, HasPosted, next_call, IsRefusal, Asks, AwaitsOne, GivesUpOne, Waits, PostsAnd, Calls}
 use Rattle.mpx_comm.specs.declared.answers.WaitError.TheVariants as W
 use Rattle.mpx_comm.specs.declared.answers.TurnError.{TurnError}
 use Rattle.mpx_comm.specs.declared.answers.TurnError.TheVariants as T
 use Rattle.mpx_comm.specs.declared.answers.CallError.{CallError}
 use Rattle.mpx_comm.specs.declared.answers.CallError.TheVariants as C
-use Rattle.mpx_comm.specs.Later.{Later, IsPending, IsOwn}
+use Rattle.mpx_comm.specs.Later.{Later, is_empty, is_let_go, result_at, IsPending, IsOwn}
 use Rattle.mpx_comm.specs.Harvested.{ComesByHarvests, WasPending}
 use Rattle.join_core.specs.laws.Cases.{first_true, second_true, TestAnswer, yes, no, answer}
 use Rattle.mpx_comm.proofs.Harvesting.{still_pending, pending_now}
-use Rattle.mpx_comm.proofs.Steps.{get_either, held_joined, held_added}
+use Rattle.mpx_comm.specs.Keeps.{NodeHolds}
+use Rattle.mpx_comm.proofs.Steps.{ahead_kept, get_either, held_joined, held_added, there_kept}
 use Rattle.mpx_node.specs.declared.finished.Finished.{Finished}
-use Rattle.std.proofs.lemmas.Option.{same_Some, slice_get_within}
+use Rattle.std.proofs.lemmas.Option.{same_Some}
 use Rattle.std.proofs.lemmas.List.{map-append}
 
 pub ok_holds : {A E P : Type 0} (r : Result A E) → IsOk r → IfOk r (λ a. P) → P
@@ -66,14 +69,34 @@ posted_all_closed node [] rs all = all
 posted_all_closed node (q ∷ qs) rs all = posted_all_closed node qs (close rs q) (posted_closed node rs q all)
 
 pub posted_later : (old new : NodeView) (rs : List Request) → Later old new → ArePosted old rs → ArePosted new rs
-posted_later old new rs later all i r e = subst (λ n. r.call < n) (sym (later.posted r.name)) (all i r e)
+posted_later old new rs later all i r e = (subst (λ n. r.call < n) (sym (later.posted r.name)) (all i r e).0, later.let_go r.name r.call ∙ (all i r e).1)
+
+-- the results of these aren't let go
+pub kept_posted : (node : NodeView) (rs : List Request) → ArePosted node rs → AreKept node rs
+kept_posted node rs all i r e = (all i r e).1
+
+pub kept_later : (old new : NodeView) (rs : List Request) → Later old new → AreKept old rs → AreKept new rs
+kept_later old new rs later kept i r e = later.let_go r.name r.call ∙ kept i r e
+
+first_false : (a b : Bool) → (a || b) ≡ false → a ≡ false
+first_false true b e = e
+first_false false b e = refl
+
+second_false : (a b : Bool) → (a || b) ≡ false → b ≡ false
+second_false true b e = cc e
+second_false false b e = e
+
+pub kept_tested : (node : NodeView) (rs : List Request) → list_any (has_let_go node) rs ≡ false → AreKept node rs
+kept_tested node [] e i r at = cc at
+kept_tested node (q ∷ rs) e zero r at = subst (λ (x : Request). has_let_go node x ≡ false) (same_Some q r at) (first_false (has_let_go node q) (list_any (has_let_go node) rs) e)
+kept_tested node (q ∷ rs) e (suc i) r at = kept_tested node rs (second_false (has_let_go node q) (list_any (has_let_go node) rs) e) i r at
 
 -- A POST
 
 one_other : (node : NodeView) (q r : Request) (rs : List Request) → ArePosted node (r ∷ rs) → q.call ≡ posted_on node q.name → list_any (same_request q) rs ≡ false → TestAnswer (same_request q r) → list_any (same_request q) (r ∷ rs) ≡ false
 one_other node q r rs all last rest (yes t) =
     let same : q ≡ r = same_sound q r t in
-    let less : q.call < posted_on node q.name = subst (λ (x : Request). x.call < posted_on node x.name) (sym same) (all 0 r refl) in
+    let less : q.call < posted_on node q.name = subst (λ (x : Request). x.call < posted_on node x.name) (sym same) (all 0 r refl).0 in
     absurd (omega (arith, less, last))
 one_other node q r rs all last rest (no f) = rw f rest
 
@@ -101,18 +124,30 @@ no_fewer given true None = omega arith
 no_fewer given true (Some o) = omega arith
 no_fewer given false o = omega arith
 
+results_stay : (given : Given) (b : Bool) (o : Option OpenedView) → results_by (cond b (option_map (posts_more given) o) o) ≡ results_by o
+results_stay given true None = refl
+results_stay given true (Some o) = refl
+results_stay given false o = refl
+
+-- it lets no result go
+pub let_go_posted : (name : Name) (given : Given) (old : NodeView) (n : Name) (call : ℕ) → is_let_go (with_post name given old) n call ≡ is_let_go old n call
+let_go_posted name given old n call = ap (λ rs. is_empty (slice_get rs call)) (results_stay given (same_name n name) (old.opened n))
+
 -- whatever a post comes to, what was posted before it is
 pub posts_keep : (name : Name) (r : Result Given PostError) (result : Result ℕ PostError) (old new : NodeView) (rs : List Request) → Posts name r result old new → ArePosted old rs → ArePosted new rs
 posts_keep name (Err x) result old new rs h all = subst (λ n. ArePosted n rs) (sym h.1) all
 posts_keep name (Ok given) (Err e) old new rs h all = subst (λ n. ArePosted n rs) (sym h.1) all
-posts_keep name (Ok given) (Ok call) old new rs h all = λ i r e. subst (λ x. r.call < posted_on x r.name) (sym h.1) (let m = no_fewer given (same_name r.name name) (old.opened r.name) in omega (arith, all i r e, m))
+posts_keep name (Ok given) (Ok call) old new rs h all = λ i r e. (
+  subst (λ x. r.call < posted_on x r.name) (sym h.1) (let m = no_fewer given (same_name r.name name) (old.opened r.name) in omega (arith, (all i r e).0, m)),
+  ap (λ x. has_let_go x r) h.1 ∙ let_go_posted name given old r.name r.call ∙ (all i r e).1,
+)
 
 one_more : (ops : List Operation) (o : Option OpenedView) (birth : Option BirthView) (me : ℕ) (name : Name) (draft : Draft) (given : Given) → checked_by ops o birth me name draft ≡ Ok given → posted_by (option_map (posts_more given) o) ≡ posted_by o + 1
 one_more ops None birth me name draft given e = cc e
 one_more ops (Some o) birth me name draft given e = refl
 
-pub posted_added : (ops : List Operation) (old new : NodeView) (draft : Draft) (rs after : List Request) (q : Request) → ArePosted old rs → IsMade q.name q.call old new (checked_on ops old q.name draft) → after ≡ rs ++ q ∷ [] → ArePosted new after
-posted_added ops old new draft rs after q all made e i r f = by_place (get_either rs q i r (ap (λ xs. slice_get xs i) (sym e) ∙ f)) where
+pub posted_added : (ops : List Operation) (old new : NodeView) (draft : Draft) (rs after : List Request) (q : Request) → front_on old q.name ≤ posted_on old q.name → ArePosted old rs → IsMade q.name q.call old new (checked_on ops old q.name draft) → after ≡ rs ++ q ∷ [] → ArePosted new after
+posted_added ops old new draft rs after q bounded all made e i r f = by_place (get_either rs q i r (ap (λ xs. slice_get xs i) (sym e) ∙ f)) where
   grown : (n : Name) → posted_on old n ≤ posted_on new n
   grown n = subst (λ x. posted_on old n ≤ posted_on x n) (sym made.made) (no_fewer made.given (same_name n q.name) (old.opened n))
 
@@ -121,14 +156,15 @@ posted_added ops old new draft rs after q all made e i r f = by_place (get_eithe
       ∙ ap (λ b. posted_by (cond b (option_map (posts_more made.given) (old.opened q.name)) (old.opened q.name))) (name_equality.reflexive q.name)
       ∙ one_more ops (old.opened q.name) (told (old.board.contexts q.name).birth) old.me q.name draft made.given made.checked
 
-  by_place : (slice_get rs i ≡ Some r) ⊎ ((i ≡ length rs) × (q ≡ r)) → r.call < posted_on new r.name
-  by_place (inl there) = omega (arith, all i r there, grown r.name)
-  by_place (inr last) = subst (λ (x : Request). x.call < posted_on new x.name) last.1 (omega (arith, next, made.last))
+  let_go_still : (r : Request) → has_let_go new r ≡ has_let_go old r
+  let_go_still r = ap (λ x. has_let_go x r) made.made ∙ let_go_posted q.name made.given old r.name r.call
 
-results_stay : (given : Given) (b : Bool) (o : Option OpenedView) → results_by (cond b (option_map (posts_more given) o) o) ≡ results_by o
-results_stay given true None = refl
-results_stay given true (Some o) = refl
-results_stay given false o = refl
+  new_kept : has_let_go new q ≡ false
+  new_kept = let_go_still q ∙ ahead_kept old q.name q.call (omega (arith, bounded, made.last))
+
+  by_place : (slice_get rs i ≡ Some r) ⊎ ((i ≡ length rs) × (q ≡ r)) → (r.call < posted_on new r.name) × (has_let_go new r ≡ false)
+  by_place (inl there) = (omega (arith, (all i r there).0, grown r.name), let_go_still r ∙ (all i r there).1)
+  by_place (inr last) = subst (λ (x : Request). (x.call < posted_on new x.name) × (has_let_go new x ≡ false)) last.1 (omega (arith, next, made.last), new_kept)
 
 module _ (old : NodeView) (name : Name) (given : Given) where
   abbrev posting : NodeView
@@ -144,15 +180,15 @@ module _ (old : NodeView) (name : Name) (given : Given) where
   kept_by : (n : Name) (call : ℕ) (g : Given) → IsOwn old n call g → IsOwn posting n call g
   kept_by n call g o = record {
     held = held_joined (old.board.contexts n) (fact.contexts n) call old.me g o.held;
-    mine = λ f e. o.mine f (ap (λ rs. slice_get rs call) (sym (results_stay given (same_name n name) (old.opened n))) ∙ e);
+    mine = λ f e. o.mine f (ap (λ rs. stored_at rs call) (sym (results_stay given (same_name n name) (old.opened n))) ∙ e);
   }
 
   own_by : front_on old name ≤ posted_on old name → IsOwn posting name (posted_on old name) given
   own_by bounded = record {
     held = held_added (old.board.contexts name) (fact.contexts name) (posted_on old name) old.me given told_here;
     mine = λ f e.
-        let there : slice_get (results_on old name) (posted_on old name) ≡ Some f = ap (λ rs. slice_get rs (posted_on old name)) (sym (results_stay given (same_name name name) (old.opened name))) ∙ e in
-        let less : posted_on old name < length (results_on old name) = slice_get_within (results_on old name) (posted_on old name) f there in
+        let there : stored_at (results_on old name) (posted_on old name) ≡ Some f = ap (λ rs. stored_at rs (posted_on old name)) (sym (results_stay given (same_name name name) (old.opened name))) ∙ e in
+        let less : posted_on old name < length (results_on old name) = stored_within (results_on old name) (posted_on old name) f there in
         absurd (omega (arith, less, bounded));
   }
 
@@ -163,9 +199,27 @@ module _ (old : NodeView) (name : Name) (given : Given) where
         accepted = e ∙ ap Ok is;
         own = subst (λ g. IsOwn posting name (posted_on old name) g) is (own_by bounded);
         posted = λ n. ap (λ g. posted_on (with_post name g old) n) is;
-        stored = λ n k f h. ap (λ rs. slice_get rs k) (results_stay given (same_name n name) (old.opened n)) ∙ h;
+        stored = λ n k f h. ap (λ rs. stored_at rs k) (results_stay given (same_name n name) (old.opened n)) ∙ h;
         kept = kept_by;
       }
+
+-- HELD, OR LET GO
+
+pub holds_posted : (old : NodeView) (name : Name) (given : Given) → NodeHolds old (with_post name given old)
+holds_posted old name given = record {
+  stored = λ n k f e. inl (ap (λ rs. stored_at rs k) (results_stay given (same_name n name) (old.opened n)) ∙ e);
+  gone = λ n k g. let_go_posted name given old n k ∙ g;
+  own = kept_by old name given;
+}
+
+pub stored_then : (between now : NodeView) → NodeHolds between now → (n : Name) (k : ℕ) (f : Finished) → (result_at between n k ≡ Some f) ⊎ (is_let_go between n k ≡ true) → (result_at now n k ≡ Some f) ⊎ (is_let_go now n k ≡ true)
+stored_then between now y n k f (inl e) = y.stored n k f e
+stored_then between now y n k f (inr g) = inr (y.gone n k g)
+
+-- what is there is what was there
+pub same_or_gone : (now : NodeView) (name : Name) (call : ℕ) (f g : Finished) → (result_at now name call ≡ Some f) ⊎ (is_let_go now name call ≡ true) → result_at now name call ≡ Some g → g ≡ f
+same_or_gone now name call f g (inl e) there = same_Some g f (sym there ∙ e)
+same_or_gone now name call f g (inr gone) there = let kept : false ≡ is_let_go now name call = there_kept now name call g (sym there) in cc (kept, gone)
 
 -- what was posted stays so
 pub posted_then : (ops : List Operation) (name : Name) (draft : Draft) (old mid last : NodeView) → HasPosted ops name draft old mid → Later mid last → HasPosted ops name draft old last
@@ -184,7 +238,8 @@ post_done ops old new name call draft rs after q bounded all posts is keys =
     let here : Posts q.name (checked_on ops old q.name draft) (Ok q.call) old new = subst (λ (x : Request). Posts x.name (checked_on ops old x.name draft) (Ok x.call) old new) (sym is) posts in
     let made : IsMade q.name q.call old new (checked_on ops old q.name draft) = is_made q.name q.call old new (checked_on ops old q.name draft) here in
     let last : after ≡ rs ++ q ∷ [] = goes_last old q rs after all made.last keys in
-    ((is ∙ (λ i. record { name = name; call = at.last i }), subst (HasPosted ops name draft old) (sym at.made) (has_posted old name at.given ops draft bounded at.checked), last), posted_added ops old new draft rs after q all made last)
+    let within : front_on old q.name ≤ posted_on old q.name = subst (λ (x : Request). front_on old x.name ≤ posted_on old x.name) (sym is) bounded in
+    ((is ∙ (λ i. record { name = name; call = at.last i }), subst (HasPosted ops name draft old) (sym at.made) (has_posted old name at.given ops draft bounded at.checked), last), posted_added ops old new draft rs after q within all made last)
 
 -- it is posted as it was drafted, and nothing else changes
 pub posted_exactly : (ops : List Operation) (old new : NodeView) (name : Name) (call : ℕ) (draft : Draft) → Posts name (checked_on ops old name draft) (Ok call) old new → new ≡ with_post name (given_by draft) old
@@ -251,6 +306,12 @@ were_more ops a b n rs r w since at pending i q l e = by_place (answer (nat_lt i
       let place : i ≡ n = grind (arith, nat_tests) in
       let same : r ≡ q = same_Some r q (sym at ∙ ap (slice_get rs) (sym place) ∙ e) in
       pending_now ops a b q.name q.call since (subst (λ (x : Request). IsPending b x.name x.call) same pending)
+
+-- what was asked for just now wasn't let go
+pub asked_kept : (ops : List Operation) (old new : NodeView) (name : Name) (draft : Draft) (q : Request) (before after : List Request) → front_on old name ≤ posted_on old name → Asks ops name draft (Ok q) old new before after → has_let_go new q ≡ false
+asked_kept ops old new name draft q before after bounded asks =
+    ap (λ (x : NodeView). has_let_go x q) asks.3 ∙ ap (λ (r : Request). has_let_go (with_post name (given_by draft) old) r) asks.0
+    ∙ let_go_posted name (given_by draft) old name (posted_on old name) ∙ ahead_kept old name (posted_on old name) bounded
 
 -- BLOCKING CALLS
 

@@ -3,7 +3,7 @@ use Rattle.std.proofs.Common.{◌≡◌, ℕ, zero, suc, ◌+◌, ◌-◌, ◌<�
 use Rattle.std.specs.Prelude.{◌||◌, Result, Ok, Err, OnOk, OnErr, IfErr, slice_get, nat_le, nat_lt}
 use Rattle.std.specs.Option.{option_map}
 use Rattle.std.proofs.lemmas.Bool.Decides.{nat_tests}
-use Rattle.std.proofs.lemmas.Option.{same_Some, option_and_then_some, slice_get_cases}
+use Rattle.std.proofs.lemmas.Option.{same_Some, option_and_then_some, slice_get_past}
 use Rattle.std.proofs.lemmas.List.{length-append}
 use Rattle.mpx_name.specs.Order.{name_equality}
 use Rattle.join_core.specs.laws.Cases.{TestAnswer, yes, no, answer}
@@ -24,8 +24,10 @@ use Rattle.mpx_node.specs.declared.node.Harvest.TheVariants.{Done, NotYet, NotOp
 use Rattle.mpx_node.specs.Harvests.{Harvests, HarvestsOpened}
 use Rattle.mpx_node.specs.Deltas.{SaysWhatItHas}
 use Rattle.mpx_node.specs.Nodes.{own_acks, NodeView, OpenedView, posted_by, results_on, results_by, front_on, next_result, next_of, result_of, outcome_on, learn, learn_some, StopsTaking, add_result, children_on, or_new, opens, stores_on, is_new_to, harvest_part, Opens, gathering_fact, gathering_name, open_gathering_node}
-use Rattle.mpx_comm.specs.Later.{result_at, IsAtHand, IsHeld, IsOwn, Later, IsPending}
+use Rattle.mpx_node.specs.Stored.{stored_at}
+use Rattle.mpx_comm.specs.Later.{result_at, is_empty, is_let_go, IsAtHand, IsHeld, IsOwn, Later, IsPending}
 use Rattle.mpx_board.proofs.Facts.{posts_bound, posts_order}
+use Rattle.mpx_node.proofs.Gone.{stored_append, stored_push}
 use Rattle.mpx_node.proofs.Nexts.{no_next, some_next}
 
 -- a fact that holds whatever the refusal is
@@ -36,13 +38,14 @@ if_err (Err e) P h = h
 -- TIME
 
 pub later_none : (a : NodeView) → Later a a
-later_none a = record { me = refl; posted = λ n. refl; stored = λ n k f e. e; own = λ n k g o. o }
+later_none a = record { me = refl; posted = λ n. refl; stored = λ n k f e. e; let_go = λ n k. refl; own = λ n k g o. o }
 
 pub later_more : (a b c : NodeView) → Later a b → Later b c → Later a c
 later_more a b c x y = record {
   me = y.me ∙ x.me;
   posted = λ n. y.posted n ∙ x.posted n;
   stored = λ n k f e. y.stored n k f (x.stored n k f e);
+  let_go = λ n k. y.let_go n k ∙ x.let_go n k;
   own = λ n k g o. y.own n k g (x.own n k g o);
 }
 
@@ -119,6 +122,7 @@ later_learns part a = record {
   me = refl;
   posted = λ n. refl;
   stored = λ n k f e. e;
+  let_go = λ n k. refl;
   own = λ n k g o. record { held = held_joined (a.board.contexts n) (part.contexts n) k a.me g o.held; mine = o.mine };
 }
 
@@ -142,8 +146,9 @@ later_opens : (new : Name → Bool) (a : NodeView) → Later a (opens new a)
 later_opens new a = record {
   me = refl;
   posted = λ n. posted_opens (new n) (a.opened n);
-  stored = λ n k f e. ap (λ rs. slice_get rs k) (results_opens (new n) (a.opened n)) ∙ e;
-  own = λ n k g o. record { held = o.held; mine = λ f e. o.mine f (ap (λ rs. slice_get rs k) (sym (results_opens (new n) (a.opened n))) ∙ e) };
+  stored = λ n k f e. ap (λ rs. stored_at rs k) (results_opens (new n) (a.opened n)) ∙ e;
+  let_go = λ n k. ap (λ rs. is_empty (slice_get rs k)) (results_opens (new n) (a.opened n));
+  own = λ n k g o. record { held = o.held; mine = λ f e. o.mine f (ap (λ rs. stored_at rs k) (sym (results_opens (new n) (a.opened n))) ∙ e) };
 }
 
 -- a gathering that is opened or not
@@ -175,17 +180,12 @@ module _ (ops : List Operation) (board : Look) (name : Name) (me : ℕ) (finishe
 
 module _ (finished : Finished) where
   abbrev with_result : OpenedView → OpenedView
-  with_result o = record o { results = o.results ++ finished ∷ [] }
+  with_result o = record o { results = o.results ++ Some finished ∷ [] }
 
   posted_stays : (b : Bool) (o : Option OpenedView) → posted_by (cond b (option_map with_result o) o) ≡ posted_by o
   posted_stays true None = refl
   posted_stays true (Some o) = refl
   posted_stays false o = refl
-
-get_first : {A : Type 0} (xs : List A) (y : A) (k : ℕ) (x : A) → slice_get xs k ≡ Some x → slice_get (xs ++ y ∷ []) k ≡ Some x
-get_first [] y k x e = cc e
-get_first (z ∷ xs) y zero x e = e
-get_first (z ∷ xs) y (suc k) x e = get_first xs y k x e
 
 pub get_either : {A : Type 0} (xs : List A) (y : A) (k : ℕ) (x : A) → slice_get (xs ++ y ∷ []) k ≡ Some x → (slice_get xs k ≡ Some x) ⊎ ((k ≡ length xs) × (y ≡ x))
 get_either [] y zero x e = inr (refl, same_Some y x e)
@@ -196,32 +196,87 @@ get_either (z ∷ xs) y (suc k) x e = one_more (get_either xs y k x e) where
   one_more (inl f) = inl f
   one_more (inr f) = inr (ap suc f.0, f.1)
 
+-- WHAT IS STORED, AND WHAT WAS LET GO
+
+-- what is stored behind one more was there, or is the last
+stored_either : (xs : List (Option Finished)) (y : Finished) (k : ℕ) (x : Finished) → stored_at (xs ++ Some y ∷ []) k ≡ Some x → (stored_at xs k ≡ Some x) ⊎ ((k ≡ length xs) × (y ≡ x))
+stored_either xs y k x e = stored_push (λ a i. (stored_at xs i ≡ Some a) ⊎ ((i ≡ length xs) × (y ≡ a))) xs y k x e (λ there. inl there) (λ same at. inr (at, same))
+
+-- one more lets none go
+empty_push : (xs : List (Option Finished)) (y : Finished) (k : ℕ) → is_empty (slice_get (xs ++ Some y ∷ []) k) ≡ is_empty (slice_get xs k)
+empty_push [] y zero = refl
+empty_push [] y (suc k) = refl
+empty_push (o ∷ xs) y zero = refl
+empty_push (o ∷ xs) y (suc k) = empty_push xs y k
+
+-- what has no result and wasn't let go isn't harvested
+ahead_in : (xs : List (Option Finished)) (k : ℕ) → None ≡ stored_at xs k → is_empty (slice_get xs k) ≡ false → length xs ≤ k
+ahead_in [] k e f = omega arith
+ahead_in (Some x ∷ xs) zero e f = cc e
+ahead_in (None ∷ xs) zero e f = cc f
+ahead_in (o ∷ xs) (suc k) e f = let l = ahead_in xs k e f in omega (arith, l)
+
+pub ahead_of : (node : NodeView) (name : Name) (call : ℕ) → None ≡ result_at node name call → is_let_go node name call ≡ false → front_on node name ≤ call
+ahead_of node name call e f = ahead_in (results_on node name) call e f
+
+-- what isn't harvested wasn't let go
+pub ahead_kept : (node : NodeView) (name : Name) (call : ℕ) → front_on node name ≤ call → is_let_go node name call ≡ false
+ahead_kept node name call l = ap is_empty (slice_get_past (results_on node name) call l)
+
+-- nor what is there
+there_in : (xs : List (Option Finished)) (k : ℕ) (x : Finished) → Some x ≡ stored_at xs k → false ≡ is_empty (slice_get xs k)
+there_in [] k x e = refl
+there_in (Some y ∷ xs) zero x e = refl
+there_in (None ∷ xs) zero x e = cc e
+there_in (o ∷ xs) (suc k) x e = there_in xs k x e
+
+pub there_kept : (node : NodeView) (name : Name) (call : ℕ) (finished : Finished) → Some finished ≡ result_at node name call → false ≡ is_let_go node name call
+there_kept node name call finished e = there_in (results_on node name) call finished e
+
+next_test : (k n : ℕ) → nat_lt (suc k) (suc n) ≡ nat_lt k n
+next_test k n = grind (arith, nat_tests)
+
+-- what has no result was let go just where it is harvested
+empty_behind : (xs : List (Option Finished)) (k : ℕ) → None ≡ stored_at xs k → nat_lt k (length xs) ≡ is_empty (slice_get xs k)
+empty_behind [] k e = grind (arith, nat_tests)
+empty_behind (Some x ∷ xs) zero e = cc e
+empty_behind (None ∷ xs) zero e = grind (arith, nat_tests)
+empty_behind (o ∷ xs) (suc k) e = next_test k (length xs) ∙ empty_behind xs k e
+
+pub gone_behind : (node : NodeView) (name : Name) (call : ℕ) → None ≡ result_at node name call → nat_lt call (front_on node name) ≡ is_let_go node name call
+gone_behind node name call e = empty_behind (results_on node name) call e
+
 module _ (ops : List Operation) (old : NodeView) (name : Name) (finished : Finished) (is : next_result ops old name ≡ Some finished) where
   abbrev after : Name → Bool → Option OpenedView
   after n b = cond b (option_map (with_result finished) (old.opened n)) (old.opened n)
 
-  stored_by : (b : Bool) (o : Option OpenedView) (k : ℕ) (g : Finished) → slice_get (results_by o) k ≡ Some g → slice_get (results_by (cond b (option_map (with_result finished) o) o)) k ≡ Some g
+  stored_by : (b : Bool) (o : Option OpenedView) (k : ℕ) (g : Finished) → stored_at (results_by o) k ≡ Some g → stored_at (results_by (cond b (option_map (with_result finished) o) o)) k ≡ Some g
   stored_by true None k g e = e
-  stored_by true (Some o) k g e = get_first o.results finished k g e
+  stored_by true (Some o) k g e = stored_append o.results (Some finished ∷ []) k g e
   stored_by false o k g e = e
 
-  mine_by : (o : Option OpenedView) → next_of ops o old.board name old.me ≡ Some finished → (k : ℕ) (given : Given) → IsHeld (old.board.contexts name) k old.me given → ((g : Finished) → slice_get (results_by o) k ≡ Some g → g.mine ≡ given) → (g : Finished) → slice_get (results_by (option_map (with_result finished) o)) k ≡ Some g → g.mine ≡ given
+  empty_by : (b : Bool) (o : Option OpenedView) (k : ℕ) → is_empty (slice_get (results_by (cond b (option_map (with_result finished) o) o)) k) ≡ is_empty (slice_get (results_by o) k)
+  empty_by true None k = refl
+  empty_by true (Some o) k = empty_push o.results finished k
+  empty_by false o k = refl
+
+  mine_by : (o : Option OpenedView) → next_of ops o old.board name old.me ≡ Some finished → (k : ℕ) (given : Given) → IsHeld (old.board.contexts name) k old.me given → ((g : Finished) → stored_at (results_by o) k ≡ Some g → g.mine ≡ given) → (g : Finished) → stored_at (results_by (option_map (with_result finished) o)) k ≡ Some g → g.mine ≡ given
   mine_by None e k given h before g s = cc e
-  mine_by (Some o) e k given h before g s = by_place (get_either o.results finished k g s) where
-    by_place : (slice_get o.results k ≡ Some g) ⊎ ((k ≡ length o.results) × (finished ≡ g)) → g.mine ≡ given
+  mine_by (Some o) e k given h before g s = by_place (stored_either o.results finished k g s) where
+    by_place : (stored_at o.results k ≡ Some g) ⊎ ((k ≡ length o.results) × (finished ≡ g)) → g.mine ≡ given
     by_place (inl there) = before g there
     by_place (inr last) =
         let here : told ((old.board.contexts name).posts k old.me) ≡ Some finished.mine = ap (λ j. told ((old.board.contexts name).posts j old.me)) last.0 ∙ next_mine ops old.board name old.me finished (Some o) e in
         sym (ap (λ (f : Finished). f.mine) last.1) ∙ told_own (old.board.contexts name) k old.me given finished.mine h here
 
-  mine_at : (n : Name) (k : ℕ) (given : Given) → IsOwn old n k given → TestAnswer (same_name n name) → (g : Finished) → slice_get (results_by (after n (same_name n name))) k ≡ Some g → g.mine ≡ given
-  mine_at n k given o (no f) g e = o.mine g (ap (λ b. slice_get (results_by (after n b)) k) (sym f) ∙ e)
+  mine_at : (n : Name) (k : ℕ) (given : Given) → IsOwn old n k given → TestAnswer (same_name n name) → (g : Finished) → stored_at (results_by (after n (same_name n name))) k ≡ Some g → g.mine ≡ given
+  mine_at n k given o (no f) g e = o.mine g (ap (λ b. stored_at (results_by (after n b)) k) (sym f) ∙ e)
   mine_at n k given o (yes t) g e =
       let same : n ≡ name = name_equality.sound n name t in
-      let here : slice_get (results_by (after name true)) k ≡ Some g = ap (λ q. slice_get (results_by (after q true)) k) (sym same) ∙ ap (λ b. slice_get (results_by (after n b)) k) (sym t) ∙ e in
+      let here : stored_at (results_by (after name true)) k ≡ Some g = ap (λ q. stored_at (results_by (after q true)) k) (sym same) ∙ ap (λ b. stored_at (results_by (after n b)) k) (sym t) ∙ e in
       mine_by (old.opened name) is k given
       (subst (λ q. IsHeld (old.board.contexts q) k old.me given) same o.held)
-      (subst (λ q. (f : Finished) → slice_get (results_by (old.opened q)) k ≡ Some f → f.mine ≡ given) same o.mine)
+      (subst (λ q. (f : Finished) → stored_at (results_by (old.opened q)) k ≡ Some f → f.mine ≡ given) same o.mine)
       g here
 
   abbrev storing : NodeView
@@ -232,6 +287,7 @@ module _ (ops : List Operation) (old : NodeView) (name : Name) (finished : Finis
     me = refl;
     posted = λ n. posted_stays finished (same_name n name) (old.opened n);
     stored = λ n k f e. stored_by (same_name n name) (old.opened n) k f e;
+    let_go = λ n k. empty_by (same_name n name) (old.opened n) k;
     own = λ n k g o. record { held = o.held; mine = mine_at n k g o (answer (same_name n name)) };
   }
 
@@ -244,7 +300,7 @@ module _ (ops : List Operation) (old : NodeView) (name : Name) (finished : Finis
 
     longer : (o : Option OpenedView) → next_of ops o old.board name old.me ≡ Some finished → length (results_by (option_map (with_result finished) o)) ≡ length (results_by o) + 1
     longer None e = cc e
-    longer (Some o) e = length-append o.results (finished ∷ [])
+    longer (Some o) e = length-append o.results (Some finished ∷ [])
 
     pub front_done : front_on (add_result name finished made old) name ≡ front_on old name + 1
     front_done = ap length (results_opens (is_new_to old.me made name) (telling.opened name)) ∙ ap (λ b. length (results_by (after name b))) (name_equality.reflexive name) ∙ longer (old.opened name) is
@@ -275,45 +331,41 @@ module _ (ops : List Operation) (old new : NodeView) (name : Name) where
   pub front_harvest : (call : ℕ) → Harvests ops (is_some (old.opened name)) name (next_result ops old name) (Ok (Done call)) old new → front_on new name ≡ front_on old name + 1
   front_harvest call h = front_by (is_some (old.opened name)) (next_result ops old name) call refl h
 
-  pending_by : (b : Bool) (next : Option Finished) (call : ℕ) → next_result ops old name ≡ next → None ≡ result_at old name call → Harvests ops b name next (Ok NotYet) old new → IsPending new name call
+  pending_by : (b : Bool) (next : Option Finished) (call : ℕ) → next_result ops old name ≡ next → front_on old name ≤ call → Harvests ops b name next (Ok NotYet) old new → IsPending new name call
   pending_by false next call e none h = cc (h.0)
   pending_by true (Some f) call e none h = absurd h
-  pending_by true None call e none h = subst (λ x. IsPending x name call) (sym h) (record { none = sym none; next = no_next ops old name e })
+  pending_by true None call e none h = subst (λ x. IsPending x name call) (sym h) (record { ahead = none; next = no_next ops old name e })
 
-  -- nothing more can be had of a call that has no result
-  pub pending_harvest : (call : ℕ) (answer : Harvest) → answer ≡ NotYet → None ≡ result_at old name call → Harvests ops (is_some (old.opened name)) name (next_result ops old name) (Ok answer) old new → IsPending new name call
+  -- nothing more can be had of a call that isn't harvested
+  pub pending_harvest : (call : ℕ) (answer : Harvest) → answer ≡ NotYet → front_on old name ≤ call → Harvests ops (is_some (old.opened name)) name (next_result ops old name) (Ok answer) old new → IsPending new name call
   pending_harvest call answer is none h = pending_by (is_some (old.opened name)) (next_result ops old name) call refl none (subst (λ x. Harvests ops (is_some (old.opened name)) name (next_result ops old name) (Ok x) old new) is h)
 
   never_opened : (next : Option Finished) → HarvestsOpened ops name next (Ok NotOpened) old new → ⊥
   never_opened (Some f) h = h
   never_opened None h = h
 
-  unopened_by : (o : Option OpenedView) (call : ℕ) → old.opened name ≡ o → None ≡ result_at old name call → Harvests ops (is_some o) name (next_of ops o old.board name old.me) (Ok NotOpened) old new → IsPending new name call
-  unopened_by None call e none h = subst (λ x. IsPending x name call) (sym h.1) (record { none = sym none; next = ap (λ o. is_some (next_of [] o old.board name old.me)) e })
+  unopened_by : (o : Option OpenedView) (call : ℕ) → old.opened name ≡ o → front_on old name ≤ call → Harvests ops (is_some o) name (next_of ops o old.board name old.me) (Ok NotOpened) old new → IsPending new name call
+  unopened_by None call e none h = subst (λ x. IsPending x name call) (sym h.1) (record { ahead = none; next = ap (λ o. is_some (next_of [] o old.board name old.me)) e })
   unopened_by (Some o) call e none h = absurd (never_opened (next_of ops (Some o) old.board name old.me) h)
 
   -- nor where its context isn't opened
-  pub unopened_harvest : (call : ℕ) (answer : Harvest) → answer ≡ NotOpened → None ≡ result_at old name call → Harvests ops (is_some (old.opened name)) name (next_result ops old name) (Ok answer) old new → IsPending new name call
+  pub unopened_harvest : (call : ℕ) (answer : Harvest) → answer ≡ NotOpened → front_on old name ≤ call → Harvests ops (is_some (old.opened name)) name (next_result ops old name) (Ok answer) old new → IsPending new name call
   unopened_harvest call answer is none h = unopened_by (old.opened name) call refl none (subst (λ x. Harvests ops (is_some (old.opened name)) name (next_result ops old name) (Ok x) old new) is h)
 
-  wanting_by : (b : Bool) (next : Option Finished) (refusal : OutOfMemory) (call : ℕ) → next_result ops old name ≡ next → Harvests ops b name next (Err refusal) old new → IsAtHand new name call
-  wanting_by false next refusal call e h = cc (h.0)
-  wanting_by true (Some f) refusal call e h = subst (λ x. IsAtHand x name call) (sym h) (inr (some_next ops old name f e))
-  wanting_by true None refusal call e h = absurd h
+  wanting_by : (b : Bool) (next : Option Finished) (refusal : OutOfMemory) (call : ℕ) → next_result ops old name ≡ next → front_on old name ≤ call → Harvests ops b name next (Err refusal) old new → IsAtHand new name call
+  wanting_by false next refusal call e ahead h = cc (h.0)
+  wanting_by true (Some f) refusal call e ahead h = subst (λ x. IsAtHand x name call) (sym h) (inr (ahead, some_next ops old name f e))
+  wanting_by true None refusal call e ahead h = absurd h
 
   -- memory can be wanting only for what is at hand
-  pub wanting_harvest : (refusal : OutOfMemory) (call : ℕ) → Harvests ops (is_some (old.opened name)) name (next_result ops old name) (Err refusal) old new → IsAtHand new name call
-  wanting_harvest refusal call h = wanting_by (is_some (old.opened name)) (next_result ops old name) refusal call refl h
+  pub wanting_harvest : (refusal : OutOfMemory) (call : ℕ) → front_on old name ≤ call → Harvests ops (is_some (old.opened name)) name (next_result ops old name) (Err refusal) old new → IsAtHand new name call
+  wanting_harvest refusal call ahead h = wanting_by (is_some (old.opened name)) (next_result ops old name) refusal call refl ahead h
 
--- no result is past the last
-past_last : {A : Type 0} (xs : List A) (k : ℕ) → None ≡ slice_get xs k → length xs ≤ k
-past_last xs k e = elim (slice_get_cases xs k).1 [ inl there ↦ cc (e, there.2) | inr past ↦ past.0 ]
-
--- so there is less to harvest up to a call that has none
-pub less_left : (ops : List Operation) (old new : NodeView) (name : Name) (call k : ℕ) (h : Harvest) → h ≡ Done k → None ≡ result_at old name call → Harvests ops (is_some (old.opened name)) name (next_result ops old name) (Ok h) old new → call + 1 - front_on new name < call + 1 - front_on old name
-less_left ops old new name call k h is e done =
+-- there is less to harvest up to a call that isn't harvested
+pub less_left : (ops : List Operation) (old new : NodeView) (name : Name) (call k : ℕ) (h : Harvest) → h ≡ Done k → front_on old name ≤ call → Harvests ops (is_some (old.opened name)) name (next_result ops old name) (Ok h) old new → call + 1 - front_on new name < call + 1 - front_on old name
+less_left ops old new name call k h is ahead done =
     let more : front_on new name ≡ front_on old name + 1 = front_harvest ops old new name k (subst (λ x. Harvests ops (is_some (old.opened name)) name (next_result ops old name) (Ok x) old new) is done) in
-    omega (arith, more, past_last (results_on old name) call e)
+    omega (arith, more, ahead)
 
 -- what is told is held
 pub held_added : (c d : Context) (k p : ℕ) (given : Given) → d.posts k p ≡ known given → IsHeld (join_contexts c d) k p given

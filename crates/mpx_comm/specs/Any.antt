@@ -9,7 +9,7 @@ use Rattle.mpx_comm.specs.declared.request.Request.{Request}
 use Rattle.mpx_comm.specs.declared.answers.TurnError.{TurnError}
 use Rattle.mpx_comm.specs.declared.answers.TurnError.TheVariants as T
 use Rattle.mpx_comm.specs.declared.answers.WaitError.{WaitError}
-use Rattle.mpx_comm.specs.declared.answers.WaitError.TheVariants.{StillWaiting, OutOfMemory as NoMemory, GaveUp}
+use Rattle.mpx_comm.specs.declared.answers.WaitError.TheVariants.{StillWaiting, OutOfMemory as NoMemory, GaveUp, LetGo}
 use Rattle.mpx_comm.specs.Harvested.{Harvested, WasPending}
 use Rattle.mpx_comm.specs.Later.{IsPending}
 use Rattle.mpx_comm.specs.Requests.{OneIsAtHand, TestsAny, WerePending, close_all, result_of}
@@ -47,7 +47,7 @@ abbrev pub FindsAny : List Operation → (old new : NodeView) → (requests : Li
 FindsAny ops old new requests place finished = WerePending ops old new place requests × ((request : Request) × (slice_get requests place ≡ Some request) × (result_of new request ≡ Some finished))
 
 -- a wait for any of the open requests: there is none; or it ends by a test of them that finds one done, after at most so many turns; or after
--- just so many and a last look in vain; or it is given up. Before each turn all were looked at in vain
+-- just so many and a last look in vain; or it is given up. Before each turn all were looked at in vain. No open request's result was let go
 abbrev pub WaitsAny : {H : Type 0} → List Operation → (node : H → NodeView) → (turned : H → ℕ → H → Type 0) → (refused : H → TurnError → H → Type 0) → (turns : ℕ) → Result (Option (Request × Finished)) (WaitError (Unit {0})) → (old new : H) → (before after : List Request) → Type 0
 WaitsAny ops node turned refused turns (Ok None) old new before after = (before ≡ []) × (new ≡ old) × (after ≡ before)
 WaitsAny ops node turned refused turns (Ok (Some done)) old new before after =
@@ -56,6 +56,7 @@ WaitsAny {H} ops node turned refused turns (Err (StillWaiting u)) old new before
     (before ≢ []) × ((look : H) × AwaitsAny ops node turned before old turns look × LooksInVain ops node turned before look new) × (after ≡ before)
 WaitsAny ops node turned refused turns (Err (NoMemory u)) old new before after = GivesUpAny ops node turned refused before T.OutOfMemory turns old new × (after ≡ before)
 WaitsAny ops node turned refused turns (Err (GaveUp u)) old new before after = GivesUpAny ops node turned refused before T.GaveUp turns old new × (after ≡ before)
+WaitsAny ops node turned refused turns (Err (LetGo u)) old new before after = ⊥
 
 -- SOME
 

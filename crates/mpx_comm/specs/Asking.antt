@@ -1,7 +1,6 @@
 -- What a process knows of a communicator (MPI 4.1, sections 7.3.1, 7.4.1 and 8.5.5), and whose posts of a call it lacks.
-use Rattle.std.specs.Prelude.{◌≡◌, ◌⊎◌, ℕ, ◌&&◌, nat_le, not, is_some, Bool, true, false, cond, List, length, map, slice_index, Option, Some, None, Result, Ok, Err, IsOk}
+use Rattle.std.specs.Prelude.{◌≡◌, ◌⊎◌, ℕ, ◌&&◌, nat_le, not, is_some, Bool, cond, List, length, map, slice_index, Option, Some, None, Result, Ok, Err, IsOk}
 use Rattle.std.specs.List.{filter}
-use Rattle.std.specs.Option.{option_map}
 use Rattle.mpx_birth.specs.Births.{BirthView, upto}
 use Rattle.mpx_birth.specs.Topologies.{TopologyView}
 use Rattle.mpx_board.specs.Boards.{Context, told}

@@ -8,3 +8,5 @@ pub mod Lines
 pub mod Keeps
 pub mod Comms
 pub mod Harvested
+pub mod Forgetting
+pub mod Given

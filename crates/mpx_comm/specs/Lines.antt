@@ -1,5 +1,5 @@
 -- The drafts of the calls, one row each (MPI 4.1, sections 6.3 to 6.12, 7.4.2, 7.4.3, 8.5.4 and 8.6).
-use Rattle.std.specs.Prelude.{ℤ, pos, Bool, List, [], ◌∷◌, Option, Some, None}
+use Rattle.std.specs.Prelude.{ℤ, Bool, List, [], ◌∷◌, Option, Some}
 use Rattle.mpx_num.specs.declared.types.Ty.{Ty}
 use Rattle.mpx_num.specs.declared.operations.Op.{Op}
 use Rattle.mpx_kind.specs.declared.kinds.Mode.{Mode}

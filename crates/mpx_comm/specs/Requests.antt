@@ -3,7 +3,7 @@ use Rattle.std.specs.Prelude.{◌≡◌, ℕ, ℤ, ◌<◌, ◌≤◌, ◌==◌,
 use Rattle.std.specs.declared.alloc.Global.{Global}
 use Rattle.std.specs.declared.alloc.AllocFailed.{AllocFailed}
 use Rattle.std.specs.Set.{remove_key}
-use Rattle.std.specs.List.{fold}
+use Rattle.std.specs.List.{fold, list_any}
 use Rattle.join_core.specs.declared.memory.OutOfMemory.{OutOfMemory}
 use Rattle.mpx_name.specs.Name.{Name, same_name}
 use Rattle.mpx_num.specs.declared.own.Operation.{Operation}
@@ -16,14 +16,14 @@ use Rattle.mpx_node.specs.declared.finished.Finished.{Finished}
 use Rattle.mpx_node.specs.Nodes.{NodeView, Opens, posted_on, with_post, checked_on, gathers_on}
 use Rattle.mpx_comm.specs.declared.request.Request.{Request}
 use Rattle.mpx_comm.specs.declared.answers.Tested.{Tested}
-use Rattle.mpx_comm.specs.declared.answers.Tested.TheVariants.{Done, NotYet}
+use Rattle.mpx_comm.specs.declared.answers.Tested.TheVariants.{Done, NotYet, LetGo as TestedLetGo}
 use Rattle.mpx_comm.specs.declared.answers.WaitError.{WaitError}
-use Rattle.mpx_comm.specs.declared.answers.WaitError.TheVariants.{StillWaiting, OutOfMemory as NoMemory, GaveUp}
+use Rattle.mpx_comm.specs.declared.answers.WaitError.TheVariants.{StillWaiting, OutOfMemory as NoMemory, GaveUp, LetGo}
 use Rattle.mpx_comm.specs.declared.answers.TurnError.{TurnError}
 use Rattle.mpx_comm.specs.declared.answers.TurnError.TheVariants as T
 use Rattle.mpx_comm.specs.declared.answers.CallError.{CallError}
 use Rattle.mpx_comm.specs.declared.answers.CallError.TheVariants as C
-use Rattle.mpx_comm.specs.Later.{result_at, IsAtHand, IsOwn, IsPending}
+use Rattle.mpx_comm.specs.Later.{result_at, is_let_go, IsAtHand, IsOwn, IsPending}
 use Rattle.mpx_comm.specs.Harvested.{WasPending}
 use Rattle.mpx_comm.specs.Turns.{Awaits, GivesUp}
 use Rattle.mpx_comm.specs.Lines.{create_group}
@@ -42,9 +42,17 @@ close_all rs requests = fold close rs requests
 abbrev pub result_of : NodeView → Request → Option Finished
 result_of node request = result_at node request.name request.call
 
--- each was posted here
+-- whether the result of its call was let go
+abbrev pub has_let_go : NodeView → Request → Bool
+has_let_go node request = is_let_go node request.name request.call
+
+-- of none of them the result was let go
+abbrev pub AreKept : NodeView → List Request → Type 0
+AreKept node rs = (i : ℕ) (request : Request) → slice_get rs i ≡ Some request → has_let_go node request ≡ false
+
+-- each was posted here, and its result wasn't let go
 abbrev pub ArePosted : NodeView → List Request → Type 0
-ArePosted node rs = (i : ℕ) (request : Request) → slice_get rs i ≡ Some request → request.call < posted_on node request.name
+ArePosted node rs = (i : ℕ) (request : Request) → slice_get rs i ≡ Some request → (request.call < posted_on node request.name) × (has_let_go node request ≡ false)
 
 -- POSTS
 
@@ -79,15 +87,17 @@ AsksGathered {H} ops node turned parent tag ranks result old new before after =
 
 -- TESTS
 
--- a test is done just where the call's result is stored, and then closes it; memory can be wanting only for what is at hand
+-- a test is done just where the call's result is stored, and then closes it; it says so where that was let go; memory can be wanting only
+-- for what is at hand
 abbrev pub Tests : Request → Result (Tested Finished Request) (AllocFailed Request) → NodeView → (before after : List Request) → Type 0
 Tests request (Ok (Done finished)) node before after = (result_of node request ≡ Some finished) × (after ≡ close before request)
 Tests request (Ok (NotYet back)) node before after = (back ≡ request) × IsPending node request.name request.call × (after ≡ before)
+Tests request (Ok (TestedLetGo back)) node before after = (back ≡ request) × (has_let_go node request ≡ true) × (after ≡ before)
 Tests request (Err refused) node before after = (refused.value ≡ request) × IsAtHand node request.name request.call × (after ≡ before)
 
--- a call's status is done just where its result is stored
+-- a call's status is done just where its result is stored, or was let go
 abbrev pub HasStatus : (done : Bool) → Request → NodeView → Type 0
-HasStatus true request node = IsTrue (is_some (result_of node request))
+HasStatus true request node = IsTrue (is_some (result_of node request)) ⊎ (has_let_go node request ≡ true)
 HasStatus false request node = IsPending node request.name request.call
 
 -- one of them isn't done
@@ -106,6 +116,7 @@ AreResults node requests all = map (result_of node) requests ≡ map Some all
 abbrev pub TestsAll : List Request → Result (Tested (Vec Finished Global) (Vec Request Global)) (AllocFailed (Vec Request Global)) → NodeView → (before after : List Request) → Type 0
 TestsAll requests (Ok (Done all)) node before after = AreResults node requests all.items × (after ≡ close_all before requests)
 TestsAll requests (Ok (NotYet back)) node before after = (back.items ≡ requests) × OneIsPending node requests × (after ≡ before)
+TestsAll requests (Ok (TestedLetGo back)) node before after = (back.items ≡ requests) × (list_any (has_let_go node) requests ≡ true) × (after ≡ before)
 TestsAll requests (Err refused) node before after = (refused.value.items ≡ requests) × OneIsAtHand node requests × (after ≡ before)
 
 -- each of the first so many was not done at some moment
@@ -137,7 +148,8 @@ GivesUpOne node turned refused request = GivesUp node turned refused (λ seen. I
 abbrev pub GivesUpAll : {H : Type 0} → (node : H → NodeView) → (turned : H → ℕ → H → Type 0) → (refused : H → TurnError → H → Type 0) → List Request → (why : TurnError) → (turns : ℕ) → H → H → Type 0
 GivesUpAll node turned refused requests = GivesUp node turned refused (λ seen. OneIsPending seen requests) (λ seen. OneIsAtHand seen requests)
 
--- a wait ends with the result after at most so many turns, or without it after just so many, or is given up for want of memory or by the host
+-- a wait ends with the result after at most so many turns, or without it after just so many, or is given up for want of memory or by the
+-- host. Of a result that was let go it says so, and changes nothing
 abbrev pub Waits : {H : Type 0} → (node : H → NodeView) → (turned : H → ℕ → H → Type 0) → (refused : H → TurnError → H → Type 0) → Request → (turns : ℕ) → Result Finished (WaitError Request) → (old new : H) → (before after : List Request) → Type 0
 Waits node turned refused request turns (Ok finished) old new before after =
     (result_of (node new) request ≡ Some finished) × ((n : ℕ) × (n ≤ turns) × AwaitsOne node turned request old n new) × (after ≡ close before request)
@@ -145,6 +157,7 @@ Waits node turned refused request turns (Err (StillWaiting back)) old new before
     (back ≡ request) × IsPending (node new) request.name request.call × AwaitsOne node turned request old turns new × (after ≡ before)
 Waits node turned refused request turns (Err (NoMemory back)) old new before after = (back ≡ request) × GivesUpOne node turned refused request T.OutOfMemory turns old new × (after ≡ before)
 Waits node turned refused request turns (Err (GaveUp back)) old new before after = (back ≡ request) × GivesUpOne node turned refused request T.GaveUp turns old new × (after ≡ before)
+Waits node turned refused request turns (Err (LetGo back)) old new before after = (back ≡ request) × (has_let_go (node old) request ≡ true) × (new ≡ old) × (after ≡ before)
 
 abbrev pub WaitsAll : {H : Type 0} → (node : H → NodeView) → (turned : H → ℕ → H → Type 0) → (refused : H → TurnError → H → Type 0) → List Request → (turns : ℕ) → Result (Vec Finished Global) (WaitError (Vec Request Global)) → (old new : H) → (before after : List Request) → Type 0
 WaitsAll node turned refused requests turns (Ok all) old new before after =
@@ -153,6 +166,7 @@ WaitsAll node turned refused requests turns (Err (StillWaiting back)) old new be
     (back.items ≡ requests) × OneIsPending (node new) requests × AwaitsAll node turned requests old turns new × (after ≡ before)
 WaitsAll node turned refused requests turns (Err (NoMemory back)) old new before after = (back.items ≡ requests) × GivesUpAll node turned refused requests T.OutOfMemory turns old new × (after ≡ before)
 WaitsAll node turned refused requests turns (Err (GaveUp back)) old new before after = (back.items ≡ requests) × GivesUpAll node turned refused requests T.GaveUp turns old new × (after ≡ before)
+WaitsAll node turned refused requests turns (Err (LetGo back)) old new before after = (back.items ≡ requests) × (list_any (has_let_go (node old)) requests ≡ true) × (new ≡ old) × (after ≡ before)
 
 -- BLOCKING CALLS
 

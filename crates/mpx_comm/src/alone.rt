@@ -71,6 +71,14 @@ impl Host for Node {
         Node::result(self, name, call)
     }
 
+    fn front(&self, name: &Name) -> u32 {
+        Node::front(self, name)
+    }
+
+    fn forget(&mut self, name: &Name, below: u32) {
+        Node::forget(self, name, below)
+    }
+
     fn board(&self) -> &Board {
         Node::board(self)
     }

@@ -12,6 +12,7 @@ ghost use Rattle.mpx_comm.specs.Requests.{HasStatus, IsRefusal, Tests, TestsAll,
 
 use crate::answers::{CallError, Tested, TurnError, WaitError};
 use crate::comm::{Comm, OpenedGathering};
+use crate::forgetting::{one_was_let_go, was_let_go};
 use crate::host::Host;
 use crate::look::{await_all, await_one, close_each, look, look_all, look_any};
 use crate::request::Request;
@@ -125,8 +126,9 @@ impl<H: Host> Desk<H> {
     }
 
     /// Whether the call is done (`MPI_TEST`, MPI 4.1 section 3.7.3), after as many harvests as there are: `Done` closes the request and
-    /// gives the result, `NotYet` hands the request back, and so does an `Err`, for want of memory for a result that is at hand. It
-    /// makes no turn. The request is one that this desk made, as for all calls that take one.
+    /// gives the result, `NotYet` hands the request back, and so does an `Err`, for want of memory for a result that is at hand.
+    /// `LetGo` hands back one that was closed before and whose result was let go; an open request's never is. It makes no turn. The
+    /// request is one that this desk made, as for all calls that take one.
     pub fn test(
         &mut self,
         alloc: Global,
@@ -138,6 +140,9 @@ impl<H: Host> Desk<H> {
         ensures harvested { Harvested (H.goes_by self.old.host (⟦<Ops as Listing>⟧.operations ops.now)) (H.node self.old.host) (H.node self.new.host) }
         ensures no_turn { H.turned self.old.host 0 self.new.host }
     {
+        if was_let_go(&self.host, &request) {
+            return Ok(Tested::LetGo(request));
+        }
         match look(alloc, &mut self.host, &request, ops) {
             Err(_) => Err(AllocFailed { value: request }),
             Ok(None) => Ok(Tested::NotYet(request)),
@@ -149,7 +154,7 @@ impl<H: Host> Desk<H> {
     }
 
     /// Whether the call is done, after as many harvests as there are (`MPI_REQUEST_GET_STATUS`, MPI 4.1 section 3.7.6): its
-    /// request stays open. It makes no turn. An `Err` is want of memory for a result that is at hand.
+    /// request stays open. One whose result was let go is done. It makes no turn. An `Err` is want of memory for a result that is at hand.
     pub fn status(
         &mut self,
         alloc: Global,
@@ -163,6 +168,9 @@ impl<H: Host> Desk<H> {
         ensures no_turn { H.turned self.old.host 0 self.new.host }
         ensures requests { self.new.requests.keys ≡ self.old.requests.keys }
     {
+        if was_let_go(&self.host, request) {
+            return Ok(true);
+        }
         match look(alloc, &mut self.host, request, ops)? {
             Some(finished) => {
                 drop(finished);
@@ -173,7 +181,7 @@ impl<H: Host> Desk<H> {
     }
 
     /// Whether all of these are done (`MPI_TESTALL`, MPI 4.1 section 3.7.5): `Done` closes all and gives their results, in the order
-    /// of the requests; `NotYet` and an `Err`, for want of memory, close none and hand them back. It makes no turn.
+    /// of the requests; `NotYet`, `LetGo` and an `Err`, for want of memory, close none and hand them back. It makes no turn.
     pub fn testall(
         &mut self,
         alloc: Global,
@@ -185,6 +193,9 @@ impl<H: Host> Desk<H> {
         ensures harvested { Harvested (H.goes_by self.old.host (⟦<Ops as Listing>⟧.operations ops.now)) (H.node self.old.host) (H.node self.new.host) }
         ensures no_turn { H.turned self.old.host 0 self.new.host }
     {
+        if one_was_let_go(&self.host, &requests) {
+            return Ok(Tested::LetGo(requests));
+        }
         match look_all(alloc, &mut self.host, &requests, ops) {
             Err(_) => Err(AllocFailed { value: requests }),
             Ok(None) => Ok(Tested::NotYet(requests)),
@@ -196,8 +207,8 @@ impl<H: Host> Desk<H> {
     }
 
     /// The first open request in order of posting that is done, and its result, or `None` where none is (`MPI_TESTANY`, MPI 4.1
-    /// section 3.7.5). It is closed; who hands it in later still gets the result. It makes no turn. An `Err`, for want of memory,
-    /// closes none.
+    /// section 3.7.5). It is closed; who hands it in later still gets the result, until that is let go. It makes no turn. An `Err`, for
+    /// want of memory, closes none.
     pub fn testany(
         &mut self,
         alloc: Global,
@@ -220,7 +231,7 @@ impl<H: Host> Desk<H> {
     /// Waits for the result (`MPI_WAIT`, MPI 4.1 section 3.7.3) while the host makes at most `turns` turns: it looks once before the
     /// first and once after each, and makes no turn after the look that finds it, which closes the request. An `Err` hands the request
     /// back: `StillWaiting` after just `turns` turns; `OutOfMemory` at a look at what is at hand, or for a turn; `GaveUp` where the host
-    /// makes no turn any more.
+    /// makes no turn any more; `LetGo`, at once, one that was closed before and whose result was let go.
     pub fn wait(
         &mut self,
         alloc: Global,
@@ -231,6 +242,9 @@ impl<H: Host> Desk<H> {
         ensures waits { Waits H.node H.turned H.turn_refused request turns result self.old.host self.new.host self.old.requests.keys self.new.requests.keys }
         ensures later { Later (H.node self.old.host) (H.node self.new.host) }
     {
+        if was_let_go(&self.host, &request) {
+            return Err(WaitError::LetGo(request));
+        }
         match await_one(alloc, &mut self.host, &request, turns, ops) {
             Err(TurnError::OutOfMemory) => Err(WaitError::OutOfMemory(request)),
             Err(TurnError::GaveUp) => Err(WaitError::GaveUp(request)),
@@ -256,6 +270,9 @@ impl<H: Host> Desk<H> {
         ensures waits { WaitsAll H.node H.turned H.turn_refused requests.items turns result self.old.host self.new.host self.old.requests.keys self.new.requests.keys }
         ensures later { Later (H.node self.old.host) (H.node self.new.host) }
     {
+        if one_was_let_go(&self.host, &requests) {
+            return Err(WaitError::LetGo(requests));
+        }
         match await_all(alloc, &mut self.host, &requests, turns, ops) {
             Err(TurnError::OutOfMemory) => Err(WaitError::OutOfMemory(requests)),
             Err(TurnError::GaveUp) => Err(WaitError::GaveUp(requests)),
@@ -308,6 +325,8 @@ impl<H: Host> Desk<H> {
             Err(WaitError::StillWaiting(request)) => Err(CallError::StillWaiting(request)),
             Err(WaitError::OutOfMemory(request)) => Err(CallError::OutOfMemory(request)),
             Err(WaitError::GaveUp(request)) => Err(CallError::GaveUp(request)),
+            // The result of an open request isn't let go.
+            Err(WaitError::LetGo(_)) => unreachable!(),
         }
     }
 }

@@ -1,10 +1,11 @@
 //! Who posts for a process and hears of others.
-ghost use Rattle.std.specs.Prelude.{◌≡◌, ◌+◌, ◌≤◌, ℕ, List, IfErr, OnOk, slice_get};
+ghost use Rattle.std.specs.Prelude.{◌≡◌, ◌+◌, ◌≤◌, ℕ, List, IfErr, OnOk};
 ghost use Rattle.std.specs.Option.{option_copied};
 ghost use Rattle.mpx_num.specs.declared.own.Operation.{Operation};
 ghost use Rattle.mpx_post.specs.Drafts.{refusal_of};
 ghost use Rattle.mpx_board.specs.Looks.{look};
-ghost use Rattle.mpx_node.specs.Nodes.{NodeView, Opens, Posts, checked_on, gathers_on, results_on, posted_on, front_on};
+ghost use Rattle.mpx_node.specs.Forgetting.{forgets};
+ghost use Rattle.mpx_node.specs.Nodes.{NodeView, Opens, Posts, checked_on, gathers_on, result_on, posted_on, front_on};
 ghost use Rattle.mpx_comm.specs.Harvested.{HarvestsNext};
 ghost use Rattle.mpx_comm.specs.Later.{Later};
 ghost use Rattle.mpx_comm.specs.declared.answers.TurnError.{TurnError as TurnErrorView};
@@ -66,9 +67,19 @@ pub trait Host: Drop {
         ensures harvests { HarvestsNext (goes_by self.old (⟦<Ops as Listing>⟧.operations ops.now)) name.now result (node self.old) (node self.new) }
         ensures no_turn { turned self.old 0 self.new };
 
-    /// The result of a call that was harvested, kept for good; none of one that wasn't.
+    /// The result of a call that was harvested, kept until [`Host::forget`] lets it go; none of one that wasn't, nor of one that was let go.
     fn result(&self, name: &Name, call: u32) -> Option<&Finished>
-        ensures { option_copied result ≡ slice_get (results_on (node self.now) name.now) call };
+        ensures { option_copied result ≡ result_on (node self.now) name.now call };
+
+    /// How many calls on a context were harvested, their results let go or not: 0 where it isn't opened.
+    fn front(&self, name: &Name) -> u32
+        ensures { result ≡ front_on (node self.now) name.now };
+
+    /// Lets the results of calls below the number on a context go, as far as these are harvested, but never the newest. Nothing else is
+    /// changed. It makes no turn and takes no memory.
+    fn forget(&mut self, name: &Name, below: u32)
+        ensures forgets { node self.new ≡ forgets name.now below (node self.old) }
+        ensures no_turn { turned self.old 0 self.new };
 
     /// What the process knows of all communicators.
     fn board(&self) -> &Board

@@ -1,5 +1,5 @@
 //! What follows from the calls' contracts, as calls that do nothing.
-ghost use Rattle.std.specs.Prelude.{◌≡◌, ℤ, List, Result, Ok, Some};
+ghost use Rattle.std.specs.Prelude.{◌≡◌, ℕ, ℤ, List, Result, Ok, Some};
 ghost use Rattle.join_core.specs.declared.memory.OutOfMemory.{OutOfMemory};
 ghost use Rattle.mpx_name.specs.Name.{Name};
 ghost use Rattle.mpx_num.specs.declared.own.Operation.{Operation};
@@ -7,13 +7,15 @@ ghost use Rattle.mpx_post.specs.Drafts.{given_by};
 ghost use Rattle.mpx_post.specs.declared.draft.Draft.{Draft};
 ghost use Rattle.mpx_post.specs.declared.draft.PostError.{PostError};
 ghost use Rattle.mpx_board.specs.Boards.{Look};
-ghost use Rattle.mpx_node.specs.Nodes.{NodeView, Opens, StopsTaking, gathers_on, learn};
+ghost use Rattle.mpx_post.specs.Posts.{Given};
+ghost use Rattle.mpx_node.specs.Forgetting.{forgets};
+ghost use Rattle.mpx_node.specs.Nodes.{NodeView, Opens, StopsTaking, gathers_on, learn, with_post};
 ghost use Rattle.mpx_node.specs.declared.node.Harvest.{Harvest};
 ghost use Rattle.mpx_node.specs.declared.finished.Finished.{Finished};
 ghost use Rattle.mpx_comm.specs.declared.answers.Tested.TheVariants.{Done};
 ghost use Rattle.mpx_comm.specs.declared.request.Request.{Request};
 ghost use Rattle.mpx_comm.specs.Harvested.{HarvestsNext};
-ghost use Rattle.mpx_comm.specs.Keeps.{NodeKeeps};
+ghost use Rattle.mpx_comm.specs.Keeps.{NodeHolds, NodeKeeps};
 ghost use Rattle.mpx_comm.specs.Later.{Later};
 ghost use Rattle.mpx_comm.specs.Requests.{HasPosted, Tests, result_of, next_call};
 
@@ -45,4 +47,18 @@ pub fn answers_are_stored_results()
         → Tests request (Ok (Done finished)) tested before after → NodeKeeps tested now → result_of now request ≡ Some finished }
     ensures again { (tested now : NodeView) (request : Request) (first again : Finished) (before after then_open last_open : List Request)
         → Tests request (Ok (Done first)) tested before after → NodeKeeps tested now → Tests request (Ok (Done again)) now then_open last_open → again ≡ first }
+{}
+
+/// With results that are let go too: what was stored is stored, or its own process has let it go, for good. A request that is handed in
+/// again gets the same answer or none, and a result at the place of a draft's post still says that post. Gatherings, harvests and boards
+/// are among the first, as [`calls_keep_posts_and_results`] has them.
+pub fn results_stay_until_they_are_let_go()
+    ensures later { (old now : NodeView) → Later old now → NodeHolds old now }
+    ensures posts { (old : NodeView) (name : Name) (given : Given) → NodeHolds old (with_post name given old) }
+    ensures forgets { (old : NodeView) (name : Name) (below : ℕ) → NodeHolds old (forgets name below old) }
+    ensures chain { (old between now : NodeView) → NodeHolds old between → NodeHolds between now → NodeHolds old now }
+    ensures again { (tested now : NodeView) (request : Request) (first again : Finished) (before after then_open last_open : List Request)
+        → Tests request (Ok (Done first)) tested before after → NodeHolds tested now → Tests request (Ok (Done again)) now then_open last_open → again ≡ first }
+    ensures mine { (ops : List Operation) (old posted now : NodeView) (name : Name) (draft : Draft) (finished : Finished)
+        → HasPosted ops name draft old posted → NodeHolds posted now → result_of now (next_call old name) ≡ Some finished → finished.mine ≡ given_by draft }
 {}

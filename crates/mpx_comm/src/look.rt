@@ -1,9 +1,9 @@
 //! How a test looks for results, and a wait looks between turns.
-ghost use Rattle.std.specs.Prelude.{◌≡◌, ◌≤◌, ℕ, IfOk, IfErr, MatchOption, length, slice_get};
+ghost use Rattle.std.specs.Prelude.{◌≡◌, ◌≤◌, ℕ, IfOk, IfErr, MatchOption, false, length, slice_get};
 ghost use Rattle.mpx_comm.specs.Any.{AwaitsAny, FindsAny, GivesUpAny, LooksInVain, LooksLast};
 ghost use Rattle.mpx_comm.specs.Harvested.{Harvested};
 ghost use Rattle.mpx_comm.specs.Later.{Later, IsAtHand, IsPending};
-ghost use Rattle.mpx_comm.specs.Requests.{AwaitsAll, AwaitsOne, GivesUpAll, GivesUpOne, result_of, close_all, OneIsAtHand, OneIsPending, AreResults, WerePending};
+ghost use Rattle.mpx_comm.specs.Requests.{AreKept, AwaitsAll, AwaitsOne, GivesUpAll, GivesUpOne, has_let_go, result_of, close_all, OneIsAtHand, OneIsPending, AreResults, WerePending};
 ghost use Rattle.mpx_comm.specs.Turns.{MakesTurns};
 
 use crate::answers::TurnError;
@@ -22,6 +22,7 @@ pub fn look<H: Host>(
     request: &Request,
     ops: &Ops,
 ) -> Result<Option<Finished>, OutOfMemory>
+    requires kept { has_let_go (H.node host.old) request.now ≡ false }
     ensures later { Later (H.node host.old) (H.node host.new) }
     ensures harvested { Harvested (H.goes_by host.old (⟦<Ops as Listing>⟧.operations ops.now)) (H.node host.old) (H.node host.new) }
     ensures no_turn { H.turned host.old 0 host.new }
@@ -49,6 +50,7 @@ pub fn look_all<H: Host>(
     requests: &[Request],
     ops: &Ops,
 ) -> Result<Option<Vec<Finished>>, OutOfMemory>
+    requires kept { AreKept (H.node host.old) requests.now }
     ensures later { Later (H.node host.old) (H.node host.new) }
     ensures harvested { Harvested (H.goes_by host.old (⟦<Ops as Listing>⟧.operations ops.now)) (H.node host.old) (H.node host.new) }
     ensures no_turn { H.turned host.old 0 host.new }
@@ -74,6 +76,7 @@ pub fn look_any<H: Host>(
     requests: &[Request],
     ops: &Ops,
 ) -> Result<Option<(usize, Finished)>, OutOfMemory>
+    requires kept { AreKept (H.node host.old) requests.now }
     ensures later { Later (H.node host.old) (H.node host.new) }
     ensures harvested { Harvested (H.goes_by host.old (⟦<Ops as Listing>⟧.operations ops.now)) (H.node host.old) (H.node host.new) }
     ensures no_turn { H.turned host.old 0 host.new }
@@ -108,6 +111,7 @@ pub fn await_one<H: Host>(
     turns: u64,
     ops: &Ops,
 ) -> Result<Option<Finished>, TurnError>
+    requires kept { has_let_go (H.node host.old) request.now ≡ false }
     ensures later { Later (H.node host.old) (H.node host.new) }
     ensures found { IfOk result (λ found. MatchOption found
         (IsPending (H.node host.new) request.now.name request.now.call × AwaitsOne H.node H.turned request.now host.old turns host.new)
@@ -135,6 +139,7 @@ pub fn await_all<H: Host>(
     turns: u64,
     ops: &Ops,
 ) -> Result<Option<Vec<Finished>>, TurnError>
+    requires kept { AreKept (H.node host.old) requests.now }
     ensures later { Later (H.node host.old) (H.node host.new) }
     ensures found { IfOk result (λ found. MatchOption found
         (OneIsPending (H.node host.new) requests.now × AwaitsAll H.node H.turned requests.now host.old turns host.new)
@@ -162,6 +167,7 @@ pub fn await_any<H: Host>(
     turns: u64,
     ops: &Ops,
 ) -> Result<Option<(usize, Finished)>, TurnError>
+    requires kept { AreKept (H.node host.old) requests.now }
     ensures later { Later (H.node host.old) (H.node host.new) }
     ensures found { IfOk result (λ found. MatchOption found
         ((look : H) × AwaitsAny (H.goes_by host.old (⟦<Ops as Listing>⟧.operations ops.now)) H.node H.turned requests.now host.old turns look

@@ -1,9 +1,9 @@
 //! How tests and waits look for all that is done.
-ghost use Rattle.std.specs.Prelude.{◌≡◌, ◌≢◌, [], IfOk, IfErr, MatchOption, OnOk, map};
+ghost use Rattle.std.specs.Prelude.{◌≡◌, ◌≢◌, [], IfOk, IfErr, MatchOption, OnOk, false, map};
 ghost use Rattle.mpx_comm.specs.Any.{AddsIfDone, AwaitsAny, GivesUpAny, LooksInVain, LooksLast, PicksDone};
 ghost use Rattle.mpx_comm.specs.Harvested.{Harvested};
 ghost use Rattle.mpx_comm.specs.Later.{Later, IsAtHand};
-ghost use Rattle.mpx_comm.specs.Requests.{close_all, OneIsAtHand};
+ghost use Rattle.mpx_comm.specs.Requests.{AreKept, close_all, has_let_go, OneIsAtHand};
 
 use crate::answers::TurnError;
 use crate::host::Host;
@@ -22,6 +22,7 @@ pub fn look_some<H: Host>(
     requests: &[Request],
     ops: &Ops,
 ) -> Result<Vec<(Request, Finished)>, OutOfMemory>
+    requires kept { AreKept (H.node host.old) requests.now }
     ensures later { Later (H.node host.old) (H.node host.new) }
     ensures harvested { Harvested (H.goes_by host.old (⟦<Ops as Listing>⟧.operations ops.now)) (H.node host.old) (H.node host.new) }
     ensures no_turn { H.turned host.old 0 host.new }
@@ -43,6 +44,7 @@ fn add_if_done<H: Host>(
     ops: &Ops,
     done: &mut Vec<(Request, Finished)>,
 ) -> Result<(), OutOfMemory>
+    requires kept { has_let_go (H.node host.old) request.now ≡ false }
     ensures later { Later (H.node host.old) (H.node host.new) }
     ensures harvested { Harvested (H.goes_by host.old (⟦<Ops as Listing>⟧.operations ops.now)) (H.node host.old) (H.node host.new) }
     ensures no_turn { H.turned host.old 0 host.new }
@@ -84,6 +86,7 @@ pub fn await_some<H: Host>(
     turns: u64,
     ops: &Ops,
 ) -> Result<Option<Vec<(Request, Finished)>>, TurnError>
+    requires kept { AreKept (H.node host.old) requests.now }
     ensures later { Later (H.node host.old) (H.node host.new) }
     ensures found { IfOk result (λ found. MatchOption found
         ((look : H) × AwaitsAny (H.goes_by host.old (⟦<Ops as Listing>⟧.operations ops.now)) H.node H.turned requests.now host.old turns look

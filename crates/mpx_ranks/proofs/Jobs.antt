@@ -4,6 +4,7 @@ use Rattle.std.specs.Prelude.{Err, IfOk, IfSome, Ok, OnOk, Result, remove, slice
 use Rattle.std.proofs.lemmas.List.{length-map}
 use Rattle.std.proofs.lemmas.Option.{same_Some}
 use Rattle.atomic_table.specs.Seated.{TableId}
+use Rattle.mpx_at_once.proofs.Tasks.{get_within, mapped_at, within_get}
 use Rattle.mpx_at_once.specs.Tasks.{AllGive}
 use Rattle.mpx_bus.specs.Acts.{node_at}
 use Rattle.mpx_bus.specs.Buses.{table_of}
@@ -28,21 +29,6 @@ use Rattle.mpx_ranks.specs.Works.{AreOfBus, AreWorks, IsWork, answer_of, port_of
 
 -- LISTS
 
-within_get : {A : Type 0} (xs : List A) (k : ℕ) (x : A) → slice_get xs k ≡ Some x → k < length xs
-within_get [] k x e = cc e
-within_get (y ∷ xs) zero x e = omega arith
-within_get (y ∷ xs) (suc k) x e = let l = within_get xs k x e in omega (arith, l)
-
-get_within : {A : Type 0} (xs : List A) (k : ℕ) → k < length xs → (x : A) × (slice_get xs k ≡ Some x)
-get_within [] k l = absurd (omega (arith, l))
-get_within (y ∷ xs) zero l = (y, refl)
-get_within (y ∷ xs) (suc k) l = get_within xs k (omega (arith, l))
-
-mapped_at : {A B : Type 0} (f : A → B) (xs : List A) (i : ℕ) (y : B) → slice_get (map f xs) i ≡ Some y → (x : A) × ((slice_get xs i ≡ Some x) × (f x ≡ y))
-mapped_at f [] i y e = cc e
-mapped_at f (x ∷ xs) zero y e = (x, (refl, same_Some (f x) y e))
-mapped_at f (x ∷ xs) (suc i) y e = mapped_at f xs i y e
-
 map_at : {A B : Type 0} (f : A → B) (xs : List A) (i : ℕ) (x : A) → slice_get xs i ≡ Some x → slice_get (map f xs) i ≡ Some (f x)
 map_at f [] i x e = cc e
 map_at f (y ∷ xs) zero x e = ap (λ z. Some (f z)) (same_Some y x e)
@@ -55,9 +41,9 @@ length_take (suc n) (x ∷ xs) l = ap suc (length_take n xs (omega (arith, l)))
 
 -- WHAT EACH HAS TO DO
 
-pub one_work_more : {P R : Type 0} (program : P) (table : TableId) (ranks size : ℕ) (ports : List PortView) (works : List (Work P R)) (port : PortView) (work : Work P R)
+pub one_work_more : {K P R : Type 0} (program : P) (table : TableId) (ranks size : ℕ) (ports : List PortView) (works : List (Work K P R)) (port : PortView) (work : Work K P R)
     → AreWorks program table ranks size ports works → IsWork program table ranks size (length works) port work → AreWorks program table ranks size (ports ++ port ∷ []) (works ++ work ∷ [])
-one_work_more {P} {R} program table ranks size ports works port work are is = record {
+one_work_more {K} {P} {R} program table ranks size ports works port work are is = record {
   count = length-append works (work ∷ []) ∙ ap (λ n. n + 1) are.count ∙ sym (length-append ports (port ∷ []));
   each = λ i p w e f. slice_get-push_cases (λ x k. slice_get (ports ++ port ∷ []) k ≡ Some p → IsWork program table ranks size k p x) works work i w f
       (λ old e'. slice_get-push_cases (λ q k. slice_get works k ≡ Some w → IsWork program table ranks size k q w) ports port i p e'
@@ -65,12 +51,12 @@ one_work_more {P} {R} program table ranks size ports works port work are is = re
       (λ same last g. let l = within_get works i w g in absurd (omega (arith, l, last, are.count))) old)
       (λ same last e'. slice_get-push_cases (λ q k. k ≡ length works → IsWork program table ranks size k q w) ports port i p e'
       (λ before now. let l = within_get ports i p before in absurd (omega (arith, l, now, are.count)))
-      (λ here _ now. subst (λ (z : ℕ × (PortView × Work P R)). IsWork program table ranks size z.0 z.1.0 z.1.1) (λ k. (sym now k, (here k, same k))) is) last) e;
+      (λ here _ now. subst (λ (z : ℕ × (PortView × Work K P R)). IsWork program table ranks size z.0 z.1.0 z.1.1) (λ k. (sym now k, (here k, same k))) is) last) e;
 }
 
 -- so each can begin
-pub ready_at : {P R : Type 0} (program : P) (operations : List Operation) (ranks size : ℕ) (table : TableId) (ports : List PortView) (works : List (Work P R)) → ranks ≤ 64 → IsFleet (setup_of operations ranks size) table size ports → AreWorks program table ranks size ports works
-    → (i : ℕ) (t : Work P R) → slice_get works i ≡ Some t → (t.ranks ≤ 64) × IsReady operations t.ranks t.size t.me (table_of t.bus.now) t.port
+pub ready_at : {K P R : Type 0} (program : P) (operations : List Operation) (ranks size : ℕ) (table : TableId) (ports : List PortView) (works : List (Work K P R)) → ranks ≤ 64 → IsFleet (setup_of operations ranks size) table size ports → AreWorks program table ranks size ports works
+    → (i : ℕ) (t : Work K P R) → slice_get works i ≡ Some t → (t.ranks ≤ 64) × IsReady operations t.ranks t.size t.me (table_of t.bus.now) t.port
 ready_at program operations ranks size table ports works few fleet are i t e =
     let l = within_get works i t e in
     let p = get_within ports i (omega (arith, l, are.count)) in
@@ -112,9 +98,9 @@ has_worked gives operations ranks size me table port b answer new sits gave =
 
 -- WHAT EACH PROCESS DID
 
-module _ {P R A : Type 0} (gives : P → Gives A) (program : P) (operations : List Operation) (ranks size : ℕ) (table : TableId) (ports : List PortView) (works : List (Work P R)) (worked : List (Worked A))
+module _ {K P R A : Type 0} (gives : P → Gives A) (program : P) (operations : List Operation) (ranks size : ℕ) (table : TableId) (ports : List PortView) (works : List (Work K P R)) (worked : List (Worked A))
     (fleet : IsFleet (setup_of operations ranks size) table size ports) (are : AreWorks program table ranks size ports works)
-    (all : AllGive (λ (t : Work P R) (r : Worked A). HasWorked (gives t.program.now) t.port.setup.operations t.ranks t.size t.me (table_of t.bus.now) r.port r.answer) works worked) where
+    (all : AllGive (λ (t : Work K P R) (r : Worked A). HasWorked (gives t.program.now) t.port.setup.operations t.ranks t.size t.me (table_of t.bus.now) r.port r.answer) works worked) where
   abbrev setup : Setup
   setup = setup_of operations ranks size
 

@@ -23,12 +23,13 @@ use Rattle.mpx_node.specs.Nodes.{NodeView}
 use Rattle.mpx_num.specs.declared.own.Operation.{Operation}
 use Rattle.mpx_world.specs.Worlds.{ProcessView, drops, takes}
 
--- neither a post, nor a harvest, nor a gathering
+-- neither a post, nor a harvest, nor a gathering, and no result is let go
 abbrev IsQuiet : Act → Type 0
 IsQuiet (A.Posted name draft) = ⊥
 IsQuiet (A.Harvested name) = ⊥
 IsQuiet (A.Gathered parent tag ranks) = ⊥
 IsQuiet (A.Pruned name n) = Unit {0}
+IsQuiet (A.Forgot name below) = ⊥
 IsQuiet (A.Took bytes) = Unit {0}
 IsQuiet (A.StoppedTaking bytes left) = Unit {0}
 IsQuiet (A.Acknowledged board) = Unit {0}
@@ -58,6 +59,7 @@ heard_act ops (A.Posted name draft) v q = absurd q
 heard_act ops (A.Harvested name) v q = absurd q
 heard_act ops (A.Gathered parent tag ranks) v q = absurd q
 heard_act ops (A.Pruned name n) v q = drops_quiet ops (pruned_on v.node.board name n) name n v
+heard_act ops (A.Forgot name below) v q = absurd q
 heard_act ops (A.Took bytes) v q = (later_learns _ v.node, refl)
 heard_act ops (A.StoppedTaking bytes left) v q = (later_learns _ v.node, refl)
 heard_act ops (A.Acknowledged board) v q = (later_learns _ v.node, refl)

@@ -13,6 +13,7 @@ use Rattle.mpx_bus.specs.declared.act.Act.TheVariants as A
 use Rattle.mpx_bus.specs.Ports.{PortView, node_in}
 use Rattle.mpx_name.specs.Name.{Name, same_name}
 use Rattle.mpx_name.specs.Order.{name_equality}
+use Rattle.mpx_node.proofs.Forgotten.{front_forgotten, posted_forgotten}
 use Rattle.mpx_node.specs.declared.finished.Finished.{Finished}
 use Rattle.mpx_node.specs.Nodes.{OpenedView, checked_on, fresh, front_on, gathers_on, is_new_to, next_of, next_result, or_new, posted_by, posted_on, posts_more, result_of, results_by}
 use Rattle.mpx_num.specs.declared.own.Operation.{Operation}
@@ -45,12 +46,12 @@ has_more ops (Some o) board name me finished e = by_test (nat_lt (length o.resul
   by_test false t f = cc f
 
 abbrev with_result : Finished → OpenedView → OpenedView
-with_result finished o = record o { results = o.results ++ finished ∷ [] }
+with_result finished o = record o { results = o.results ++ Some finished ∷ [] }
 
 stores_bounded : (finished : Finished) (b : Bool) (o : Option OpenedView) → (b ≡ true → length (results_by o) < posted_by o) → length (results_by o) ≤ posted_by o
     → length (results_by (cond b (option_map (with_result finished) o) o)) ≤ posted_by (cond b (option_map (with_result finished) o) o)
 stores_bounded finished true None more l = l
-stores_bounded finished true (Some o) more l = let m = more refl in let n = length-append o.results (finished ∷ []) in omega (arith, m, n)
+stores_bounded finished true (Some o) more l = let m = more refl in let n = length-append o.results (Some finished ∷ []) in omega (arith, m, n)
 stores_bounded finished false o more l = l
 
 -- one act more
@@ -78,6 +79,8 @@ bounded_act ops (A.Pruned name n) v h = by_prune (pruned_on v.node.board name n)
   by_prune : (r : Result (Unit {0}) PruneError) → IsBounded (drops name n r v).node.opened
   by_prune (Ok u) = by_part _
   by_prune (Err e) = h
+bounded_act ops (A.Forgot name below) v h = λ n.
+    subst (λ (z : ℕ × ℕ). z.0 ≤ z.1) (λ i. (sym (front_forgotten name below v.node n) i, sym (posted_forgotten name below v.node n) i)) (h n)
 bounded_act ops (A.Took bytes) v h = h
 bounded_act ops (A.StoppedTaking bytes left) v h = h
 bounded_act ops (A.Acknowledged board) v h = h

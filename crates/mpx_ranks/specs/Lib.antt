@@ -2,4 +2,3 @@ pub mod Members
 pub mod Bounded
 pub mod Ranks
 pub mod Works
-pub mod Given

@@ -1,8 +1,10 @@
 //! What the threads of a job tell each other beside the bus.
-ghost use Rattle.std.specs.Prelude.{◌≡◌, IfSome};
+ghost use Rattle.std.specs.Prelude.{◌≡◌, IfErr, IfOk, IfSome};
 
+use crate::start::{AllCame, Place, Start};
 use mpx_at_once::Stop;
 use std::sync::atomic::{AtomicU64, Ordering};
+use std::sync::ledger::Ledger;
 use std::sync::{OnceLock, OnceToken, Wait};
 use std::thread::yield_now;
 
@@ -15,41 +17,42 @@ pub(crate) enum Halt {
     GaveUp,
 }
 
-/// How many processes there are, how many of their threads run, how many ranks have returned, and why all are to stop, where they are. The
-/// first reason is kept.
+/// How many ranks there are, how many of them have returned, and why all are to stop, where they are. The first reason is kept.
 #[derive(Drop)]
 pub(crate) struct Crew {
-    processes: u64,
     ranks: u64,
-    there: AtomicU64,
     returned: AtomicU64,
     pub(crate) halt: OnceLock<Halt>,
 }
 
 impl Crew {
-    /// So many processes, of which the first are ranks.
-    pub(crate) fn new(ranks: u8, processes: u8) -> Crew {
+    /// So many ranks.
+    pub(crate) fn new(ranks: u8) -> Crew {
         Crew {
-            processes: u64::from(processes),
             ranks: u64::from(ranks),
-            there: AtomicU64::new(0),
             returned: AtomicU64::new(0),
             halt: OnceLock::new(),
         }
     }
 
-    /// Waits until the threads of all processes run. It answers a token where a thread was refused before that, and only then: a rank may
-    /// have given up while another's thread still looks.
-    pub(crate) fn begins<R: Wait>(&self, rt: &R) -> Option<OnceToken<'_, Halt>>
-        ensures { IfSome result (λ token. (token.of ≡ self.now.halt.id) × (token.value ≡ Halt.Refused)) }
+    /// Waits until all threads have come, this one with its place, and answers what shows that. Or it answers a token where a thread was
+    /// refused before that, and only then: a rank may have given up while another's thread still looks.
+    pub(crate) fn begins<'a, K: Ledger, R: Wait>(
+        &'a self,
+        rt: &R,
+        start: &'a Start<K>,
+        place: Place<K>,
+    ) -> Result<OnceToken<'a, AllCame<K>>, OnceToken<'a, Halt>>
+        ensures ok { IfOk result (λ all. (all.of ≡ start.now.all.id) × (all.value.total.amount ≡ 0)) }
+        ensures err { IfErr result (λ token. (token.of ≡ self.now.halt.id) × (token.value ≡ Halt.Refused)) }
     {
-        self.there.fetch_add(1, Ordering::SeqCst);
+        start.comes(rt, place);
         for _ in rt.forever() {
-            if self.there.load(Ordering::SeqCst) >= self.processes {
-                return None;
+            if let Some(all) = start.all_came() {
+                return Ok(all);
             }
             if let Some(refusal) = self.refusal() {
-                return Some(refusal);
+                return Err(refusal);
             }
             yield_now();
         }

@@ -10,6 +10,7 @@ ghost use Rattle.mpx_ranks.specs.Works.{AreOfBus, AreWorks, answer_of, port_of};
 
 use crate::crew::Crew;
 use crate::program::Program;
+use crate::start::{Places, Start};
 use crate::work::{Work, Worked};
 use join_core::OutOfMemory;
 use mpx_at_once::{AtOnceError, all_at_once};
@@ -19,6 +20,7 @@ use mpx_num::{Listing, Ops};
 use std::alloc::Global;
 use std::marker::Brand;
 use std::sync::Wait;
+use std::sync::ledger::{Blank, Ledger};
 use std::thread::Threads;
 use thiserror::Error;
 
@@ -82,7 +84,8 @@ where
     if ranks == 0 || ranks > 64 || relays > 64 - ranks {
         return Err(RanksError::BadCount);
     }
-    let ran = run_by::<Brand, P, R>(rt, alloc, ranks, relays, program, ops);
+    let blank = Blank::new(u64::from(ranks) + u64::from(relays));
+    let ran = run_by::<Brand, Brand, P, R>(rt, alloc, blank, ranks, relays, program, ops);
     match ran {
         Ok(ran) => Ok(ran),
         Err(AtOnceError::OutOfMemory) => Err(RanksError::OutOfMemory),
@@ -90,10 +93,11 @@ where
     }
 }
 
-// Runs it by what all agree on, which the call picks.
-fn run_by<N: Named, P: Program + Sync, R: Threads + Wait + Sync>(
+// Runs it by what all agree on, and on a ledger of its threads; the call picks both.
+fn run_by<N: Named, K: Ledger + Send + Sync, P: Program + Sync, R: Threads + Wait + Sync>(
     rt: &R,
     alloc: Global,
+    blank: Blank,
     ranks: u8,
     relays: u8,
     program: &P,
@@ -105,12 +109,17 @@ where
     requires few { ranks + relays ≤ 64 }
     requires counts { (N.setup.ranks ≡ ranks) × (N.setup.size ≡ ranks + relays) }
     requires setup { N.setup ≡ setup_of (⟦<Ops as Listing>⟧.operations ops.now) ranks (ranks + relays) }
+    requires ledger { (blank.name ≡ K.name) × (blank.parts ≡ K.parts) }
+    requires parts { K.parts ≡ ranks + relays }
     ensures { IfOk result (λ ran. HaveRun (P.gives program.now) (⟦<Ops as Listing>⟧.operations ops.now) ranks relays ran.answers.items (map node_of ran.nodes.items)) }
 {
     let size = ranks + relays;
     let (bus, ports) = Bus::new::<N>(alloc, ROOM, ranks, size)?;
-    let crew = Crew::new(ranks, size);
-    let works = works_of(rt, alloc, &bus, &crew, program, ranks, size, ports)?;
+    let crew = Crew::new(ranks);
+    let (start, places) = Start::<K>::new(blank, u64::from(size));
+    let works = works_of(
+        rt, alloc, &bus, &crew, &start, places, program, ranks, size, ports,
+    )?;
     let worked = all_at_once(rt, alloc, works, ops, &crew)?;
     told_of::<N, P::Answer>(alloc, &bus, ranks, worked)
 }
@@ -136,21 +145,27 @@ fn told_of<N: Named, A: Drop>(
 }
 
 // The work of each process, whose port is at its place.
-fn works_of<'a, P, R>(
+fn works_of<'a, K: Ledger, P, R>(
     rt: &'a R,
     alloc: Global,
     bus: &'a Bus,
     crew: &'a Crew,
+    start: &'a Start<K>,
+    places: Places<K>,
     program: &'a P,
     ranks: u8,
     size: u8,
     ports: Vec<Port>,
-) -> Result<Vec<Work<'a, P, R>>, OutOfMemory>
+) -> Result<Vec<Work<'a, K, P, R>>, OutOfMemory>
     ensures { IfOk result (λ works. AreWorks program.now (table_of bus.now) ranks size ports.items works.items) }
 {
+    let mut places = places;
     let mut works = Vec::new(alloc);
     for port in ports {
         let Ok(me) = u8::try_from(works.len()) else {
+            return Err(OutOfMemory);
+        };
+        let Some(place) = places.next() else {
             return Err(OutOfMemory);
         };
         works.push(Work {
@@ -158,6 +173,8 @@ fn works_of<'a, P, R>(
             alloc,
             bus,
             crew,
+            start,
+            place,
             program,
             ranks,
             size,

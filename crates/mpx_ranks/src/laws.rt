@@ -2,7 +2,7 @@
 ghost use Rattle.std.specs.Prelude.{◌≡◌, ℕ, List, Some, slice_get};
 ghost use Rattle.mpx_name.specs.Name.{Name};
 ghost use Rattle.mpx_node.specs.declared.finished.Finished.{Finished};
-ghost use Rattle.mpx_node.specs.Nodes.{NodeView, results_on};
+ghost use Rattle.mpx_node.specs.Nodes.{NodeView, result_on};
 ghost use Rattle.mpx_num.specs.declared.own.Operation.{Operation};
 ghost use Rattle.mpx_ranks.specs.Ranks.{AreOfOneHistory, world_in};
 ghost use Rattle.mpx_world.specs.Soundness.{IsValue, OfOneRow};
@@ -12,9 +12,9 @@ ghost use Rattle.mpx_world.specs.Soundness.{IsValue, OfOneRow};
 pub fn one_row_for_all()
     ensures values { (operations : List Operation) (ranks size : ℕ) (nodes : List NodeView) (one : AreOfOneHistory operations ranks size nodes)
         (p : ℕ) (node : NodeView) (name : Name) (call : ℕ) (finished : Finished) → slice_get nodes p ≡ Some node
-        → slice_get (results_on node name) call ≡ Some finished → IsValue (world_in operations ranks size nodes one) p name call finished }
+        → result_on node name call ≡ Some finished → IsValue (world_in operations ranks size nodes one) p name call finished }
     ensures one_row { (operations : List Operation) (ranks size : ℕ) (nodes : List NodeView) (one : AreOfOneHistory operations ranks size nodes)
         (p q : ℕ) (first second : NodeView) (name : Name) (call : ℕ) (x y : Finished) → slice_get nodes p ≡ Some first → slice_get nodes q ≡ Some second
-        → slice_get (results_on first name) call ≡ Some x → slice_get (results_on second name) call ≡ Some y
+        → result_on first name call ≡ Some x → result_on second name call ≡ Some y
         → OfOneRow (world_in operations ranks size nodes one) p q name call x y }
 {}

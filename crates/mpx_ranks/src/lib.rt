@@ -2,13 +2,12 @@
 //!
 //! In the order of reading: [`Program`], what every rank runs; [`ranks`], which runs it, and [`Ran`], what comes of it; how a rank goes
 //! on in its thread (`work.rt`), over a `Member`, the host of its desk (`member.rt`), whose turns gossip (`gossip.rt`) and rest
-//! (`news.rt`); what the threads tell each other (`crew.rt`); what a call gave, [`numbers_of`]; and what follows of the answers,
-//! [`one_row_for_all`].
+//! (`news.rt`); where the threads meet before any of them begins (`start.rt`), and what they tell each other (`crew.rt`); what
+//! [`numbers_of`] of `mpx_comm` reads of a call; and what follows of the answers, [`one_row_for_all`].
 #![tactic(auto)]
 
 mod crew;
 mod folds;
-mod given;
 mod gossip;
 mod job;
 mod laws;
@@ -16,9 +15,10 @@ mod member;
 mod news;
 mod program;
 mod seat;
+mod start;
 mod work;
 
-pub use given::numbers_of;
 pub use job::{Ran, RanksError, ranks};
 pub use laws::one_row_for_all;
+pub use mpx_comm::numbers_of;
 pub use program::Program;

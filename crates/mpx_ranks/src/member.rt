@@ -147,6 +147,14 @@ impl<'a, L: Seat, O: Folds, R: Wait> Host for Member<'a, L, O, R> {
         self.port.node().result(name, call)
     }
 
+    fn front(&self, name: &Name) -> u32 {
+        self.port.node().front(name)
+    }
+
+    fn forget(&mut self, name: &Name, below: u32) {
+        self.port.forget(name, below);
+    }
+
     fn board(&self) -> &Board {
         self.port.node().board()
     }

@@ -10,21 +10,25 @@ use crate::folds::Folds;
 use crate::member::Member;
 use crate::program::Program;
 use crate::seat::Seat;
+use crate::start::{AllCame, Place, Start};
 use mpx_at_once::Task;
 use mpx_bus::{Bus, Port};
-use mpx_comm::{Comm, Desk};
+use mpx_comm::{Comm, Desk, Host};
 use mpx_num::{Listing, Ops};
 use std::alloc::Global;
 use std::marker::Brand;
-use std::sync::Wait;
+use std::sync::ledger::Ledger;
+use std::sync::{OnceToken, Wait};
 
-/// What a process has to do, and its port.
+/// What a process has to do, its place where the threads meet, and its port.
 #[derive(Drop)]
-pub(crate) struct Work<'a, P, R> {
+pub(crate) struct Work<'a, K: Ledger, P, R> {
     pub(crate) rt: &'a R,
     pub(crate) alloc: Global,
     pub(crate) bus: &'a Bus,
     pub(crate) crew: &'a Crew,
+    pub(crate) start: &'a Start<K>,
+    pub(crate) place: Place<K>,
     pub(crate) program: &'a P,
     pub(crate) ranks: u8,
     pub(crate) size: u8,
@@ -39,7 +43,7 @@ pub(crate) struct Worked<A> {
     pub(crate) answer: Option<A>,
 }
 
-impl<'a, P: Program, R: Wait> Task<Ops> for Work<'a, P, R> {
+impl<'a, K: Ledger, P: Program, R: Wait> Task<Ops> for Work<'a, K, P, R> {
     type Output = Worked<P::Answer>;
 
     ghost can_run = { λ t operations. (t.ranks ≤ 64) × IsReady operations t.ranks t.size t.me (table_of t.bus.now) t.port };
@@ -52,7 +56,10 @@ impl<'a, P: Program, R: Wait> Task<Ops> for Work<'a, P, R> {
 }
 
 // The port is the process's own, whichever that is.
-fn carry_out<'a, P: Program, R: Wait>(work: Work<'a, P, R>, ops: &Ops) -> Worked<P::Answer>
+fn carry_out<'a, K: Ledger, P: Program, R: Wait>(
+    work: Work<'a, K, P, R>,
+    ops: &Ops,
+) -> Worked<P::Answer>
     requires few { work.ranks ≤ 64 }
     requires port { IsReady (⟦<Ops as Listing>⟧.operations ops.now) work.ranks work.size work.me (table_of work.bus.now) work.port }
     ensures { HasWorked (P.gives work.entry.program.now) work.entry.port.setup.operations work.entry.ranks work.entry.size work.entry.me (table_of work.entry.bus.now) result.port result.answer }
@@ -62,6 +69,8 @@ fn carry_out<'a, P: Program, R: Wait>(work: Work<'a, P, R>, ops: &Ops) -> Worked
         alloc,
         bus,
         crew,
+        start,
+        place,
         program,
         ranks,
         size: _,
@@ -69,21 +78,23 @@ fn carry_out<'a, P: Program, R: Wait>(work: Work<'a, P, R>, ops: &Ops) -> Worked
         port,
     } = work;
     if me < ranks {
-        return work_as_rank::<Brand, Ops, P, R>(
-            rt, alloc, bus, crew, program, ranks, me, port, ops, ops,
+        return work_as_rank::<Brand, Ops, K, P, R>(
+            rt, alloc, bus, crew, start, place, program, ranks, me, port, ops, ops,
         );
     }
-    let port = work_as_relay::<Brand, Ops, R>(rt, alloc, bus, crew, me, port, ops);
+    let port = work_as_relay::<Brand, Ops, K, R>(rt, alloc, bus, crew, start, place, me, port, ops);
     Worked { port, answer: None }
 }
 
 // A rank runs the program, and then gossips on until all ranks have returned. The list of operations comes twice: by its own type for the
 // program's calls, and by any for the member.
-fn work_as_rank<L: Seat, O: Folds, P: Program, R: Wait>(
+fn work_as_rank<L: Seat, O: Folds, K: Ledger, P: Program, R: Wait>(
     rt: &R,
     alloc: Global,
     bus: &Bus,
     crew: &Crew,
+    start: &Start<K>,
+    place: Place<K>,
     program: &P,
     ranks: u8,
     me: u8,
@@ -103,15 +114,15 @@ fn work_as_rank<L: Seat, O: Folds, P: Program, R: Wait>(
     ensures gave { IfSome result.answer (λ a. Answers (P.gives program.now) L.setup.operations ranks L.setup.size me a (node_in result.port)) }
 {
     let member = Member::<L, O, R>::new(rt, bus, list, crew, me, port);
-    if crew.begins(rt).is_some() {
+    let Ok(all) = crew.begins(rt, start, place) else {
         return Worked {
             port: member.into_port(),
             answer: None,
         };
-    }
+    };
     let mut desk = Desk::new(alloc, member);
     let world = Comm::world(alloc, ranks, me);
-    let answer = program.run(alloc, &mut desk, &world, ops);
+    let answer = run_program(alloc, start, &all, program, &mut desk, &world, ops);
     crew.returns(program.gives_up(&answer));
     let mut host = desk.into_host();
     host.gossip_on(alloc);
@@ -122,12 +133,30 @@ fn work_as_rank<L: Seat, O: Folds, P: Program, R: Wait>(
     }
 }
 
+// Runs the program, for who shows that all threads have come.
+fn run_program<K: Ledger, P: Program, H: Host>(
+    alloc: Global,
+    _start: &Start<K>,
+    _all: &OnceToken<'_, AllCame<K>>,
+    program: &P,
+    desk: &mut Desk<H>,
+    world: &Comm,
+    ops: &Ops,
+) -> P::Answer
+    requires { (_all.now.of ≡ _start.now.all.id) × (_all.now.value.total.amount ≡ 0) }
+    ensures { P.gives program.now (H.goes_by desk.old.host (⟦<Ops as Listing>⟧.operations ops.now)) world.now (H.node desk.old.host) (H.node desk.new.host) result }
+{
+    program.run(alloc, desk, world, ops)
+}
+
 // A relay gossips until all ranks have returned.
-fn work_as_relay<L: Seat, O: Folds, R: Wait>(
+fn work_as_relay<L: Seat, O: Folds, K: Ledger, R: Wait>(
     rt: &R,
     alloc: Global,
     bus: &Bus,
     crew: &Crew,
+    start: &Start<K>,
+    place: Place<K>,
     me: u8,
     port: Port,
     list: &O,
@@ -140,7 +169,7 @@ fn work_as_relay<L: Seat, O: Folds, R: Wait>(
     ensures { IsSeated L.table L.setup L.me result }
 {
     let mut member = Member::<L, O, R>::new(rt, bus, list, crew, me, port);
-    if crew.begins(rt).is_none() {
+    if crew.begins(rt, start, place).is_ok() {
         member.gossip_on(alloc);
     }
     member.into_port()

@@ -8,7 +8,7 @@ use Rattle.atomic_table.specs.Seated.{TableId}
 use Rattle.mpx_node.specs.Nodes.{NodeView}
 use Rattle.mpx_bus.specs.Ports.{PortView}
 use Rattle.mpx_script.specs.ScriptView.{ScriptView}
-use Rattle.mpx_meaning.specs.Evaluation.{State, IsEvaluation}
+use Rattle.mpx_meaning.specs.Evaluation.{State}
 use Rattle.mpx_meaning.specs.Transcripts.{rank_text, text_upto}
 use Rattle.mpx_meaning.specs.Reports.{is_left, lines_in, which}
 use Rattle.mpx_eval.specs.Evaluated.{IsEvaluated}
@@ -22,7 +22,7 @@ use Rattle.mpx_run.specs.Founded.{IsSimulated, IsThreaded, cause_of, thread_caus
 use Rattle.mpx_run.specs.Reports.{EachWaits, IsAllOf, IsBy, IsOfRun, IsEvaluatedText, EndsSo, MayTell, lines_at, told_cause}
 use Rattle.mpx_run.proofs.Waiting.{simulated_waits, threaded_waits}
 use Rattle.mpx_run.specs.declared.end.Cause.{Cause}
-use Rattle.mpx_run.specs.declared.end.Cause.TheVariants.{InEveryRun, TurnsUsedUp, AllLost, Unknown}
+use Rattle.mpx_run.specs.declared.end.Cause.TheVariants.{InEveryRun, TurnsUsedUp, AllLost}
 use Rattle.mpx_run.specs.declared.end.End.{End}
 use Rattle.mpx_run.specs.declared.end.End.TheVariants.{Finished, Waiting}
 

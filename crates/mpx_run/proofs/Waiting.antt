@@ -1,5 +1,5 @@
 -- Who has something left in the evaluation waits in each run.
-use Rattle.std.proofs.Common.{◌≡◌, ℕ, ◌<◌, ◌≤◌, Bool, true, List, [], ◌∷◌, length, Some, refl, ap, ◌∙◌, arith}
+use Rattle.std.proofs.Common.{◌≡◌, ℕ, ◌<◌, Bool, true, List, [], ◌∷◌, Some, refl, ap, ◌∙◌, arith}
 use Rattle.std.specs.Prelude.{◌+◌, slice_get}
 use Rattle.atomic_table.specs.Seated.{TableId}
 use Rattle.mpx_num.specs.declared.own.Operation.{Operation}

@@ -12,7 +12,7 @@ use Rattle.mpx_value.specs.declared.outcomes.Outcome.{Outcome}
 use Rattle.mpx_value.specs.declared.outcomes.Outcome.TheVariants.{Nothing, Absent, Items, NewComm, Null, Fault}
 use Rattle.mpx_value.specs.Histories.{Answer, Made, answer_with, has_freed}
 use Rattle.mpx_node.specs.declared.finished.Finished.{Finished}
-use Rattle.mpx_node.specs.Nodes.{NodeView, freed_on}
+use Rattle.mpx_node.specs.Nodes.{NodeView, freed_on, result_on}
 use Rattle.mpx_node.specs.Shown.{node_of}
 use Rattle.mpx_statement.specs.declared.statement.Posting.{Posting}
 use Rattle.mpx_statement.specs.declared.statement.Question.{Question}
@@ -37,7 +37,7 @@ use Rattle.mpx_system.specs.Systems.{System, Drives, posts_bound, posts_of, worl
 use Rattle.mpx_system.proofs.Coupling.{Couples, answer_born, bound_so, goes_on-other}
 use Rattle.mpx_system.proofs.Posting.{IsBoundSo, driven_bound, not_same}
 use Rattle.mpx_sim.specs.declared.desk.RunDesk.{RunDesk}
-use Rattle.mpx_sim.specs.Carrying.{Tries, desk_terms, hears_more, hears_nothing, known_to, new_name, outcomes_on, stored_at, tried_on}
+use Rattle.mpx_sim.specs.Carrying.{Tries, desk_terms, hears_more, hears_nothing, known_to, new_name, outcomes_on, tried_on}
 use Rattle.mpx_sim.specs.Turns.{Alone, FrameView, Moment}
 use Rattle.mpx_sim.specs.Running.{IsUnderWay, Moves, ProcessView, StandsBy, name_of, with_births}
 use Rattle.mpx_sim.proofs.Posting.{IsTried, answered_err, answered_ok, found_there, tried_bound, answered as answered_so}
@@ -49,7 +49,7 @@ use Rattle.mpx_sim.proofs.Running.{couples, moves_node, moves_then, run_on}
 abbrev node_terms : List Operation → (born : Name → Option BirthView) → Terms NodeView CommunicatorView
 node_terms ops born = record {
   tells = λ n me. outcomes_on n;
-  gives = λ n me name call to. (f : Finished) × (stored_at n name call ≡ Some f) × (bound_as to ≡ bound_by f.outcome (answer_with born f.outcome).born);
+  gives = λ n me name call to. (f : Finished) × (result_on n name call ≡ Some f) × (bound_as to ≡ bound_by f.outcome (answer_with born f.outcome).born);
   knows = λ n c. Some c;
   closes = λ n me c. freed_on n c.0;
   may = λ n me posting on. Unit {0};
@@ -82,10 +82,10 @@ module _ (ops : List Operation) (script : Script) (ranks : ℕ) (s : System) (c 
   pub goes_by : GoesBy ops (node_terms ops (births s.world)) (world_tells s.world p) p (s.ranks p) (λ n. n ≡ here) (λ t n. Unit {0})
   goes_by = record {
     hears = λ n m fits h. h ∙ fits;
-    tells = λ n fits name call outcome e. told_same (births s.world) (stored_at here name call) ∙ ap (λ (x : NodeView). outcomes_on x name call) (sym fits) ∙ e;
+    tells = λ n fits name call outcome e. told_same (births s.world) (result_on here name call) ∙ ap (λ (x : NodeView). outcomes_on x name call) (sym fits) ∙ e;
     gives = λ n fits name call to given. (
       answer_with (births s.world) given.0.outcome,
-      ap (option_map (λ (f : Finished). answer_with (births s.world) f.outcome)) (ap (λ (x : NodeView). stored_at x name call) (sym fits) ∙ given.1),
+      ap (option_map (λ (f : Finished). answer_with (births s.world) f.outcome)) (ap (λ (x : NodeView). result_on x name call) (sym fits) ∙ given.1),
       given.2,
     );
     closes = λ n fits k. ap (λ (x : NodeView). freed_on x k.0) fits ∙ (c.upheld.holds.processes p).closed k.0 ∙ ap (has_freed k.0) (c.made p);
@@ -187,13 +187,13 @@ module _ (ops : List Operation) (script : Script) (ranks size : ℕ) (begun : Mo
   rests : (todo : List Todo) → local.todo ≡ todo → posts_of w.operations p (w.each p).made local.bound todo ≡ [] → IsMoved node
   rests todo e none = node_is ∙ ap (λ hs. ((goes_on_world w hs).each p).node) (sym (ap (posts_of w.operations p (w.each p).made local.bound) e ∙ none))
 
-  hears_next : (wait : WaitView) (outcome : Outcome) (text : List ℕ) (to : Option Name) (f : Finished) → r.waits ≡ Some wait → outcomes_on node wait.name wait.call ≡ Some outcome → text ≡ outcome_text outcome → stored_at node wait.name wait.call ≡ Some f → to ≡ new_name f.outcome
+  hears_next : (wait : WaitView) (outcome : Outcome) (text : List ℕ) (to : Option Name) (f : Finished) → r.waits ≡ Some wait → outcomes_on node wait.name wait.call ≡ Some outcome → text ≡ outcome_text outcome → result_on node wait.name wait.call ≡ Some f → to ≡ new_name f.outcome
       → IsUnderWay ops script ranks size begun Alone (set processes p (record { rank = heard r wait text to; node = node })) frames
   hears_next wait outcome text to f waits tells said held gives =
       let answer : Answer = answer_with (births w) f.outcome in
       let b = bound_by answer.outcome answer.born in
       let there = communicator_of (Some b) in
-      let known : world_tells w p wait.name wait.call ≡ Some answer = ap (λ (n : NodeView). option_map (λ (x : Finished). answer_with (births w) x.outcome) (stored_at n wait.name wait.call)) (sym node_is) ∙ ap (option_map (λ (x : Finished). answer_with (births w) x.outcome)) held in
+      let known : world_tells w p wait.name wait.call ≡ Some answer = ap (λ (n : NodeView). option_map (λ (x : Finished). answer_with (births w) x.outcome) (result_on n wait.name wait.call)) (sym node_is) ∙ ap (option_map (λ (x : Finished). answer_with (births w) x.outcome)) held in
       let given : to ≡ name_of there = gives ∙ given_so f.outcome answer.born (answer_born ops script ranks run.system coupled p wait.name wait.call answer known) in
       moves (heard r wait text to) (binds wait.target there stands.bound) node refl (names_bound r.bound stands.bound stands.names wait.target to there given)
       (hears wait outcome text there waits refl tells said (f, held, bound_again b))

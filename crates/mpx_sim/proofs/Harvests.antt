@@ -5,8 +5,8 @@ use Rattle.mpx_num.specs.declared.own.Operation.{Operation}
 use Rattle.mpx_value.specs.declared.outcomes.Outcome.{Outcome}
 use Rattle.mpx_node.specs.declared.finished.Finished.{Finished}
 use Rattle.mpx_node.specs.Harvests.{harvested}
-use Rattle.mpx_node.specs.Nodes.{NodeView}
-use Rattle.mpx_sim.specs.Carrying.{Harvests, harvests_none, harvests_then, outcome_in, stored_at}
+use Rattle.mpx_node.specs.Nodes.{NodeView, result_on}
+use Rattle.mpx_sim.specs.Carrying.{Harvests, harvests_none, harvests_then, outcome_in}
 use Rattle.mpx_sim.proofs.Running.{keeps_next}
 
 found : (o : Option Finished) (outcome : Outcome) → outcome_in o ≡ Some outcome → (f : Finished) × (o ≡ Some f)
@@ -22,7 +22,7 @@ harvests_all ops name (suc n) old =
     harvests_then ops old mid (harvested ops (suc n) name old) (harvests_all ops name n old) (
       one.0,
       λ m k outcome e.
-          let f = found (stored_at mid m k) outcome e in
+          let f = found (result_on mid m k) outcome e in
           ap outcome_in (one.1 m k f.0 f.1 ∙ sym f.1) ∙ e,
     )
 

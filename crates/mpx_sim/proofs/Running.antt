@@ -1,5 +1,5 @@
 -- What the steps of a process keep of a run.
-use Rattle.std.proofs.Common.{◌≡◌, ℕ, ◌<◌, List, [], length, set, get_or, Option, Some, None, refl, sym, ap, ◌∙◌, subst, arith}
+use Rattle.std.proofs.Common.{◌≡◌, ℕ, ◌<◌, List, [], set, get_or, Option, Some, None, refl, sym, ap, ◌∙◌, subst, arith}
 use Rattle.std.specs.Prelude.{slice_get, Result, Ok, Err, OnOk, OnErr}
 use Rattle.std.specs.List.{All}
 use Rattle.std.proofs.lemmas.List.{length-set}
@@ -23,7 +23,7 @@ use Rattle.mpx_system.proofs.Coupling.{Couples}
 use Rattle.mpx_system.proofs.Leading.{coupled, leads_on}
 use Rattle.mpx_system.proofs.Posting.{each_other}
 use Rattle.mpx_system.proofs.Results.{some_at}
-use Rattle.mpx_post.proofs.Lists.{set_cases, set_twice, set_has, set_same}
+use Rattle.mpx_post.proofs.Lists.{set_cases, set_twice, set_has}
 use Rattle.mpx_sim.specs.Running.{HasCome, HaveCome, ProcessView, StandsBy, IsAt, IsAmong, IsUnderWay, KeepsNode, Moves}
 use Rattle.mpx_sim.specs.Draws.{IsLater, ScheduleView}
 use Rattle.mpx_sim.specs.Turns.{Alone, Coming, FrameView, IsIn, IsLeft, IsTurn, IsUnder, Moment, Phase, Saying}

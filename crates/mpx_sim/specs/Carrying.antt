@@ -1,5 +1,5 @@
 -- What a run's desk says as the carrier of a rank's posts.
-use Rattle.std.specs.Prelude.{◌≡◌, ℕ, List, Option, Some, None, Result, Ok, Err, slice_get}
+use Rattle.std.specs.Prelude.{◌≡◌, ℕ, List, Option, Some, None, Result, Ok, Err}
 use Rattle.std.proofs.Common.{refl}
 use Rattle.std.specs.Option.{option_map}
 use Rattle.mpx_num.specs.declared.own.Operation.{Operation}
@@ -65,17 +65,13 @@ IsContext on (Some asked) result old new = Opens on (gathers_on old on asked.tag
 
 -- WHAT IT SAYS
 
--- the stored result of a call
-abbrev pub stored_at : NodeView → Name → (call : ℕ) → Option Finished
-stored_at node name call = result_on node name call
-
 -- the outcome of a result
 abbrev pub outcome_in : Option Finished → Option Outcome
 outcome_in o = option_map (λ (f : Finished). f.outcome) o
 
 -- the outcomes that a node holds
 abbrev pub outcomes_on : NodeView → Outcomes
-outcomes_on node name call = outcome_in (stored_at node name call)
+outcomes_on node name call = outcome_in (result_on node name call)
 
 -- the name of the new communicator that a call gave the process, where it gave one
 abbrev pub new_name : Outcome → Option Name
@@ -100,7 +96,7 @@ Harvests ops old new = KeepsNode Alone ops old new × IsToldWithin (outcomes_on 
 abbrev pub desk_terms : List Operation → Terms RunDesk Name
 desk_terms ops = record {
   tells = λ d me. outcomes_on (node_of d.node);
-  gives = λ d me name call to. (f : Finished) × (stored_at (node_of d.node) name call ≡ Some f) × (to ≡ new_name f.outcome);
+  gives = λ d me name call to. (f : Finished) × (result_on (node_of d.node) name call ≡ Some f) × (to ≡ new_name f.outcome);
   knows = λ d name. known_to (node_of d.node) name;
   closes = λ d me name. freed_on (node_of d.node) name;
   may = λ d me posting on. Unit {0};

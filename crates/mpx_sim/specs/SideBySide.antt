@@ -1,7 +1,6 @@
 -- What the processes of a run do side by side, each by itself.
 use Rattle.std.specs.Prelude.{◌≡◌, ◌&&◌, ℕ, suc, ◌<◌, ◌≤◌, Bool, nat_eq, List, [], ◌∷◌, length, map, Option, Some, IfSome, slice_get, if◌then◌else◌}
 use Rattle.std.proofs.Common.{set}
-use Rattle.std.specs.List.{All}
 use Rattle.mpx_num.specs.declared.own.Operation.{Operation}
 use Rattle.mpx_board.specs.Boards.{join_all}
 use Rattle.mpx_delta.specs.declared.framed.NewFrames.{NewFrames}

@@ -1,9 +1,10 @@
 //! The desk of a run's process: it carries the posts of the process's rank, and looks at contexts.
-ghost use Rattle.std.specs.Prelude.{◌≡◌, ◌<◌, ◌≤◌, IfOk, List, OnOk, Some, false, true};
+ghost use Rattle.std.specs.Prelude.{◌≡◌, ◌<◌, ◌≤◌, IfOk, List, OnOk, Some, false, string_bytes, true};
 ghost use Rattle.std.specs.Option.{option_copied};
 ghost use Rattle.mpx_num.specs.declared.own.Operation.{Operation};
 ghost use Rattle.mpx_node.specs.Nodes.{has_next, start_node};
 ghost use Rattle.mpx_node.specs.Shown.{node_of};
+ghost use Rattle.mpx_meaning.specs.Transcripts.{outcome_text};
 ghost use Rattle.mpx_statement.specs.Statements.{gathers_of};
 ghost use Rattle.mpx_rank.specs.Shown.{requests_of};
 ghost use Rattle.mpx_sim.specs.declared.desk.Posted.{Posted as PostedView};
@@ -18,7 +19,7 @@ use mpx_birth::Birth;
 use mpx_group::Proc;
 use mpx_meaning::line;
 use mpx_name::Name;
-use mpx_node::Node;
+use mpx_node::{Finished, Node};
 use mpx_num::{Listing, Ops};
 use mpx_post::PostError;
 use mpx_rank::{Carrier, Heard};
@@ -197,13 +198,15 @@ impl Carrier for RunDesk {
         call: Posted,
         ops: &Ops,
     ) -> Result<Heard<Posted, Name>, OutOfMemory> {
+        if let Some(finished) = self.node.result(&call.name, call.call) {
+            let (text, given) = said(alloc, finished, &mut self.contexts)?;
+            return Ok(Heard::Told { text, given });
+        }
         harvest_to(alloc, &mut self.node, &call.name, call.call, ops)?;
         let Some(finished) = self.node.result(&call.name, call.call) else {
             return Ok(Heard::NotYet(call));
         };
-        let text = line(alloc, &finished.outcome)?;
-        let given = new_name(alloc, &finished.outcome)?;
-        look_at_given(alloc, &mut self.contexts, &given)?;
+        let (text, given) = said(alloc, finished, &mut self.contexts)?;
         Ok(Heard::Told { text, given })
     }
 
@@ -221,6 +224,21 @@ impl Carrier for RunDesk {
     ghost hears_more = { hears_more };
 
     ghost stays_told = { stays_told };
+}
+
+// The outcome of a result as a line, and the name of the communicator that the call gave, which is looked at from now on.
+fn said(
+    alloc: Global,
+    finished: &Finished,
+    contexts: &mut Vec<Name>,
+) -> Result<(String, Option<Name>), OutOfMemory>
+    ensures text { IfOk result (λ said. string_bytes said.0 ≡ outcome_text finished.now.outcome) }
+    ensures given { IfOk result (λ said. said.1 ≡ new_name finished.now.outcome) }
+{
+    let text = line(alloc, &finished.outcome)?;
+    let given = new_name(alloc, &finished.outcome)?;
+    look_at_given(alloc, contexts, &given)?;
+    Ok((text, given))
 }
 
 // The name of the communicator that a call gave, where it gave one.

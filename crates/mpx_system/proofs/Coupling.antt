@@ -39,15 +39,15 @@ use Rattle.mpx_system.proofs.Posting.{Upheld, upheld_happens, is_there, tells_at
 
 -- it makes no post and lets nothing go
 passive_so : (h : Happening) → IsPassive h → IsNoPost h × LetsNothingGo h
-passive_so (Posts p name given) none = absurd none
-passive_so (Harvests p name) none = (tt, tt)
-passive_so (Gathers p parent tag ranks) none = (tt, tt)
-passive_so (Prunes p name n) none = (tt, tt)
-passive_so (Sends p part) none = (tt, tt)
-passive_so (Takes p place) none = (tt, tt)
-passive_so (TakesPartly p place left) none = (tt, tt)
-passive_so (Acknowledges p numbers) none = (tt, tt)
-passive_so (Forgets p name below) none = absurd none
+passive_so (Posts p name given) never = absurd never
+passive_so (Harvests p name) may = (tt, tt)
+passive_so (Gathers p parent tag ranks) may = (tt, tt)
+passive_so (Prunes p name n) may = (tt, tt)
+passive_so (Sends p part) may = (tt, tt)
+passive_so (Takes p place) may = (tt, tt)
+passive_so (TakesPartly p place left) may = (tt, tt)
+passive_so (Acknowledges p numbers) may = (tt, tt)
+passive_so (Forgets p name below) never = absurd never
 
 -- A WORLD AND ITS RANKS
 

@@ -12,17 +12,15 @@ use Rattle.mpx_board.specs.Boards.{Look, IsBoardBelow}
 use Rattle.mpx_board.proofs.Facts.{below_through}
 use Rattle.mpx_value.specs.Histories.{Answer, answer_with}
 use Rattle.mpx_node.specs.declared.finished.Finished.{Finished}
-use Rattle.mpx_node.specs.Nodes.{OpenedView, front_on, has_next, next_of, next_result, result_on, results_on}
+use Rattle.mpx_node.specs.Nodes.{OpenedView, has_next, next_of, next_result, result_on, results_on}
 use Rattle.mpx_node.proofs.Nexts.{next_is_there}
-use Rattle.mpx_world.specs.Worlds.{ProcessView, WorldView, Harvests, Sends, Takes, births, happens, harvests, made_next, own_front, stores}
+use Rattle.mpx_world.specs.Worlds.{WorldView, Harvests, Sends, Takes, births, happens, own_front}
 use Rattle.mpx_node.proofs.Gone.{past_all}
 use Rattle.mpx_world.proofs.Complete.{HasAll}
 use Rattle.mpx_world.proofs.Later.{Later, later_goes_on, later_happens, later_itself, later_then}
 use Rattle.mpx_world.proofs.Lists.{slice_get-push}
-use Rattle.mpx_world.proofs.Kept.{front_added}
-use Rattle.mpx_world.proofs.Progress.{taken_below}
+use Rattle.mpx_world.proofs.Progress.{front_next, taken_below}
 use Rattle.mpx_world.proofs.Reached.{own_seen}
-use Rattle.mpx_world.proofs.Steps.{at_here}
 use Rattle.mpx_statement.specs.declared.statement.Statement.{Statement}
 use Rattle.mpx_meaning.specs.Ranks.{Act, Asks, End, Local, Next, answers, done, next, step, step_by, weights}
 use Rattle.mpx_meaning.specs.Evaluation.{State, IsEvaluation, left}
@@ -59,11 +57,6 @@ opened_there ops (Some x) board name me t = (x, refl)
 some_there : {A : Type 0} (o : Option A) → is_some o ≡ true → (x : A) × (o ≡ Some x)
 some_there None t = cc t
 some_there (Some x) t = (x, refl)
-
--- a harvest that finds a result raises the own front
-front_next : (w : WorldView) (p : ℕ) (name : Name) (o : OpenedView) (finished : Finished) → (w.each p).node.opened name ≡ Some o → next_result w.operations (w.each p).node name ≡ Some finished → own_front (happens w (Harvests p name)) name p ≡ own_front w name p + 1
-front_next w p name o finished opened next =
-    ap (λ (v : ProcessView). front_on v.node name) (at_here w p (harvests w.operations name)) ∙ ap (λ x. front_on (stores w.operations name x (w.each p)).node name) next ∙ front_added name finished (made_next w.operations name (w.each p).node) (w.each p).node o opened
 
 -- DOINGS
 

@@ -1,5 +1,5 @@
 -- What a process's post comes to in a world, and what is so of that world then.
-use Rattle.std.proofs.Common.{◌≡◌, ℕ, ℤ, Bool, true, false, cond, ◌==◌, List, [], ◌∷◌, ◌++◌, length, Option, Some, None, ◌⊎◌, inl, inr, refl, sym, ap, ◌∙◌, subst}
+use Rattle.std.proofs.Common.{◌≡◌, ℕ, ℤ, ◌<◌, Bool, true, false, cond, ◌==◌, List, [], ◌∷◌, ◌++◌, length, Option, Some, None, ◌⊎◌, inl, inr, refl, sym, ap, ◌∙◌, subst, arith}
 use Rattle.std.specs.Prelude.{slice_get, is_some, IsTrue, Result, Ok, Err, option_and_then}
 use Rattle.std.specs.Option.{option_map}
 use Rattle.std.proofs.lemmas.Option.{same_Some}
@@ -22,7 +22,7 @@ use Rattle.mpx_world.specs.Worlds.{ProcessView, WorldView, history, births, at_p
 use Rattle.mpx_world.specs.Forgetting.{IsHeldOrGone, LetsNothingGo}
 use Rattle.mpx_world.specs.Soundness.{IsValue}
 use Rattle.mpx_world.proofs.Complete.{HasAll, all_happens}
-use Rattle.mpx_node.specs.Stored.{count_gone, stored_at}
+use Rattle.mpx_node.specs.Stored.{count_gone}
 use Rattle.mpx_node.proofs.Gone.{AllThere}
 use Rattle.mpx_world.proofs.Freeing.{all_of_at}
 use Rattle.mpx_world.proofs.Lists.{any_at, same_number}

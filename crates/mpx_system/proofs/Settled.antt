@@ -1,9 +1,8 @@
 -- Who is settled has no move in the evaluation.
-use Rattle.std.proofs.Common.{◌≡◌, ℕ, ◌<◌, ◌≤◌, ◌+◌, ◌==◌, true, false, List, [], ◌∷◌, ◌++◌, get_or, length, Option, Some, None, refl, sym, ap, ◌∙◌, subst, arith, inl, inr}
+use Rattle.std.proofs.Common.{◌≡◌, ℕ, ◌<◌, ◌≤◌, true, false, List, [], ◌∷◌, ◌++◌, length, Option, Some, None, refl, sym, ap, ◌∙◌, subst, arith, inl, inr}
 use Rattle.std.specs.Prelude.{slice_get, is_some, IsTrue}
 use Rattle.std.proofs.lemmas.Bool.{cases_lt}
-use Rattle.std.proofs.lemmas.List.Quantifiers.{position-Some}
-use Rattle.std.proofs.lemmas.Option.{option_and_then_some, same_Some, slice_get-get_or, slice_get_within}
+use Rattle.std.proofs.lemmas.Option.{option_and_then_some, same_Some, slice_get_within}
 use Rattle.mpx_num.specs.declared.own.Operation.{Operation}
 use Rattle.mpx_name.specs.Name.{Name}
 use Rattle.mpx_post.specs.Posts.{Given}
@@ -12,13 +11,13 @@ use Rattle.mpx_birth.specs.Births.{BirthView, rank_in}
 use Rattle.mpx_board.specs.Boards.{told}
 use Rattle.mpx_value.specs.Values.{value}
 use Rattle.mpx_value.specs.Histories.{Answer, History, Made, answer_with, birth_of, outcome_of, outcomes_by, posts_on, results_of, row_of, value_for}
-use Rattle.mpx_node.specs.Nodes.{OpenedView, has_next, next_result, posted_by, posted_on, result_on, results_on}
+use Rattle.mpx_node.specs.Nodes.{has_next, next_result, posted_on, result_on, results_on}
 use Rattle.mpx_node.proofs.Gone.{past_all}
 use Rattle.mpx_node.proofs.Nexts.{next_is_there}
 use Rattle.mpx_world.specs.Worlds.{Happening, MayGoOn, WorldView, births, goes_on as goes_on_world, history, own_front, start as start_world, world_by}
 use Rattle.mpx_world.specs.Enough.{AreDoneUpTo, IsEnough, WasBy}
-use Rattle.mpx_world.proofs.Freeing.{all_of_at}
-use Rattle.mpx_world.proofs.Lists.{same_number}
+use Rattle.mpx_world.proofs.Freeing.{all_of_at, ranked_at}
+use Rattle.mpx_world.proofs.Opened.{opened_where}
 use Rattle.mpx_world.proofs.Progress.{enough_by}
 use Rattle.mpx_world.proofs.Steps.{board_so}
 use Rattle.mpx_world.proofs.Truth.{told_agrees}
@@ -54,16 +53,6 @@ of_row h ranks p name k answer e =
     option_and_then_some (λ row. value_for h.operations birth p row name k) (row_of h name birth k) found.0 f (λ row whole g.
     option_and_then_some (λ rank. Some (value h.operations birth row name k rank)) (rank_in p birth.members) found.0 g (λ rank member is.
     record { birth = birth; born = born; row = row; whole = whole; rank = rank; member = member })))
-
--- the process at a rank
-ranked_at : (p : ℕ) (ps : List ℕ) (rank : ℕ) → rank_in p ps ≡ Some rank → slice_get ps rank ≡ Some p
-ranked_at p ps rank e =
-    let at = position-Some (λ q. q == p) ps rank 0 e in
-    slice_get-get_or ps rank 0 at.0 ∙ ap Some (same_number (get_or ps rank 0) p at.1)
-
-opened_if : (o : Option OpenedView) (k : ℕ) → k < posted_by o → IsTrue (is_some o)
-opened_if None k l = absurd (omega (arith, l))
-opened_if (Some o) k l = refl
 
 -- A SYSTEM'S POSTS
 
@@ -143,7 +132,7 @@ module _ (ops : List Operation) (script : List (List Statement)) (ranks size : �
 
     enough : IsEnough (WasBy ops ranks size happened) (now.world.each p).node name k
     enough = record {
-      opened = opened_if ((now.world.each p).node.opened name) k mine;
+      opened = opened_where ((now.world.each p).node.opened name) (omega (arith, mine));
       posted = mine;
       each = λ birth b place q at.
           let x = given place q (subst (λ (v : BirthView). slice_get v.members place ≡ Some q) (birth_is birth (ap told b)) at) in

@@ -1,6 +1,6 @@
 -- What a rank was told its port holds, at the end.
 use Rattle.std.proofs.Common.{◌≡◌, ℕ, zero, suc, ◌==◌, Bool, true, false, cond, List, [], ◌∷◌, length, take, get_or, Option, Some, None, refl, sym, ap, ◌∙◌, subst, arith, inl}
-use Rattle.std.specs.Prelude.{slice_get, is_some, IsTrue, not, ◌&&◌, ◌||◌}
+use Rattle.std.specs.Prelude.{slice_get, is_some, IsTrue, not, ◌||◌}
 use Rattle.std.specs.Option.{option_map}
 use Rattle.std.proofs.lemmas.Bool.Decides.{Decides-eqb, nat_tests}
 use Rattle.std.proofs.lemmas.Option.{same_Some}
@@ -11,7 +11,7 @@ use Rattle.mpx_value.specs.declared.outcomes.Outcome.{Outcome}
 use Rattle.mpx_value.specs.Histories.{Answer, Results, Within, answer_with, posts_on}
 use Rattle.mpx_node.specs.declared.finished.Finished.{Finished}
 use Rattle.mpx_node.specs.Nodes.{NodeView, result_on}
-use Rattle.mpx_world.proofs.Lists.{names_same}
+use Rattle.mpx_world.proofs.Lists.{both_true, names_same}
 use Rattle.mpx_bus.specs.declared.act.Setup.{Setup}
 use Rattle.mpx_bus.specs.Ports.{PortView, node_in}
 use Rattle.mpx_bus.specs.Rule.{planned_posts}
@@ -40,10 +40,6 @@ use Rattle.mpx_threads.proofs.Resting.{starts_free}
 use Rattle.mpx_threads.proofs.Plans.{births_are, made_none, planned_is, posts_are, results_are, statements_at}
 
 -- AMONG
-
-both_true : (a b : Bool) → (a && b) ≡ true → (a ≡ true) × (b ≡ true)
-both_true true b e = (refl, e)
-both_true false b e = cc e
 
 -- a call that is among these is one of them
 among_place : (ts : List ToldCall) (name : Name) (call : ℕ) → is_among ts name call ≡ true → (i : ℕ) × ((t : ToldCall) × ((slice_get ts i ≡ Some t) × (is_at name call t ≡ true)))

@@ -1,9 +1,8 @@
 -- Ranks of which all ports say that none can go on have come to the evaluation's end.
-use Rattle.std.proofs.Common.{◌≡◌, ℕ, ◌<◌, ◌≤◌, ◌==◌, false, List, [], ◌∷◌, Option, Some, None, refl, sym, ap, ◌∙◌, subst, arith, inl, inr}
+use Rattle.std.proofs.Common.{◌≡◌, ℕ, ◌<◌, ◌≤◌, false, List, [], ◌∷◌, Option, Some, None, refl, sym, ap, ◌∙◌, subst, arith, inl, inr}
 use Rattle.std.specs.Prelude.{◌⊎◌, slice_get, is_some}
 use Rattle.std.specs.Option.{option_map}
-use Rattle.std.proofs.lemmas.List.Quantifiers.{position-Some}
-use Rattle.std.proofs.lemmas.Option.{option_and_then_some, same_Some, slice_get-get_or}
+use Rattle.std.proofs.lemmas.Option.{option_and_then_some, same_Some}
 use Rattle.atomic_table.specs.Seated.{TableId}
 use Rattle.mpx_num.specs.declared.own.Operation.{Operation}
 use Rattle.mpx_name.specs.Name.{Name}
@@ -16,8 +15,7 @@ use Rattle.mpx_value.specs.Values.{value}
 use Rattle.mpx_value.specs.Histories.{Answer, History, Results, Within, answer_with, birth_of, outcome_of, outcomes_by, posts_on, results_of, row_of, value_for}
 use Rattle.mpx_value.proofs.Growth.{birth-grows, posts_on-append, results-grow}
 use Rattle.mpx_node.specs.Nodes.{front_on}
-use Rattle.mpx_world.proofs.Freeing.{all_of_at}
-use Rattle.mpx_world.proofs.Lists.{same_number}
+use Rattle.mpx_world.proofs.Freeing.{all_of_at, ranked_at}
 use Rattle.mpx_world.proofs.Retention.{IsKeptOn}
 use Rattle.mpx_bus.specs.declared.act.Setup.{Setup}
 use Rattle.mpx_bus.specs.Ports.{PortView, node_in}
@@ -170,12 +168,6 @@ record IsOfRow (h : History) (ranks p : ℕ) (name : Name) (k : ℕ) : Type 0 wh
   whole : row_of h name birth k ≡ Some row
   rank : ℕ
   member : slice_get birth.members rank ≡ Some p
-
--- the process at a rank
-ranked_at : (p : ℕ) (ps : List ℕ) (rank : ℕ) → rank_in p ps ≡ Some rank → slice_get ps rank ≡ Some p
-ranked_at p ps rank e =
-    let at = position-Some (λ q. q == p) ps rank 0 e in
-    slice_get-get_or ps rank 0 at.0 ∙ ap Some (same_number _ p at.1)
 
 of_row : (h : History) (ranks p : ℕ) (name : Name) (k : ℕ) (answer : Answer) → results_of h ranks p name k ≡ Some answer → IsOfRow h ranks p name k
 of_row h ranks p name k answer e =

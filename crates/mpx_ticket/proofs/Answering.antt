@@ -1,6 +1,5 @@
 -- What a port that stands in a world that can be reached answers a ticket.
-use Rattle.std.proofs.Common.{◌≡◌, ◌<◌, ◌≤◌, ℕ, true, false, Option, None, Some, slice_get, sym, ap, ◌∙◌, subst, true≢false}
-use Rattle.std.specs.Prelude.{Result, Ok, Err, OnErr}
+use Rattle.std.proofs.Common.{◌≡◌, ◌<◌, ◌≤◌, ℕ, true, false, Option, None, Some, sym, ap, ◌∙◌, subst, true≢false}
 use Rattle.std.proofs.lemmas.Option.{same_Some}
 use Rattle.mpx_post.specs.Posts.{Given}
 use Rattle.mpx_post.specs.Equality.{same_given, given_equality}
@@ -23,10 +22,6 @@ not_same x y o is differ e =
 
 none_no : (x : Given) (o : Option Given) → o ≡ None → o ≡ Some x → ⊥
 none_no x o is e = let f : None ≡ Some x = sym is ∙ e in absurd (cc f)
-
-pub on_err : {A E : Type 0} {P : Type 0} (r : Result A E) → P → OnErr r P
-on_err (Ok x) p = tt
-on_err (Err e) p = p
 
 module _ (port : PortView) (ticket : Ticket) (n : NodeView) (stood : Stood port.setup port.me port.journal) (here : n ≡ node_in port) where
   held_in : (o : Option Finished) → result_on n ticket.name ticket.call ≡ o → result_on (node_in port) ticket.name ticket.call ≡ o

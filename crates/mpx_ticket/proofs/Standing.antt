@@ -26,7 +26,7 @@ use Rattle.mpx_world.proofs.Truth.{told_agrees}
 use Rattle.mpx_world.proofs.Steps.{Good, board_so, minimum_below}
 use Rattle.mpx_world.proofs.Freed.{freed_harvested}
 use Rattle.mpx_world.proofs.Retention.{IsKeptOn, StoresOwn, retention}
-use Rattle.mpx_world.proofs.Opened.{are_members}
+use Rattle.mpx_world.proofs.Opened.{are_members, opened_where}
 use Rattle.mpx_world.proofs.Whole.{IsWell, well_by}
 use Rattle.mpx_bus.specs.declared.act.Act.{Act}
 use Rattle.mpx_bus.specs.declared.act.Setup.{Setup}
@@ -38,10 +38,6 @@ told_none : {A : Type 0} (v : FlatView A) → AgreesWithFact v None → told v �
 told_none unknown a = refl
 told_none (known x) a = cc a
 told_none clash a = absurd a
-
-opened_where : (o : Option OpenedView) → 0 < posted_by o → IsTrue (is_some o)
-opened_where None l = absurd (omega (arith, l))
-opened_where (Some o) l = refl
 
 pub within : {A : Type 0} (xs : List A) (k : ℕ) (x : A) → slice_get xs k ≡ Some x → k < length xs
 within [] k x e = absurd (cc e)

@@ -1,5 +1,5 @@
 //! Jobs of ranks in threads: how many there may be, a rank that returns before others post, one that gives up, ranks that ask again
-//! where memory was wanting, and what a relay hears.
+//! where memory was wanting, ranks that let results go, and what a relay hears.
 use mpx_board::Board;
 use mpx_comm::{Comm, Desk, Host, Request, WaitError};
 use mpx_group::Proc;
@@ -95,6 +95,29 @@ impl Program for Sums {
     }
 }
 
+// So many sums of all ranks, one behind the other. Each rank lets go what came before. It answers whether it has them all.
+#[derive(Drop)]
+struct LetsGo {
+    calls: u32,
+}
+
+impl Program for LetsGo {
+    type Answer = bool;
+
+    fn run<H: Host>(&self, alloc: Global, desk: &mut Desk<H>, world: &Comm, ops: &Ops) -> bool {
+        for _ in 0..self.calls {
+            let Some(request) = posted(alloc, desk, world, ops) else {
+                return false;
+            };
+            let waited = desk.wait_and_forget(alloc, request, TURNS, ops);
+            if waited.is_err() {
+                return false;
+            }
+        }
+        true
+    }
+}
+
 // Posts the rank's number to a sum, and once more where memory was wanting.
 fn posted<H: Host>(alloc: Global, desk: &mut Desk<H>, world: &Comm, ops: &Ops) -> Option<Request> {
     for _ in 0..2 {
@@ -121,7 +144,7 @@ fn sum_of<H: Host>(
         match desk.wait(alloc, request, turns, ops) {
             Ok(finished) => return numbers_of(&finished).ok()?.first().copied(),
             Err(WaitError::OutOfMemory(again)) => request = again,
-            Err(WaitError::StillWaiting(_) | WaitError::GaveUp(_)) => return None,
+            Err(_) => return None,
         }
     }
     None
@@ -136,7 +159,7 @@ fn hears_of_it<H: Host>(alloc: Global, desk: &mut Desk<H>, world: &Comm, ops: &O
         match desk.wait(alloc, request, u64::MAX, ops) {
             Err(WaitError::OutOfMemory(again)) => request = again,
             Err(WaitError::GaveUp(_)) => return true,
-            Ok(_) | Err(WaitError::StillWaiting(_)) => return false,
+            Ok(_) | Err(_) => return false,
         }
     }
     false
@@ -183,6 +206,22 @@ fn all_answer<R: Threads + Wait + Sync>(rt: &R, alloc: Global) -> Result<bool, R
         }
     }
     Ok(true)
+}
+
+// How many results three ranks have let go in the end, all together.
+fn count_let_go<R: Threads + Wait + Sync>(
+    rt: &R,
+    alloc: Global,
+    calls: u32,
+) -> Result<u32, RanksError> {
+    let ops = Ops::none(alloc);
+    let ran = ranks(rt, alloc, 3, 0, &LetsGo { calls }, &ops)?;
+    let world = Name::world(alloc);
+    let mut count: u32 = 0;
+    for node in ran.nodes.iter() {
+        count = count.saturating_add(node.forgotten(&world));
+    }
+    Ok(count)
 }
 
 // Whether a board has a post of a first call, or had one.
@@ -248,6 +287,13 @@ fn nobody_waits_for_one_that_gives_up(rt: HostRuntime) -> Result<(), Fail> {
 #[test]
 fn a_rank_that_gives_up_at_once_is_no_refused_thread(rt: HostRuntime) -> Result<(), Fail> {
     assert_eq!(rt; all_answer(&rt, rt.alloc()), Ok(true));
+    Ok(())
+}
+
+// Each rank has let go all results but the newest.
+#[test]
+fn ranks_let_results_go(rt: HostRuntime) -> Result<(), Fail> {
+    assert_eq!(rt; count_let_go(&rt, rt.alloc(), 20), Ok(57));
     Ok(())
 }
 

@@ -2,7 +2,7 @@
 use Rattle.std.specs.Prelude.{◌≡◌, ℕ, List, [], ◌∷◌, set, slice_get, Some, is_some, IsTrue}
 use Rattle.mpx_num.specs.declared.own.Operation.{Operation}
 use Rattle.mpx_node.specs.declared.node.Node.{Node}
-use Rattle.mpx_node.specs.Nodes.{NodeView, results_on}
+use Rattle.mpx_node.specs.Nodes.{NodeView, result_on}
 use Rattle.mpx_node.specs.Shown.{node_of}
 use Rattle.mpx_world.specs.Worlds.{Happening}
 use Rattle.mpx_world.specs.Networks.{EachAgrees, NetworkGoesOn, IsNetwork, Network, world_in}
@@ -22,9 +22,9 @@ StayOne ops left right new_left new_right = (hs : List Happening) → IsNetwork 
 abbrev pub Carries : (from old new : NodeView) → Type 0
 Carries from old new = (n : Network) → IsNetwork n → (p q : ℕ) → slice_get n.nodes p ≡ Some from → slice_get n.nodes q ≡ Some old → NetworkGoesOn n (set n.nodes q new) n.parts
 
--- the node has finished the first call on the world
+-- the node has the result of the first call on the world
 abbrev pub HasSum : Node → Type 0
-HasSum node = IsTrue (is_some (slice_get (results_on (node_of node) []) 0))
+HasSum node = IsTrue (is_some (result_on (node_of node) [] 0))
 
 -- the two are a network after some list of what can happen, and they agree: what both have finished of one call is of one row
 pub record AreOne (ops : List Operation) (left right : Node) : Type 0 where

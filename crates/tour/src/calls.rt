@@ -79,7 +79,7 @@ fn tested<H: Host>(
 {
     match desk.test(alloc, request, ops)? {
         Tested::Done(finished) => Ok(finished),
-        Tested::NotYet(_) => Err(Stop::NoAnswer),
+        Tested::NotYet(_) | Tested::LetGo(_) => Err(Stop::NoAnswer),
     }
 }
 

@@ -66,6 +66,14 @@ impl Host for Inbox {
         self.node.result(name, call)
     }
 
+    fn front(&self, name: &Name) -> u32 {
+        self.node.front(name)
+    }
+
+    fn forget(&mut self, name: &Name, below: u32) {
+        self.node.forget(name, below);
+    }
+
     fn board(&self) -> &Board {
         self.node.board()
     }

@@ -75,7 +75,9 @@ impl From<CallError> for Stop {
 impl<R: Drop> From<WaitError<R>> for Stop {
     fn from(error: WaitError<R>) -> Stop {
         match error {
-            WaitError::StillWaiting(_) | WaitError::GaveUp(_) => Stop::NoAnswer,
+            WaitError::StillWaiting(_) | WaitError::GaveUp(_) | WaitError::LetGo(_) => {
+                Stop::NoAnswer
+            }
             WaitError::OutOfMemory(_) => Stop::OutOfMemory,
         }
     }

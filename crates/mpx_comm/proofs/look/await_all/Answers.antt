@@ -3,6 +3,7 @@ use Rattle.std.proofs.lemmas.Result.{err_from_is_err_and}
 use Rattle.mpx_comm.specs.Requests.{AreResults, OneIsAtHand, OneIsPending}
 use Rattle.mpx_comm.proofs.Steps.{later_more, later_none}
 use Rattle.mpx_comm.proofs.Turns.{awaits_look, awaits_end, awaits_turn, awaits_none, gives_up_look, gives_up_turn}
+use Rattle.mpx_comm.proofs.Posting.{kept_later}
 use Rattle.mpx_comm.proofs.look.await_all.Goals as goal
 
 pub returns-in-Some-clause-found : goal.returns-in-Some-clause-found
@@ -58,3 +59,6 @@ returns-in_err-turn-clause-gave_up g c =
     let pending : OneIsPending (g.H.Host.node c.look_all.new.host) c.args.requests.now = rw c.in_default.is at c.in_ok-all.ensures.found in
     let p = err_from_is_err_and c.from_residual-in_err-turn.result c.from_residual-in_err-turn.ensures.1 in
     rw (p.1, p.2) (gives_up_turn g.H.Host.turned g.met.H.Host.turns_more g.H.Host.node (λ node. OneIsPending node c.args.requests.now) g.H.Host.turn_refused (λ node. OneIsAtHand node c.args.requests.now) _ c.args.host.now c.loop-all.host c.look_all.new.host c.turn.new.self c.args.turns c.loop-all.left c.loop-all.invariant.few some c.loop-all.invariant.awaited c.look_all.ensures.no_turn c.look_all.ensures.later pending c.in_err-turn.ensures.refused)
+
+pub look_all-requires : goal.look_all-requires
+look_all-requires g c = record { kept = kept_later (g.H.Host.node c.args.host.now) (g.H.Host.node c.loop-all.host) c.args.requests.now c.loop-all.invariant.later c.requires.kept }

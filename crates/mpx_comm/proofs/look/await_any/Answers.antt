@@ -1,10 +1,11 @@
-use Rattle.std.proofs.Common.{◌≡◌, ◌-◌, ◌<◌, inl, refl, arith}
+use Rattle.std.proofs.Common.{◌≡◌, ◌<◌, inl, refl, arith}
 use Rattle.std.proofs.lemmas.Result.{err_from_is_err_and}
 use Rattle.mpx_comm.specs.Any.{FindsAny, LooksAt, LooksInVain}
 use Rattle.mpx_comm.specs.Requests.{OneIsAtHand}
 use Rattle.mpx_comm.proofs.Any.{any_end, any_found, any_last, any_none, any_refused, any_turn}
 use Rattle.mpx_comm.proofs.Harvesting.{by_first}
 use Rattle.mpx_comm.proofs.Steps.{later_more, later_none}
+use Rattle.mpx_comm.proofs.Posting.{kept_later}
 use Rattle.mpx_comm.proofs.look.await_any.Goals as goal
 
 pub loop-found-init : goal.loop-found-init
@@ -69,3 +70,6 @@ loop-found-smaller g c = let some : 0 < c.loop-found.left = grind (arith, c.if-l
 
 pub overflow_sub-left : goal.overflow_sub-left
 overflow_sub-left g c = let some : 0 < c.loop-found.left = grind (arith, c.if-left-eq0.false) in omega (arith, some)
+
+pub look_any-requires : goal.look_any-requires
+look_any-requires g c = record { kept = kept_later (g.H.Host.node c.args.host.now) (g.H.Host.node c.loop-found.host) c.args.requests.now c.loop-found.invariant.later c.requires.kept }

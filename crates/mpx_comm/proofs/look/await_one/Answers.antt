@@ -1,4 +1,4 @@
-use Rattle.std.proofs.Common.{◌≡◌, ◌-◌, ◌<◌, Some, arith}
+use Rattle.std.proofs.Common.{◌≡◌, ◌-◌, ◌<◌, ◌∙◌, Some, arith}
 use Rattle.std.proofs.lemmas.Result.{err_from_is_err_and}
 use Rattle.mpx_comm.specs.Later.{IsAtHand, IsPending}
 use Rattle.mpx_comm.specs.Requests.{result_of}
@@ -59,3 +59,6 @@ returns-in_err-turn-clause-gave_up g c =
     let pending : IsPending (g.H.Host.node c.look.new.host) c.args.request.now.name c.args.request.now.call = rw c.in_default.is at c.in_ok-finished.ensures.found in
     let p = err_from_is_err_and c.from_residual-in_err-turn.result c.from_residual-in_err-turn.ensures.1 in
     rw (p.1, p.2) (gives_up_turn g.H.Host.turned g.met.H.Host.turns_more g.H.Host.node (λ node. IsPending node c.args.request.now.name c.args.request.now.call) g.H.Host.turn_refused (λ node. IsAtHand node c.args.request.now.name c.args.request.now.call) _ c.args.host.now c.loop-finished.host c.look.new.host c.turn.new.self c.args.turns c.loop-finished.left c.loop-finished.invariant.few some c.loop-finished.invariant.awaited c.look.ensures.no_turn c.look.ensures.later pending c.in_err-turn.ensures.refused)
+
+pub look-requires : goal.look-requires
+look-requires g c = record { kept = c.loop-finished.invariant.later.let_go c.args.request.now.name c.args.request.now.call ∙ c.requires.kept }

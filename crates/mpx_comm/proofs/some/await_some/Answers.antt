@@ -3,6 +3,7 @@ use Rattle.std.proofs.lemmas.Result.{err_from_is_err_and}
 use Rattle.mpx_comm.specs.Any.{LooksAt, PicksDone}
 use Rattle.mpx_comm.proofs.Any.{last_turned, some_last, some_wanting}
 use Rattle.mpx_comm.proofs.Harvesting.{by_first}
+use Rattle.mpx_comm.proofs.Posting.{kept_later}
 use Rattle.mpx_comm.proofs.Steps.{later_more}
 use Rattle.mpx_comm.proofs.some.await_some.Goals as goal
 
@@ -26,3 +27,6 @@ returns-in_ok-look_some-in-Some-clause-found g c =
     let turns = last_turned _ g.H.Host.node g.H.Host.turned g.met.H.Host.turns_more c.args.requests.now _ _ c.args.turns c.args.host.now c.await_any.new.host found in
     let on = by_first g.H.Host.goes_by c.args.host.now c.await_any.new.host _ (λ ops. LooksAt ops g.H.Host.node g.H.Host.turned c.await_any.new.host c.look_some.new.host × PicksDone ops (g.H.Host.node c.await_any.new.host) (g.H.Host.node c.look_some.new.host) c.args.requests.now c.in_ok-look_some-in-Some.field-0.items) (g.met.H.Host.stays_by _ _ turns.0 turns.1) (((c.look_some.ensures.no_turn, c.look_some.ensures.later), c.look_some.ensures.harvested), c.in_ok-look_some-in-Some.ensures.found) in
     some_last _ g.H.Host.node g.H.Host.turned g.met.H.Host.turns_more c.args.requests.now c.args.turns c.args.host.now c.await_any.new.host c.look_some.new.host _ _ c.in_ok-look_some-in-Some.field-0.items found on.0 on.1
+
+pub look_some-requires : goal.look_some-requires
+look_some-requires g c = record { kept = kept_later (g.H.Host.node c.args.host.now) (g.H.Host.node c.await_any.new.host) c.args.requests.now c.await_any.ensures.later c.requires.kept }

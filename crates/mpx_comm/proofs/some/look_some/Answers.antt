@@ -41,3 +41,8 @@ pub returns-in_err-add_if_done-clause-wanting : goal.returns-in_err-add_if_done-
 returns-in_err-add_if_done-clause-wanting g c =
     let at : slice_get c.args.requests.now c.loop-request.request-index ≡ Some c.request-item.result = slice_get_read _ _ c.loop-request.request-index _ refl c.loop-request-test.true c.request-item.is in
     if_err c.from_residual.result (OneIsAtHand (g.H.Host.node c.add_if_done.new.host) c.args.requests.now) (c.loop-request.request-index, c.request-item.result, at, c.in_err-add_if_done.ensures.wanting)
+
+pub add_if_done-requires : goal.add_if_done-requires
+add_if_done-requires g c =
+    let at : slice_get c.args.requests.now c.loop-request.request-index ≡ Some c.request-item.result = slice_get_read _ _ c.loop-request.request-index _ refl c.loop-request-test.true c.request-item.is in
+    record { kept = c.loop-request.invariant.later.let_go c.request-item.result.name c.request-item.result.call ∙ c.requires.kept c.loop-request.request-index c.request-item.result at }

@@ -4,7 +4,11 @@ use Rattle.mpx_ranks.specs.Members.{setup_of}
 use Rattle.mpx_ranks.proofs.job.ranks.Given as goal
 
 -- so many ranks, the operations that are lent, and no plan
-abbrev pub ghosts-run_by : goal.ghosts-run_by
-ghosts-run_by g a =
+abbrev pub ghosts-run_by-N-Named : goal.ghosts-run_by-N-Named
+ghosts-run_by-N-Named g a =
     let ops = (map (λ b. let o = (g.dyn-1.0.entry b.vtable).1 in operation_of (o.word_bytes b.value) (o.fits_type b.value) (o.combination b.value)) a.ops.now.list.items) in
     record { setup = setup_of ops a.ranks (a.ranks + a.relays) }
+
+-- a part for each thread
+abbrev pub ghosts-run_by-K-Ledger : goal.ghosts-run_by-K-Ledger
+ghosts-run_by-K-Ledger g a = record { name = a.blank.name; parts = a.blank.parts }

@@ -1,4 +1,4 @@
-use Rattle.std.proofs.Common.{◌∙◌, ap, map, string_bytes, subst, sym}
+use Rattle.std.proofs.Common.{◌∙◌, ap, map, string_bytes, subst}
 use Rattle.mpx_node.specs.Shown.{node_of}
 use Rattle.mpx_meaning.specs.Reports.{transcripts_of}
 use Rattle.mpx_meaning.specs.Transcripts.{text_upto}

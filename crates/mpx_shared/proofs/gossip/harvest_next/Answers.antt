@@ -1,6 +1,6 @@
 use Rattle.std.proofs.Common.{subst}
 use Rattle.mpx_node.specs.declared.node.Harvest.{Harvest}
-use Rattle.mpx_bus.proofs.Goes.{on_err}
+use Rattle.join_nest.proofs.Fronts.{on_err}
 use Rattle.mpx_shared.specs.Gossip.{PortHarvestsNext}
 use Rattle.mpx_shared.proofs.Gossiping.{harvests_one, is_done, next_harvested, wants_next}
 use Rattle.mpx_shared.proofs.gossip.harvest_next.Goals as goal

@@ -1,7 +1,7 @@
 use Rattle.std.proofs.Common.{◌∙◌, length, refl, sym, ap}
 use Rattle.std.proofs.lemmas.Option.{slice_get_read}
 use Rattle.mpx_bus.specs.declared.act.Setup.{Setup}
-use Rattle.mpx_bus.proofs.Goes.{on_err}
+use Rattle.join_nest.proofs.Fronts.{on_err}
 use Rattle.mpx_shared.proofs.Gossiping.{done_then, settled_more, settled_none}
 use Rattle.mpx_shared.proofs.gossip.settle_each.Goals as goal
 

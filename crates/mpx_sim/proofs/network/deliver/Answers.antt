@@ -1,8 +1,8 @@
-use Rattle.std.proofs.Common.{◌≡◌, get_or, inl, inr, length, map, sym, ap, ◌∙◌, Some, subst, arith}
+use Rattle.std.proofs.Common.{◌≡◌, get_or, inl, inr, map, sym, ap, ◌∙◌, Some, subst, arith}
 use Rattle.std.specs.Prelude.{slice_get}
 use Rattle.std.proofs.lemmas.Bool.{cases_eq}
 use Rattle.std.proofs.lemmas.List.{length-map}
-use Rattle.std.proofs.lemmas.Option.{same_Some, slice_get-get_or, slice_get_within}
+use Rattle.std.proofs.lemmas.Option.{same_Some, slice_get-get_or}
 use Rattle.mpx_post.proofs.Lists.{element}
 use Rattle.mpx_sim.specs.Running.{HasCome}
 use Rattle.mpx_sim.specs.Shown.{frame_of, frames_of, process_of}

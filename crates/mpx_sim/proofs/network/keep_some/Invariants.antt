@@ -1,4 +1,4 @@
-use Rattle.std.proofs.Common.{◌≡◌, map}
+use Rattle.std.proofs.Common.{map}
 use Rattle.std.specs.List.{All}
 use Rattle.mpx_sim.specs.Draws.{IsLater}
 use Rattle.mpx_sim.specs.Running.{IsAmong}

@@ -1,4 +1,4 @@
-use Rattle.std.proofs.Common.{◌≡◌, ◌++◌, ◌∷◌, [], map, ap, sym, ◌∙◌}
+use Rattle.std.proofs.Common.{◌++◌, map, ap, sym, ◌∙◌}
 use Rattle.std.proofs.lemmas.List.{append-nil, map_push}
 use Rattle.mpx_sim.specs.Shown.{frame_of, frames_of, schedule_of}
 use Rattle.mpx_sim.proofs.Sending.{drawn_of, is_lost_out, is_out}

@@ -1,7 +1,3 @@
-use Rattle.std.proofs.Common.{◌++◌, map, ap}
-use Rattle.mpx_sim.specs.declared.frame_under_way.FrameUnderWay.{FrameUnderWay}
-use Rattle.mpx_sim.specs.Shown.{frame_of, frames_of, schedule_of}
-use Rattle.mpx_sim.specs.Turns.{drawn_for, those_out}
 use Rattle.mpx_sim.proofs.Tried.{on_each_ok}
 use Rattle.mpx_sim.proofs.network.send_from.Goals as goal
 

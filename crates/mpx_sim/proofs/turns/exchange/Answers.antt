@@ -1,5 +1,5 @@
 use Rattle.std.proofs.Common.{◌≡◌, ◌<◌, ◌∙◌, ◌⊎◌, Bool, false, inl, inr, length, map, true, refl, sym, ap, subst, arith}
-use Rattle.std.specs.Prelude.{slice_get, ◌||◌}
+use Rattle.std.specs.Prelude.{◌||◌}
 use Rattle.std.proofs.lemmas.List.{length-map}
 use Rattle.std.proofs.lemmas.List.Sorted.{IsPermutation-sym}
 use Rattle.std.proofs.lemmas.Map.Views.{All-map-IsPermutation}
@@ -9,7 +9,7 @@ use Rattle.mpx_sim.specs.Turns.{Coming, IsListOf, joined}
 use Rattle.mpx_sim.specs.Draws.{ScheduleView}
 use Rattle.mpx_sim.specs.Running.{HaveCome, IsUnderWay}
 use Rattle.mpx_sim.proofs.Results.{left_at}
-use Rattle.mpx_sim.proofs.Running.{run_draws, run_mixed, run_same, run_says, run_scheduled}
+use Rattle.mpx_sim.proofs.Running.{run_draws, run_mixed, run_says, run_scheduled}
 use Rattle.mpx_sim.proofs.Sending.{run_out, same_loss}
 use Rattle.mpx_sim.proofs.SideBySide.{all_lists, ready_made, run_made}
 use Rattle.mpx_sim.proofs.Tried.{on_each_ok}

@@ -1,4 +1,4 @@
-use Rattle.std.proofs.Common.{◌≡◌, ◌<◌, ◌∙◌, ◌⊎◌, [], zero, inl, inr, map, refl, sym, ap, subst, arith}
+use Rattle.std.proofs.Common.{◌≡◌, ◌<◌, zero, inr, map, refl, sym, subst, arith}
 use Rattle.std.specs.List.{All}
 use Rattle.mpx_sim.specs.Shown.{frames_of, part_of, process_of, schedule_of}
 use Rattle.mpx_sim.specs.SideBySide.{all_taken}

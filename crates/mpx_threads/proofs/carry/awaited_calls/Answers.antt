@@ -1,9 +1,8 @@
 use Rattle.std.proofs.Common.{◌∙◌, Some, ap, sym}
-use Rattle.std.specs.Prelude.{slice_get}
 use Rattle.std.specs.Option.{option_copied, option_map}
 use Rattle.mpx_statement.specs.declared.statement.Statement.TheVariants.{Wait}
 use Rattle.mpx_threads.specs.ToldCalls.{place_of}
-use Rattle.mpx_threads.proofs.Calls.{none_awaited, one_awaited, requests_awaited}
+use Rattle.mpx_threads.proofs.Calls.{one_awaited, requests_awaited}
 use Rattle.mpx_at_once.proofs.Tasks.{where_ok}
 use Rattle.mpx_threads.proofs.carry.awaited_calls.Goals as goal
 

@@ -1,4 +1,4 @@
-use Rattle.std.proofs.Common.{[], ◌++◌, ◌∙◌, ◌∷◌, None, Some, ap, arith, inl, inr, refl, subst, sym}
+use Rattle.std.proofs.Common.{[], ◌++◌, ◌∙◌, ◌∷◌, None, ap, arith, inl, inr, refl, subst, sym}
 use Rattle.std.specs.Prelude.{◌≡◌, slice_get}
 use Rattle.std.specs.Option.{option_copied, option_map}
 use Rattle.std.proofs.lemmas.Bool.{cases_eq}

@@ -1,7 +1,7 @@
 use Rattle.std.proofs.Common.{◌∙◌, refl, subst, sym}
-use Rattle.mpx_comm.specs.Requests.{ArePosted}
+use Rattle.mpx_comm.specs.Requests.{AreKept, ArePosted}
 use Rattle.mpx_comm.proofs.Any.{closes_any}
-use Rattle.mpx_comm.proofs.Posting.{posted_removed, posted_later}
+use Rattle.mpx_comm.proofs.Posting.{kept_posted, posted_removed, posted_later}
 use Rattle.mpx_comm.proofs.desk.Desk.waitany.Goals as goal
 
 pub invariant_of-self-in-Ok-Some : goal.invariant_of-self-in-Ok-Some
@@ -22,3 +22,6 @@ returns-in-Ok-Some-clause-waits g c =
     let found = rw c.in-Ok-Some.field-0-is at c.in-Ok-Some.ensures.found in
     closes_any _ g.H.Host.node g.H.Host.turned g.met.H.Host.turns_more c.args.self.now.requests.keys c.args.turns c.args.self.now.host c.await_any.new.host c.in-Ok-Some.place c.unwrap-request.result c.in-Ok-Some.finished c.shift_remove_index.new.self.keys (sym c.shift_remove_index.ensures.key ∙ c.unwrap-request.ensures) c.shift_remove_index.ensures.keys
     (rw c.as_slice.ensures.keys at found)
+
+pub await_any-requires : goal.await_any-requires
+await_any-requires g c = record { kept = subst (AreKept (g.H.Host.node c.args.self.now.host)) (sym c.as_slice.ensures.keys) (kept_posted (g.H.Host.node c.args.self.now.host) c.args.self.now.requests.keys c.args.self.now.posted) }

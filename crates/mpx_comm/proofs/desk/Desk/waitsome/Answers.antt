@@ -1,7 +1,7 @@
 use Rattle.std.proofs.Common.{inr, map, refl, subst, sym}
-use Rattle.mpx_comm.specs.Requests.{ArePosted}
+use Rattle.mpx_comm.specs.Requests.{AreKept, ArePosted}
 use Rattle.mpx_comm.proofs.Any.{closes_done}
-use Rattle.mpx_comm.proofs.Posting.{posted_all_closed, posted_later}
+use Rattle.mpx_comm.proofs.Posting.{kept_posted, posted_all_closed, posted_later}
 use Rattle.mpx_comm.proofs.desk.Desk.waitsome.Goals as goal
 
 pub invariant_of-self-in-Ok-Some : goal.invariant_of-self-in-Ok-Some
@@ -22,3 +22,6 @@ returns-in-Ok-Some-clause-waits g c =
     let found = rw c.in-Ok-Some.field-0-is at c.in-Ok-Some.ensures.found in
     let some = rw c.as_slice.ensures.keys at found in
     inr (some.0, closes_done _ g.H.Host.node g.H.Host.turned g.met.H.Host.turns_more c.args.self.now.requests.keys c.args.turns c.args.self.now.host c.await_some.new.host c.in-Ok-Some.done.items c.close_done.new.set.keys (rw c.deref.ensures.value at c.close_done.ensures) some.1)
+
+pub await_some-requires : goal.await_some-requires
+await_some-requires g c = record { kept = subst (AreKept (g.H.Host.node c.args.self.now.host)) (sym c.as_slice.ensures.keys) (kept_posted (g.H.Host.node c.args.self.now.host) c.args.self.now.requests.keys c.args.self.now.posted) }

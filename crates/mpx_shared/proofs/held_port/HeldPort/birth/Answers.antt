@@ -1,7 +1,7 @@
 use Rattle.std.proofs.Common.{◌∙◌, ap, sym}
 use Rattle.mpx_board.specs.Boards.{Look, told}
 use Rattle.mpx_node.specs.Nodes.{NodeView}
-use Rattle.mpx_ticket.proofs.Answering.{on_err}
+use Rattle.join_nest.proofs.Fronts.{on_err}
 use Rattle.mpx_shared.proofs.LawfulPorts.{lawful_of}
 use Rattle.mpx_shared.proofs.held_port.HeldPort.birth.Goals as goal
 

@@ -1,4 +1,4 @@
-use Rattle.std.proofs.Common.{◌≡◌, ◌∙◌, [], false, map, true, ap, refl, sym, subst}
+use Rattle.std.proofs.Common.{◌≡◌, ◌∙◌, false, map, true, ap, refl, sym, subst}
 use Rattle.mpx_sim.specs.Shown.{frame_of, process_of}
 use Rattle.mpx_sim.specs.Turns.{IsListOf, Saying, no_list}
 use Rattle.mpx_sim.specs.Keeping.{keeps_node_itself}

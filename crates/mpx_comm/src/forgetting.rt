@@ -1,0 +1,105 @@
+//! Results that a desk lets go.
+ghost use Rattle.std.specs.Prelude.{◌≡◌};
+ghost use Rattle.std.specs.List.{list_any};
+ghost use Rattle.mpx_comm.specs.Forgetting.{AreUntouched, HostForgets, WaitsAndForgets, least_call};
+ghost use Rattle.mpx_comm.specs.Requests.{has_let_go};
+
+use crate::answers::{TurnError, WaitError};
+use crate::comm::Comm;
+use crate::desk::Desk;
+use crate::host::Host;
+use crate::look::await_one;
+use crate::request::Request;
+use mpx_name::Name;
+use mpx_node::Finished;
+use mpx_num::Ops;
+use std::alloc::Global;
+
+/// Letting results go.
+impl<H: Host> Desk<H> {
+    /// Lets the results on the communicator go that no open request is for: those of calls below the least open one there, or of all calls
+    /// where none is open. The newest stays in both cases. Their memory is free for what follows; the open requests and all else stay.
+    /// It makes no turn and takes no memory. Whoever hands in a request later whose result was let go is told so: [`Tested::LetGo`],
+    /// [`WaitError::LetGo`].
+    ///
+    /// [`Tested::LetGo`]: crate::Tested::LetGo
+    pub fn forget(&mut self, comm: &Comm)
+        ensures forgets { HostForgets H.node H.turned comm.now.name self.old.requests.keys self.old.host self.new.host }
+        ensures open { AreUntouched (H.node self.old.host) (H.node self.new.host) self.old.requests.keys }
+        ensures requests { self.new.requests.keys ≡ self.old.requests.keys }
+    {
+        self.forget_on(&comm.name)
+    }
+
+    /// Waits as [`Desk::wait`] does, and where that ends with the result, hands it over and lets go what [`Desk::forget`] does on its
+    /// communicator. So a loop of calls keeps one result of them. An `Err` lets nothing go.
+    pub fn wait_and_forget(
+        &mut self,
+        alloc: Global,
+        request: Request,
+        turns: u64,
+        ops: &Ops,
+    ) -> Result<Finished, WaitError<Request>>
+        ensures waits { WaitsAndForgets H.node H.turned H.turn_refused request turns result self.old.host self.new.host self.old.requests.keys self.new.requests.keys }
+    {
+        if was_let_go(&self.host, &request) {
+            return Err(WaitError::LetGo(request));
+        }
+        match await_one(alloc, &mut self.host, &request, turns, ops) {
+            Err(TurnError::OutOfMemory) => Err(WaitError::OutOfMemory(request)),
+            Err(TurnError::GaveUp) => Err(WaitError::GaveUp(request)),
+            Ok(None) => Err(WaitError::StillWaiting(request)),
+            Ok(Some(finished)) => {
+                self.requests.shift_remove(&request);
+                self.forget_on(&request.name);
+                drop(request);
+                Ok(finished)
+            }
+        }
+    }
+
+    // Lets go on the context what no open request is for.
+    fn forget_on(&mut self, name: &Name)
+        ensures forgets { HostForgets H.node H.turned name.now self.old.requests.keys self.old.host self.new.host }
+        ensures open { AreUntouched (H.node self.old.host) (H.node self.new.host) self.old.requests.keys }
+        ensures requests { self.new.requests.keys ≡ self.old.requests.keys }
+    {
+        let below = least_open(self.host.front(name), name, self.requests.as_slice());
+        self.host.forget(name, below);
+    }
+}
+
+// Whether the request's result was let go.
+pub fn was_let_go<H: Host>(host: &H, request: &Request) -> bool
+    ensures { result ≡ has_let_go (H.node host.now) request.now }
+{
+    match host.result(&request.name, request.call) {
+        Some(_) => false,
+        None => request.call < host.front(&request.name),
+    }
+}
+
+// Whether that of one of them was.
+pub fn one_was_let_go<H: Host>(host: &H, requests: &[Request]) -> bool
+    ensures { result ≡ list_any (has_let_go (H.node host.now)) requests.now }
+{
+    for request in requests {
+        if was_let_go(host, request) {
+            return true;
+        }
+    }
+    false
+}
+
+// The least call of the context among the requests, but at most this number.
+fn least_open(most: u32, name: &Name, requests: &[Request]) -> u32
+    ensures { result ≡ least_call most name.now requests.now }
+{
+    let mut least = most;
+    for request in requests {
+        if request.name == *name && request.call < least {
+            least = request.call;
+        }
+    }
+    least
+}
