@@ -21,7 +21,7 @@ use Rattle.mpx_run.specs.Founded.{IsFounded}
 use Rattle.mpx_run.specs.Reports.{IsPrinted}
 use Rattle.mpx_run.proofs.Less.{runs_printed}
 use Rattle.mpx_run.proofs.Pieces.{gated_prints, prints_ungated, refused_prints, runs_ungated, written_prints}
-use Rattle.mpx_program.proofs.Explaining.{found_tells}
+use Rattle.mpx_program.proofs.Telling.{found_tells}
 use Rattle.mpx_program.specs.Explained.{HasTold, IsFound}
 use Rattle.mpx_program.specs.Jobs.{AnswersText, DoesJobWith, Exits, ExplainsOn, FailsBefore, StrictBy, StrictOn, TellsRead}
 use Rattle.mpx_program.specs.Strict.{IsStrict}

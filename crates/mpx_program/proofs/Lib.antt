@@ -1,3 +1,3 @@
 mod Answering
-mod Explaining
+mod Telling
 mod Saying
