@@ -1,5 +1,5 @@
 -- What is told of what was found in a script.
-use Rattle.std.proofs.Common.{◌≡◌, ℕ, List, [], Result, Ok, Err, IfOk, inl, inr, subst}
+use Rattle.std.proofs.Common.{ℕ, List, [], Result, Ok, Err, IfOk, inl, inr, subst}
 use Rattle.mpx_num.specs.declared.own.Operation.{Operation}
 use Rattle.mpx_statement.specs.declared.job.Command.{Command}
 use Rattle.mpx_statement.specs.declared.job.Command.TheVariants.{Run, Eval, Check}

@@ -2,7 +2,7 @@
 use Rattle.std.specs.Prelude.{◌≡◌, ◌⊎◌, ℕ, List, [], ◌++◌, codes, map, Result, IfOk}
 use Rattle.mpx_num.specs.declared.own.Operation.{Operation}
 use Rattle.mpx_statement.specs.declared.job.Command.{Command}
-use Rattle.mpx_statement.specs.declared.job.Command.TheVariants.{Run, Eval, Check}
+use Rattle.mpx_statement.specs.declared.job.Command.TheVariants.{Check}
 use Rattle.mpx_statement.specs.declared.statement.Statement.{Statement}
 use Rattle.mpx_script.specs.ScriptView.{ScriptView}
 use Rattle.mpx_meaning.specs.Evaluation.{State, IsEvaluation}
