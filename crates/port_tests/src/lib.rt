@@ -3,22 +3,10 @@
 #![tactic(auto)]
 
 #[cfg(test)]
-mod fleets;
-#[cfg(test)]
 mod port_fleets;
-#[cfg(test)]
-mod port_pairs;
-#[cfg(test)]
-mod port_rooms;
-#[cfg(test)]
-mod port_threads;
 #[cfg(test)]
 mod ports;
 #[cfg(test)]
 mod shared_pairs;
-#[cfg(test)]
-mod shared_ports;
-#[cfg(test)]
-mod shared_threads;
 #[cfg(test)]
 mod tests;

@@ -1,177 +1,150 @@
-//! Eight ports on a queue with room for one frame, and on one with room for 256. A frame that comes back is pushed on later, and each that a
-//! port pops in its turn goes in three times more. Results are the same.
-ghost use Rattle.std.specs.Prelude.{◌≡◌, ◌<◌, ◌≤◌, All, []};
-ghost use Rattle.mpx_bus.specs.Ports.{CanPush, PortGoesOn, IsSamePort};
-ghost use Rattle.port_tests.specs.Homes.{IsHome, eight};
+//! What all ports of a bus do in turn, and two of them in a thread each.
+ghost use Rattle.std.specs.Prelude.{◌≡◌, ◌<◌, ◌≤◌, All, [], false, map};
+ghost use Rattle.mpx_num.specs.Own.{operation_of};
+ghost use Rattle.mpx_bus.specs.Ports.{IsSamePort};
+ghost use Rattle.mpx_bus.specs.Buses.{table_of};
+ghost use Rattle.port_tests.specs.Homes.{IsHome};
 
-use crate::ports::{LIMIT, harvests, posts, sum_at};
-use mpx_bus::{Bus, Frame, Pop, Port, Push};
+use crate::ports::{Act, LIMIT, does, harvests};
+use mpx_bus::{Bus, Port};
 use mpx_num::{Listing, Ops};
 use std::alloc::Global;
 use std::marker::Brand;
 use std::sync::Wait;
 use std::test::Fail;
+use std::thread::{Threads, join, yield_now};
 
-// The frame goes in; where there is no room, once the port has popped another.
-fn pushes<R: Wait>(rt: &R, alloc: Global, bus: &Bus, port: &mut Port, frame: Frame) -> bool
-    requires home { IsHome bus.now eight port.old }
-    requires frame { CanPush port.old frame }
-    ensures { PortGoesOn port.old port.new }
-{
-    let Push::Full(frame) = bus.push_on(rt, port, frame) else {
-        return true;
-    };
-    let took = matches!(bus.pop(rt, alloc, port), Pop::Took(_));
-    let pushed = matches!(bus.push_on(rt, port, frame), Push::Pushed);
-    took & pushed
-}
+// How many ranks there are, and for how many frames the bus has room; what all ports do in their order, each so many times; and for how many
+// turns at most the last two then work, in a thread each.
+pub type Fleet = (u8, usize, &'static [(u32, Act)], u32);
 
-// The frame goes in three times, twice by copies.
-fn pushes_thrice<R: Wait>(
+// Whether each port does that.
+fn all_do<R: Wait>(
     rt: &R,
     alloc: Global,
     bus: &Bus,
-    port: &mut Port,
-    frame: Frame,
-) -> Result<bool, Fail>
-    requires home { IsHome bus.now eight port.old }
-    requires frame { CanPush port.old frame }
-    ensures { PortGoesOn port.old port.new }
-{
-    let first = frame.copy()?;
-    let second = frame.copy()?;
-    let once = pushes(rt, alloc, bus, port, first);
-    let twice = pushes(rt, alloc, bus, port, second);
-    let thrice = pushes(rt, alloc, bus, port, frame);
-    Ok(once & twice & thrice)
-}
-
-// The port pops a frame, where there is one, and pushes it on three times.
-fn pops_and_pushes<R: Wait>(rt: &R, alloc: Global, bus: &Bus, port: &mut Port) -> Result<bool, Fail>
-    requires home { IsHome bus.now eight port.old }
-    ensures { IsSamePort port.old port.new }
-{
-    let Pop::Took(frame) = bus.pop(rt, alloc, port) else {
-        return Ok(true);
-    };
-    pushes_thrice(rt, alloc, bus, port, frame)
-}
-
-// The port's next own frame goes in.
-fn pushes_own<R: Wait>(rt: &R, alloc: Global, bus: &Bus, port: &mut Port) -> Result<bool, Fail>
-    requires home { IsHome bus.now eight port.old }
-    ensures { IsSamePort port.old port.new }
-{
-    match bus.push_own(rt, alloc, port, LIMIT)? {
-        Push::Pushed => Ok(true),
-        Push::Full(frame) => Ok(pushes(rt, alloc, bus, port, frame)),
-    }
-}
-
-// A turn of a port.
-fn turn<R: Wait>(rt: &R, alloc: Global, bus: &Bus, port: &mut Port) -> Result<bool, Fail>
-    requires home { IsHome bus.now eight port.old }
-    ensures { IsSamePort port.old port.new }
-{
-    let popped = pops_and_pushes(rt, alloc, bus, port)?;
-    let own = pushes_own(rt, alloc, bus, port)?;
-    let next = pushes_own(rt, alloc, bus, port)?;
-    Ok(popped && own && next)
-}
-
-// So many turns of each port in order.
-fn turns<R: Wait>(
-    rt: &R,
-    alloc: Global,
-    bus: &Bus,
+    ranks: u8,
     ports: &mut [Port],
-    count: u32,
+    act: Act,
+    ops: &Ops,
 ) -> Result<bool, Fail>
-    requires { All (IsHome bus.now eight) ports.old }
-    ensures { All (IsHome bus.now eight) ports.new }
+    requires list { ⟦<Ops as Listing>⟧.operations ops.now ≡ [] }
+    requires homes { All (IsHome bus.now ranks) ports.old }
+    ensures { All (IsHome bus.now ranks) ports.new }
+{
+    let mut all = ports.len() == ranks as usize;
+    for i in 0..ports.len() {
+        all = does(rt, alloc, bus, &mut ports[i], i as i128, act, ops)? && all;
+    }
+    Ok(all)
+}
+
+// Whether all do all of that.
+fn go_on<R: Wait>(
+    rt: &R,
+    alloc: Global,
+    bus: &Bus,
+    ranks: u8,
+    ports: &mut [Port],
+    acts: &[(u32, Act)],
+    ops: &Ops,
+) -> Result<bool, Fail>
+    requires list { ⟦<Ops as Listing>⟧.operations ops.now ≡ [] }
+    requires homes { All (IsHome bus.now ranks) ports.old }
+    ensures { All (IsHome bus.now ranks) ports.new }
 {
     let mut all = true;
-    for _ in 0..count {
-        for i in 0..ports.len() {
-            all = turn(rt, alloc, bus, &mut ports[i])? && all;
+    for step in acts {
+        for _ in 0..step.0 {
+            all = all_do(rt, alloc, bus, ranks, ports, step.1, ops)? && all;
         }
     }
     Ok(all)
 }
 
-// Each port posts its number.
-fn post_all(alloc: Global, bus: &Bus, ports: &mut [Port], ops: &Ops) -> Result<bool, Fail>
-    requires list { ⟦<Ops as Listing>⟧.operations ops.now ≡ [] }
-    requires homes { All (IsHome bus.now eight) ports.old }
-    ensures { All (IsHome bus.now eight) ports.new }
+// Pushes, pops and harvests until the sum is done, and pushes once more, so that the other gets on.
+fn work<R: Wait>(rt: &R, alloc: Global, bus: &Bus, mut port: Port, turns: u32, ops: &Ops) -> Port
+    requires list { ⟦<Ops as Listing>⟧.operations ops.now ≡ port.setup.operations }
+    requires queue { port.table ≡ table_of bus.now }
+    requires plan { port.setup.planned ≡ false }
+    ensures { IsSamePort port result }
 {
-    let _ = bus;
-    let mut all = true;
-    for i in 0..ports.len() {
-        all = posts(alloc, &mut ports[i], i as i128, ops)? && all;
-    }
-    Ok(all)
-}
-
-// How many ports have the whole sum.
-fn harvest_all(alloc: Global, bus: &Bus, ports: &mut [Port], ops: &Ops) -> Result<usize, Fail>
-    requires list { ⟦<Ops as Listing>⟧.operations ops.now ≡ [] }
-    requires homes { All (IsHome bus.now eight) ports.old }
-    ensures { All (IsHome bus.now eight) ports.new }
-{
-    let _ = bus;
-    let mut sums: usize = 0;
-    for i in 0..ports.len() {
-        harvests(alloc, &mut ports[i], ops)?;
-        if sum_at(alloc, &ports[i]) == Some(28) {
-            sums = sums.wrapping_add(1);
+    for _ in 0..turns {
+        let _ = bus.push_own(rt, alloc, &mut port, LIMIT);
+        let _ = bus.pop(rt, alloc, &mut port);
+        if matches!(harvests(alloc, &mut port, ops), Ok(true)) {
+            let _ = bus.push_own(rt, alloc, &mut port, LIMIT);
+            return port;
         }
+        yield_now();
     }
-    Ok(sums)
+    port
 }
 
-// How many instances the last two ports have both finished.
-fn meet_last(bus: &Bus, mut ports: Vec<Port>) -> Option<u64>
-    requires { All (IsHome bus.now eight) ports.items }
+// Two ports work in a thread each, and then meet. How many instances both have finished.
+fn work_and_meet<R: Threads + Wait + Sync>(
+    rt: &R,
+    alloc: Global,
+    bus: &Bus,
+    first: Port,
+    second: Port,
+    turns: u32,
+    ops: &Ops,
+) -> u64
+    requires list { ⟦<Ops as Listing>⟧.operations ops.now ≡ first.setup.operations }
+    requires first { (first.table ≡ table_of bus.now) × (first.setup.planned ≡ false) }
+    requires second { (second.table ≡ table_of bus.now) × (second.setup.planned ≡ false) }
+    requires setup { second.setup ≡ first.setup }
 {
+    let (first, second) = join(
+        rt,
+        move || -> Port
+            requires { (first.table ≡ table_of bus.now) × ((first.setup.planned ≡ false) × (map (λ b. operation_of (word_bytes (b.vtable, b.value)) (fits_type (b.vtable, b.value)) (combination (b.vtable, b.value))) ops.now.list.items ≡ first.setup.operations)) }
+            ensures { IsSamePort first result }
+        { work(rt, alloc, bus, first, turns, ops) },
+        move || -> Port
+            requires { (second.table ≡ table_of bus.now) × ((second.setup.planned ≡ false) × (map (λ b. operation_of (word_bytes (b.vtable, b.value)) (fits_type (b.vtable, b.value)) (combination (b.vtable, b.value))) ops.now.list.items ≡ second.setup.operations)) }
+            ensures { IsSamePort second result }
+        { work(rt, alloc, bus, second, turns, ops) },
+    );
+    bus.meet(first, second).both
+}
+
+// The same of the last two ports.
+fn last_two_meet<R: Threads + Wait + Sync>(
+    rt: &R,
+    alloc: Global,
+    bus: &Bus,
+    ranks: u8,
+    mut ports: Vec<Port>,
+    turns: u32,
+    ops: &Ops,
+) -> Option<u64>
+    requires list { ⟦<Ops as Listing>⟧.operations ops.now ≡ [] }
+    requires homes { All (IsHome bus.now ranks) ports.items }
+{
+    let _ = ranks;
     let second = ports.pop()?;
     let first = ports.pop()?;
-    Some(bus.meet(first, second).both)
+    Some(work_and_meet(rt, alloc, bus, first, second, turns, ops))
 }
 
-// How many of eight ports get the sum, once they have posted their numbers and made turns.
-fn sum_up<R: Wait>(
+/// How many instances two ports of a new bus have both finished in the end, where all did all that they were to do.
+pub fn both_finish<R: Threads + Wait + Sync>(
     rt: &R,
     alloc: Global,
-    bus: &Bus,
-    ports: &mut [Port],
+    fleet: Fleet,
     ops: &Ops,
-) -> Result<usize, Fail>
+) -> Result<Option<u64>, Fail>
     requires list { ⟦<Ops as Listing>⟧.operations ops.now ≡ [] }
-    requires homes { All (IsHome bus.now eight) ports.old }
-    ensures { All (IsHome bus.now eight) ports.new }
 {
-    let posted = post_all(alloc, bus, ports, ops)?;
-    let turned = turns(rt, alloc, bus, ports, 100)?;
-    if !posted || !turned {
-        return Err(Fail::from("a turn failed"));
+    let (ranks, room, acts, turns) = fleet;
+    if ranks == 0 || ranks > 64 || room == 0 || room > 65_536 {
+        return Err(Fail::from("no bus"));
     }
-    harvest_all(alloc, bus, ports, ops)
-}
-
-// The same on a new bus, and how many instances two of the ports have finished.
-pub fn all_results<R: Wait>(
-    rt: &R,
-    alloc: Global,
-    room: usize,
-    ops: &Ops,
-) -> Result<(usize, u64), Fail>
-    requires list { ⟦<Ops as Listing>⟧.operations ops.now ≡ [] }
-    requires some { 0 < room }
-    requires most { room ≤ 65536 }
-{
-    let (bus, mut ports) = Bus::new::<Brand>(alloc, room, 8, 8)?;
-    let sums = sum_up(rt, alloc, &bus, ports.as_mut_slice(), ops)?;
-    let both = meet_last(&bus, ports).ok_or("no ports")?;
-    Ok((sums, both))
+    let (bus, mut ports) = Bus::new::<Brand>(alloc, room, ranks, ranks)?;
+    let did = go_on(rt, alloc, &bus, ranks, ports.as_mut_slice(), acts, ops);
+    let both = last_two_meet(rt, alloc, &bus, ranks, ports, turns, ops);
+    drop(bus);
+    if did? { Ok(both) } else { Ok(None) }
 }

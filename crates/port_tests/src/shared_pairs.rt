@@ -1,16 +1,16 @@
-//! Two shared ports at one bus.
-ghost use Rattle.std.specs.Prelude.{◌≡◌, ◌<◌, false, length};
+//! Two ports under locks at one bus.
+ghost use Rattle.std.specs.Prelude.{◌≡◌, ◌<◌, false, length, [], IfOk};
 ghost use Rattle.mpx_bus.specs.Buses.{table_of};
 ghost use Rattle.mpx_shared.specs.LawfulPorts.{IsLawful, made_in};
+ghost use Rattle.port_tests.specs.Fresh.{ArePair};
 
-use crate::fleets::two_ports;
 use crate::ports::sum_in;
-use crate::shared_ports::{Shared, post, share};
 use join_core::Exact;
 use mpx_bus::{Bus, Port};
+use mpx_group::Proc;
 use mpx_name::Name;
 use mpx_num::{Listing, Ops};
-use mpx_shared::{PortLock, SharedPort, Ticket, TicketTested};
+use mpx_shared::{PortLock, Poster, SharedPort, Ticket, TicketTested};
 use std::alloc::Global;
 use std::marker::Brand;
 use std::sync::Wait;
@@ -18,56 +18,23 @@ use std::sync::ledger::Blank;
 use std::test::Fail;
 use test_drafts::a_sum;
 
-// The sum that the ticket's call gave beside the ticket's post, where that is told.
-fn told<L: PortLock, R: Wait>(
-    rt: &R,
-    alloc: Global,
-    port: &SharedPort<L>,
-    ticket: &Ticket,
-) -> Result<Option<i128>, Fail> {
-    let TicketTested::Done(finished) = port.test(rt, alloc, ticket)? else {
-        return Ok(None);
-    };
-    if !finished.mine.same(&ticket.post) {
-        return Err(Fail::from("another post"));
-    }
-    Ok(sum_in(&finished))
+// A shared port, and the right to post on it.
+#[derive(Drop)]
+struct Shared<L: PortLock> {
+    port: SharedPort<L>,
+    poster: Poster<L>,
 }
 
-// Whether the port has no such post as the ticket's.
-fn is_strange<L: PortLock, R: Wait>(
-    rt: &R,
-    alloc: Global,
-    port: &SharedPort<L>,
-    ticket: &Ticket,
-) -> Result<bool, Fail> {
-    Ok(matches!(port.test(rt, alloc, ticket)?, TicketTested::Strange))
-}
-
-// Both gossip in turn, until both are told the sum. A ticket of the first is strange to the second.
-fn gossip_on<M: PortLock, N: PortLock, R: Wait>(
-    rt: &R,
-    alloc: Global,
-    bus: &Bus,
-    first: (&SharedPort<M>, &Ticket),
-    second: (&SharedPort<N>, &Ticket),
-    ops: &Ops,
-) -> Result<bool, Fail>
-    requires list { (⟦<Ops as Listing>⟧.operations ops.now ≡ M.setup.operations) × (⟦<Ops as Listing>⟧.operations ops.now ≡ N.setup.operations) }
-    requires first { table_of bus.now ≡ M.table }
-    requires second { table_of bus.now ≡ N.table }
+// Puts the new port of this process under a lock.
+fn share<L: PortLock>(alloc: Global, port: Port, me: u8, blank: Blank) -> Shared<L>
+    requires ledger { (blank.name ≡ L.name) × ((blank.parts ≡ L.parts) × (L.all ≡ L.parts)) }
+    requires me { (me < 64) × (me ≡ L.me) }
+    requires port { IsLawful L.table L.setup L.me port }
+    requires opening { port.journal ≡ L.opening }
+    requires count { length (made_in port) ≡ L.before }
 {
-    let strange = is_strange(rt, alloc, second.0, first.1)?;
-    for _ in 0..20 {
-        first.0.gossip(rt, alloc, bus, 10, ops)?;
-        second.0.gossip(rt, alloc, bus, 10, ops)?;
-        let one = told(rt, alloc, first.0, first.1)?;
-        let two = told(rt, alloc, second.0, second.1)?;
-        if one.is_some() && two.is_some() {
-            return Ok(strange && one == Some(15) && two == Some(15));
-        }
-    }
-    Ok(false)
+    let (port, poster) = SharedPort::<L>::new(alloc, port, Proc::new(me), blank);
+    Shared { port, poster }
 }
 
 // The port posts its number to the next sum of all.
@@ -82,16 +49,64 @@ fn post_sum<L: PortLock, R: Wait>(
     requires ledger { (L.all ≡ L.parts) × (0 < L.parts) }
     requires plan { L.setup.planned ≡ false }
 {
-    let (world, drafted) = (Name::world(alloc), a_sum(alloc, number)?);
-    Ok(post(
-        rt,
-        alloc,
-        &shared.port,
-        &mut shared.poster,
-        &world,
-        drafted,
-        ops,
-    )?)
+    let draft = a_sum(alloc, number)?;
+    let poster = &mut shared.poster;
+    Ok(
+        shared
+            .port
+            .post(rt, alloc, poster, &Name::world(alloc), draft, ops)?,
+    )
+}
+
+// Whether there is no such post, and else the sum that the call gave beside the ticket's post, where that is told.
+fn told_in(tested: &TicketTested, ticket: &Ticket) -> (bool, Option<i128>) {
+    match tested {
+        TicketTested::Strange => (true, None),
+        TicketTested::Done(finished) => {
+            if finished.mine.same(&ticket.post) {
+                (false, sum_in(finished))
+            } else {
+                (false, None)
+            }
+        }
+        _ => (false, None),
+    }
+}
+
+// What the port tells of the ticket.
+fn told<L: PortLock, R: Wait>(
+    rt: &R,
+    alloc: Global,
+    port: &SharedPort<L>,
+    ticket: &Ticket,
+) -> Result<(bool, Option<i128>), Fail> {
+    let tested = port.test(rt, alloc, ticket)?;
+    let told = told_in(&tested, ticket);
+    drop(tested);
+    Ok(told)
+}
+
+// Both gossip in turn. Whether both are told the sum then, and a ticket of the first is strange to the second.
+fn gossip_on<M: PortLock, N: PortLock, R: Wait>(
+    rt: &R,
+    alloc: Global,
+    bus: &Bus,
+    first: (&SharedPort<M>, &Ticket),
+    second: (&SharedPort<N>, &Ticket),
+    ops: &Ops,
+) -> Result<bool, Fail>
+    requires list { (⟦<Ops as Listing>⟧.operations ops.now ≡ M.setup.operations) × (⟦<Ops as Listing>⟧.operations ops.now ≡ N.setup.operations) }
+    requires first { table_of bus.now ≡ M.table }
+    requires second { table_of bus.now ≡ N.table }
+{
+    for _ in 0..20 {
+        first.0.gossip(rt, alloc, bus, 10, ops)?;
+        second.0.gossip(rt, alloc, bus, 10, ops)?;
+    }
+    let one = told(rt, alloc, first.0, first.1)?;
+    let two = told(rt, alloc, second.0, second.1)?;
+    let other = told(rt, alloc, second.0, first.1)?;
+    Ok(one == (false, Some(15)) && two == one && other == (true, None))
 }
 
 // Both post a number. Whether both are told the sum.
@@ -154,9 +169,25 @@ fn share_two<M: PortLock, N: PortLock, R: Wait>(
     sum_up(rt, alloc, bus, &mut first, &mut second, ops)
 }
 
-// Whether the two ports of a new bus are told the sum of 7 and 8, and a ticket of one is strange to the other.
-pub fn meet<R: Wait>(rt: &R, alloc: Global, ops: &Ops) -> Result<bool, Fail> {
-    let (bus, first, second) = two_ports(alloc, 16, ops)?;
+// A bus of two ranks, and its ports.
+fn two_ports(alloc: Global) -> Result<(Bus, Port, Port), Fail>
+    ensures { IfOk result (λ r. ArePair [] (table_of r.0) r.1 r.2) }
+{
+    let (bus, mut ports) = Bus::new::<Brand>(alloc, 16, 2, 2)?;
+    let Some(second) = ports.pop() else {
+        return Err(Fail::from("no port"));
+    };
+    let Some(first) = ports.pop() else {
+        return Err(Fail::from("no port"));
+    };
+    Ok((bus, first, second))
+}
+
+/// Whether the two ports of a new bus are told the sum of 7 and 8, and a ticket of one is strange to the other.
+pub fn meet<R: Wait>(rt: &R, alloc: Global, ops: &Ops) -> Result<bool, Fail>
+    requires list { ⟦<Ops as Listing>⟧.operations ops.now ≡ [] }
+{
+    let (bus, first, second) = two_ports(alloc)?;
     let first = (first, Blank::new(1));
     let second = (second, Blank::new(1));
     share_two::<Brand, Brand, R>(rt, alloc, &bus, first, second, ops)

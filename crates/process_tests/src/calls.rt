@@ -1,5 +1,5 @@
 //! Each call by its name, blocking and nonblocking, by the only rank of a communicator that has an edge to itself.
-use mpx_comm::{AskError, CallError, Comm, Desk, Relation, Request};
+use mpx_comm::{AskError, CallError, Comm, Desk, Relation, Request, integer_of, integers_of};
 use mpx_group::{Proc, Rank};
 use mpx_kind::{Exchange, Kind, Neighbourhood, NewCommunicator, Reduction};
 use mpx_node::{Finished, Node};
@@ -7,11 +7,10 @@ use mpx_num::{Numbers, Op, Ops, Ty};
 use mpx_post::{DraftedEdge, DraftedNeighbour, PostError};
 use mpx_value::Outcome;
 use std::alloc::Global;
-use std::process::Abort;
 use std::test::Fail;
 use test_drafts::{draft, just, kinds};
 
-const KINDS: [Kind; 20] = [
+const KINDS: [Kind; 21] = [
     kinds::BARRIER,
     kinds::BCAST,
     kinds::GATHER,
@@ -32,16 +31,16 @@ const KINDS: [Kind; 20] = [
     kinds::NEIGHBOR_ALLGATHERV,
     kinds::NEIGHBOR_ALLTOALL,
     kinds::NEIGHBOR_ALLTOALLV,
+    kinds::CREATE_GROUP,
 ];
 
 // The kinds that only block. Behind the last one the communicator is closed.
-const BLOCKING: [Kind; 7] = [
+const BLOCKING: [Kind; 6] = [
     kinds::DIST_GRAPH,
     kinds::DIST_GRAPH_ADJACENT,
     kinds::DUP,
     kinds::SPLIT,
     kinds::CREATE,
-    kinds::CREATE_GROUP,
     Kind::Free,
 ];
 
@@ -255,7 +254,7 @@ fn start_call(
         Kind::Exchange(kind) => start_exchange(alloc, desk, comm, kind, ops),
         Kind::Reduction(kind) => start_reduction(alloc, desk, comm, kind, ops),
         Kind::Neighbourhood(kind) => start_along_edges(alloc, desk, comm, kind, ops),
-        _ => start_gathered(alloc, desk, comm, ops),
+        _ => desk.start_create_group(alloc, comm, 5, &[0], ops),
     }
 }
 
@@ -267,10 +266,12 @@ fn start_gathered(
     ops: &Ops,
 ) -> Result<Request, PostError> {
     let gathering = desk.open_gathering(alloc, comm, 4, &[0])?;
-    match draft(alloc, &just(kinds::CREATE_GROUP)) {
+    let request = match draft(alloc, &just(kinds::CREATE_GROUP)) {
         Ok(draft) => desk.post_gathered(alloc, &gathering, draft, ops),
         Err(_) => Err(PostError::OutOfMemory),
-    }
+    };
+    drop(gathering);
+    request
 }
 
 // Whether the call gave just the item; a barrier and a free give nothing, nothing is below rank 0, and the others make a communicator of
@@ -289,11 +290,13 @@ fn is_right(kind: Kind, finished: &Finished) -> bool {
     }
 }
 
-fn gives(kind: Kind, answer: Result<Finished, CallError>) -> bool {
-    match answer {
-        Ok(finished) => is_right(kind, &finished),
+fn gives<E: Drop>(kind: Kind, answer: Result<Finished, E>) -> bool {
+    let is_so = match &answer {
+        Ok(finished) => is_right(kind, finished),
         Err(_) => false,
-    }
+    };
+    drop(answer);
+    is_so
 }
 
 // Whether the request does, without a turn.
@@ -304,80 +307,147 @@ fn gives_later(
     answer: Result<Request, PostError>,
     ops: &Ops,
 ) -> bool {
-    let Ok(request) = answer else {
-        return false;
-    };
-    match desk.wait(alloc, request, 0, ops) {
-        Ok(finished) => is_right(kind, &finished),
+    match answer {
+        Ok(request) => gives(kind, desk.wait(alloc, request, 0, ops)),
         Err(_) => false,
     }
 }
 
 // The communicator of a call.
 fn made(alloc: Global, answer: Result<Finished, CallError>) -> Option<Comm> {
-    match answer {
-        Ok(finished) => Comm::of(alloc, &finished).ok()?,
-        Err(_) => None,
-    }
+    let made = match &answer {
+        Ok(finished) => Comm::of(alloc, finished),
+        Err(_) => Ok(None),
+    };
+    drop(answer);
+    made.ok()?
 }
 
 // One by any edges, and then one by the own neighbours.
-fn with_edges(alloc: Global, desk: &mut Desk<Node>, ops: &Ops) -> Option<Comm> {
-    let general = made(alloc, of_edges(alloc, desk, &Comm::world(alloc, 1, 0), ops))?;
-    made(alloc, of_neighbours(alloc, desk, &general, ops))
+fn with_edges(alloc: Global, desk: &mut Desk<Node>, world: &Comm, ops: &Ops) -> Option<Comm> {
+    let general = made(alloc, of_edges(alloc, desk, world, ops))?;
+    let near = of_neighbours(alloc, desk, &general, ops);
+    drop(general);
+    made(alloc, near)
 }
 
-fn all_calls(rt: &impl Abort, alloc: Global, desk: &mut Desk<Node>, comm: &Comm, ops: &Ops) {
+// Whether a call of the kind gives what it should, blocking and nonblocking.
+fn both_give(alloc: Global, desk: &mut Desk<Node>, comm: &Comm, kind: Kind, ops: &Ops) -> bool {
+    let called = gives(kind, make_call(alloc, desk, comm, kind, ops));
+    let started = start_call(alloc, desk, comm, kind, ops);
+    called & gives_later(alloc, desk, kind, started, ops)
+}
+
+// The first kind whose calls don't, if there is one.
+fn first_wrong(alloc: Global, desk: &mut Desk<Node>, comm: &Comm, ops: &Ops) -> Option<Kind> {
     for kind in KINDS {
-        let called = gives(kind, make_call(alloc, desk, comm, kind, ops));
-        let started = start_call(alloc, desk, comm, kind, ops);
-        assert!(rt;
-            called & gives_later(alloc, desk, kind, started, ops),
-            "{kind:?}"
-        );
+        if !both_give(alloc, desk, comm, kind, ops) {
+            return Some(kind);
+        }
     }
-    let started = start_call(alloc, desk, comm, kinds::CREATE_GROUP, ops);
-    let gathered = gives_later(alloc, desk, kinds::CREATE_GROUP, started, ops);
-    assert!(rt; gathered, "posted on a gathering");
     for kind in BLOCKING {
-        let called = gives(kind, make_call(alloc, desk, comm, kind, ops));
-        assert!(rt; called, "{kind:?}");
+        if !gives(kind, make_call(alloc, desk, comm, kind, ops)) {
+            return Some(kind);
+        }
     }
+    None
+}
+
+// Whether the item is given as integers of a type, in a list and alone.
+fn as_integers(alloc: Global, desk: &mut Desk<Node>, comm: &Comm, ops: &Ops) -> Option<bool> {
+    let all = exchange(alloc, desk, comm, Exchange::Allgather, ops).ok()?;
+    let list = integers_of::<i64>(alloc, all).ok()?;
+    let is_list = list.as_slice() == [7].as_slice();
+    drop(list);
+    let sum = reduction(alloc, desk, comm, Reduction::Allreduce, ops).ok()?;
+    Some(is_list && integer_of::<u8>(sum) == Some(7))
+}
+
+fn gathers(alloc: Global, desk: &mut Desk<Node>, comm: &Comm, ops: &Ops) -> bool {
+    let started = start_gathered(alloc, desk, comm, ops);
+    gives_later(alloc, desk, kinds::CREATE_GROUP, started, ops)
+}
+
+fn is_closed(alloc: Global, desk: &mut Desk<Node>, comm: &Comm, ops: &Ops) -> bool {
     let closed = start_call(alloc, desk, comm, kinds::BARRIER, ops);
-    assert!(rt; matches!(closed, Err(PostError::Closed)));
+    closed.err() == Some(PostError::Closed)
+}
+
+// Whether the communicator is the same as its copy.
+fn is_as_its_copy(alloc: Global, desk: &Desk<Node>, comm: &Comm) -> bool {
+    let copy = comm.copy(alloc);
+    let same = match &copy {
+        Ok(twin) => desk.compare(comm, twin) == Ok(Relation::Ident),
+        Err(_) => false,
+    };
+    drop(copy);
+    same
+}
+
+// Whether the rank is the only member, as of the world.
+fn is_alone(alloc: Global, desk: &Desk<Node>, comm: &Comm, world: &Comm) -> Result<bool, AskError> {
+    let is_like = desk.compare(comm, world)? == Relation::Congruent;
+    let count = desk.members(comm)?.len();
+    let group = desk.group(alloc, comm)?;
+    let same = usize::from(group.size()) == count;
+    drop(group);
+    Ok(is_like && same && count == 1)
+}
+
+fn is_translated(
+    alloc: Global,
+    desk: &Desk<Node>,
+    comm: &Comm,
+    world: &Comm,
+) -> Result<bool, AskError> {
+    let ranks = desk.translate(alloc, comm, &[Rank::At(0), Rank::At(1)], world)?;
+    let is_so = ranks.as_slice() == [Rank::At(0), Rank::Undefined].as_slice();
+    drop(ranks);
+    Ok(is_so)
+}
+
+// Whether the rank is its own neighbour, and the world has no graph.
+fn is_graph(desk: &Desk<Node>, comm: &Comm, world: &Comm) -> Result<bool, AskError> {
+    let (sources, destinations) = (desk.sources(comm)?, desk.destinations(comm)?);
+    let is_so = sources.len() == 1 && sources[0].weight == 4 && destinations.len() == 1;
+    let has_none = matches!(desk.sources(world), Err(AskError::NoTopology));
+    Ok(is_so && desk.is_weighted(comm)? && has_none)
 }
 
 // What the rank is told of the graph's communicator.
-fn asks(alloc: Global, desk: &Desk<Node>, comm: &Comm) -> Result<bool, Fail> {
-    let world = Comm::world(alloc, 1, 0);
-    let twin = comm.copy(alloc)?;
-    let is_known = desk.members(comm)?.len() == 1
-        && desk.compare(comm, &twin)? == Relation::Ident
-        && desk.compare(comm, &world)? == Relation::Congruent;
-    let ranks = desk.translate(alloc, comm, &[Rank::At(0), Rank::At(1)], &world)?;
-    let is_translated = ranks.as_slice() == [Rank::At(0), Rank::Undefined].as_slice();
-    let (sources, destinations) = (desk.sources(comm)?, desk.destinations(comm)?);
-    let is_graph = sources.len() == 1 && sources[0].weight == 4 && destinations.len() == 1;
+fn asks(alloc: Global, desk: &Desk<Node>, comm: &Comm, world: &Comm) -> Result<bool, AskError> {
     Ok(
-        is_known
-            && is_translated
-            && is_graph
-            && desk.is_weighted(comm)?
-            && matches!(desk.sources(&world), Err(AskError::NoTopology)),
+        is_as_its_copy(alloc, desk, comm)
+            && is_alone(alloc, desk, comm, world)?
+            && is_translated(alloc, desk, comm, world)?
+            && is_graph(desk, comm, world)?,
     )
+}
+
+// Whether the rank is told what it asks, in integers too, and a post on a gathering gives what it should; the first kind whose calls don't;
+// and whether the communicator is closed then.
+fn come_out(
+    alloc: Global,
+    desk: &mut Desk<Node>,
+    world: &Comm,
+    ops: &Ops,
+) -> Option<(bool, Option<Kind>, bool)> {
+    let comm = with_edges(alloc, desk, world, ops)?;
+    let asked = asks(alloc, desk, &comm, world) == Ok(true);
+    let given = as_integers(alloc, desk, &comm, ops) == Some(true);
+    let gathered = gathers(alloc, desk, &comm, ops);
+    let wrong = first_wrong(alloc, desk, &comm, ops);
+    let closed = is_closed(alloc, desk, &comm, ops);
+    drop(comm);
+    Some((asked && given && gathered, wrong, closed))
 }
 
 #[test]
 fn calls_by_name(rt: HostRuntime) -> Result<(), Fail> {
-    let alloc = rt.alloc();
-    let ops = Ops::none(alloc);
-    let mut desk = Desk::new(alloc, Node::new(alloc, Proc::new(0), 1, 1)?);
-    let comm = with_edges(alloc, &mut desk, &ops);
-    if let Some(comm) = &comm {
-        assert!(rt; asks(alloc, &desk, comm)?);
-        all_calls(&rt, alloc, &mut desk, comm, &ops);
-    }
-    assert!(rt; comm.is_some());
+    let ops = Ops::none(rt.alloc());
+    let mut desk = Desk::new(rt.alloc(), Node::new(rt.alloc(), Proc::new(0), 1, 1)?);
+    let came = come_out(rt.alloc(), &mut desk, &Comm::world(rt.alloc(), 1, 0), &ops);
     drop(desk);
+    assert_eq!(rt; came, Some((true, None, true)));
     Ok(())
 }

@@ -1,8 +1,9 @@
 //! Desks: requests that are tested, the own post, posts before a birth, deltas, and frames that no process sent.
 ghost use Rattle.std.specs.Prelude.{◌<◌, ◌≤◌};
 
-use crate::desks::{Act, Member, Told, gets, give, swap};
+use crate::desks::{Act, Member, Told, does, give, swap};
 use crate::looks::Look;
+use join_core::OutOfMemory;
 use mpx_board::PruneError;
 use mpx_comm::{Comm, Desk};
 use mpx_group::Proc;
@@ -17,8 +18,8 @@ use test_drafts::kinds;
 
 #[derive(Clone, Copy)]
 enum Row {
-    Left(Act, Told),
-    Right(Act, Told),
+    Left(Act),
+    Right(Act),
     // Each takes the other's board.
     Swap,
     // The other one takes all boards of the one's deltas, of which so many have the first post of process 0.
@@ -26,47 +27,43 @@ enum Row {
     ToLeft(usize),
 }
 
-const YES: Told = Told::Is(true);
-
-const NOT_YET: Told = Told::Harvest(Harvest::NotYet);
-
-const NOT_MEMBER: Told = Told::Refused(PostError::NotMember);
+const NOT_MEMBER: Act = Act::MayNot(PostError::NotMember);
 
 // The left rank posts two sums, the right one its part of the first: all are handed back, and the first open one is it. A
 // request that was closed is still answered. The second sum is done once the right rank has posted its part.
 const TESTED: &[Row] = &[
-    Row::Left(Act::WaitsAny, Told::NoneIsOpen),
-    Row::Left(Act::Starts(1), Told::Open),
-    Row::Left(Act::Starts(10), Told::Open),
-    Row::Left(Act::Awaits(0), Told::AwaitsRank(1)),
-    Row::Left(Act::WaitsAny, Told::NoneIsDone),
-    Row::Right(Act::Starts(2), Told::Open),
+    Row::Left(Act::WaitsAny(Told::None)),
+    Row::Left(Act::Starts(1)),
+    Row::Left(Act::Starts(10)),
+    Row::Left(Act::Awaits(0, Some(1))),
+    Row::Left(Act::WaitsAny(Told::NotYet)),
+    Row::Right(Act::Starts(2)),
     Row::Swap,
-    Row::Left(Act::Turns, YES),
-    Row::Left(Act::Awaits(0), Told::AwaitsNone),
-    Row::Left(Act::Awaits(1), Told::AwaitsRank(1)),
-    Row::Left(Act::TestsAll, Told::NotYet),
-    Row::Left(Act::TestsAny, Told::First(0)),
-    Row::Left(Act::Tests(1), Told::NotYet),
-    Row::Left(Act::Waits(1), Told::NotYet),
-    Row::Left(Act::Waits(0), Told::Sum(1, 3)),
-    Row::Left(Act::TestsAny, Told::NoneIsDone),
-    Row::Right(Act::Starts(20), Told::Open),
+    Row::Left(Act::Turns),
+    Row::Left(Act::Awaits(0, None)),
+    Row::Left(Act::Awaits(1, Some(1))),
+    Row::Left(Act::TestsAll(Told::NotYet)),
+    Row::Left(Act::TestsAny(Told::First(0))),
+    Row::Left(Act::Tests(1, Told::NotYet)),
+    Row::Left(Act::Waits(1, Told::NotYet)),
+    Row::Left(Act::Waits(0, Told::Sum(1, 3))),
+    Row::Left(Act::TestsAny(Told::None)),
+    Row::Right(Act::Starts(20)),
     Row::Swap,
-    Row::Left(Act::WaitsAny, Told::First(1)),
-    Row::Left(Act::WaitsAll, Told::Sum(10, 30)),
-    Row::Left(Act::WaitsAny, Told::NoneIsOpen),
-    Row::Right(Act::Tests(0), Told::Sum(2, 3)),
-    Row::Right(Act::TestsAll, Told::Sum(20, 30)),
+    Row::Left(Act::WaitsAny(Told::First(1))),
+    Row::Left(Act::WaitsAll(Told::Sum(10, 30))),
+    Row::Left(Act::WaitsAny(Told::None)),
+    Row::Right(Act::Tests(0, Told::Sum(2, 3))),
+    Row::Right(Act::TestsAll(Told::Sum(20, 30))),
 ];
 
 // Each has its own post beside the sum.
 const OWN: &[Row] = &[
-    Row::Left(Act::Starts(7), Told::Open),
-    Row::Right(Act::Starts(8), Told::Open),
+    Row::Left(Act::Starts(7)),
+    Row::Right(Act::Starts(8)),
     Row::Swap,
-    Row::Left(Act::Tests(0), Told::Sum(7, 15)),
-    Row::Right(Act::Tests(0), Told::Sum(8, 15)),
+    Row::Left(Act::Tests(0, Told::Sum(7, 15))),
+    Row::Right(Act::Tests(0, Told::Sum(8, 15))),
 ];
 
 const CHILD: On = On::Below(1);
@@ -86,28 +83,28 @@ const DUPS_OF_WORLD: &[u8] = &[
 // Rank 2 of three, which has posted a dup of the world, hears of posts on the child before it knows of the child's birth. Once the birth
 // is known these posts count.
 const EARLY: &[Row] = &[
-    Row::Right(Act::Calls(kinds::DUP), Told::Open),
-    Row::Right(Act::Takes(DUPS_OF_CHILD), YES),
-    Row::Right(Act::Sees(Look::Holds(CHILD, 0, 0)), YES),
-    Row::Right(Act::Sees(Look::Holds(CHILD, 0, 1)), YES),
-    Row::Right(Act::Sees(Look::Unborn(CHILD)), YES),
-    Row::Right(Act::Harvests(CHILD), Told::Harvest(Harvest::NotOpened)),
-    Row::Right(Act::Prunes(CHILD, 0), Told::Prune(Err(PruneError::NoBirth))),
-    Row::Right(Act::Takes(DUPS_OF_WORLD), YES),
-    Row::Right(Act::Harvests(WORLD), Told::Harvest(Harvest::Done(0))),
-    Row::Right(Act::Sees(Look::Unborn(CHILD)), Told::Is(false)),
-    Row::Right(Act::Sees(Look::Holds(CHILD, 0, 1)), YES),
-    Row::Right(Act::Harvests(CHILD), NOT_YET),
+    Row::Right(Act::Calls(kinds::DUP)),
+    Row::Right(Act::Takes(DUPS_OF_CHILD)),
+    Row::Right(Act::Sees(CHILD, Look::Holds(0, 0))),
+    Row::Right(Act::Sees(CHILD, Look::Holds(0, 1))),
+    Row::Right(Act::Sees(CHILD, Look::Unborn)),
+    Row::Right(Act::Harvests(CHILD, Harvest::NotOpened)),
+    Row::Right(Act::Prunes(CHILD, 0, Err(PruneError::NoBirth))),
+    Row::Right(Act::Takes(DUPS_OF_WORLD)),
+    Row::Right(Act::Harvests(WORLD, Harvest::Done(0))),
+    Row::Right(Act::Sees(CHILD, Look::Born)),
+    Row::Right(Act::Sees(CHILD, Look::Holds(0, 1))),
+    Row::Right(Act::Harvests(CHILD, Harvest::NotYet)),
 ];
 
 // A post that both have is in no delta any more, and stays on the board.
 const DELTAS: &[Row] = &[
-    Row::Left(Act::Calls(kinds::BARRIER), Told::Open),
+    Row::Left(Act::Calls(kinds::BARRIER)),
     Row::ToRight(1),
     Row::ToLeft(0),
     Row::ToRight(0),
     Row::ToLeft(0),
-    Row::Left(Act::Sees(Look::Holds(WORLD, 0, 0)), YES),
+    Row::Left(Act::Sees(WORLD, Look::Holds(0, 0))),
 ];
 
 // On world, where all is that is said below: of call 0 the post of process 1, a nonblocking sum of the one item 2 of type i64.
@@ -126,50 +123,90 @@ const DEAD: &[u8] = &[0x4d, 0x50, 0x58, 0x47, 2, 0, 1, 0, 1, 0];
 
 // A post of a frame that no process sent clashes with the own one, which is never harvested then. Later calls go on.
 const OTHER_POST: &[Row] = &[
-    Row::Left(Act::Takes(FRAME), YES),
-    Row::Left(Act::Sees(Look::Holds(WORLD, 0, 0)), YES),
-    Row::Left(Act::Starts(1), Told::Open),
-    Row::Left(Act::Sees(Look::Lacks(WORLD, 0, 0)), YES),
-    Row::Left(Act::Takes(POST_OF_RANK_1), YES),
-    Row::Left(Act::Sees(Look::Holds(WORLD, 0, 1)), YES),
-    Row::Left(Act::Harvests(WORLD), NOT_YET),
-    Row::Left(Act::Starts(2), Told::Open),
-    Row::Left(Act::Sees(Look::Holds(WORLD, 1, 0)), YES),
-    Row::Left(Act::Harvests(WORLD), NOT_YET),
-    Row::Left(Act::Sees(Look::OnePart), YES),
+    Row::Left(Act::Takes(FRAME)),
+    Row::Left(Act::Sees(WORLD, Look::Holds(0, 0))),
+    Row::Left(Act::Starts(1)),
+    Row::Left(Act::Sees(WORLD, Look::Lacks(0, 0))),
+    Row::Left(Act::Takes(POST_OF_RANK_1)),
+    Row::Left(Act::Sees(WORLD, Look::Holds(0, 1))),
+    Row::Left(Act::Harvests(WORLD, Harvest::NotYet)),
+    Row::Left(Act::Starts(2)),
+    Row::Left(Act::Sees(WORLD, Look::Holds(1, 0))),
+    Row::Left(Act::Harvests(WORLD, Harvest::NotYet)),
+    Row::Left(Act::Sees(WORLD, Look::OnePart)),
 ];
 
 // A birth that such a frame made a clash refuses posts.
 const OTHER_BIRTH: &[Row] = &[
-    Row::Left(Act::Starts(1), Told::Open),
-    Row::Left(Act::Takes(POST_OF_RANK_1), YES),
-    Row::Left(Act::Takes(THREE_MEMBERS), YES),
-    Row::Left(Act::Sees(Look::Unborn(WORLD)), YES),
-    Row::Left(Act::Starts(2), NOT_MEMBER),
-    Row::Left(Act::Opens, NOT_MEMBER),
-    Row::Left(Act::Harvests(WORLD), NOT_YET),
-    Row::Left(Act::Prunes(WORLD, 0), Told::Prune(Err(PruneError::NoBirth))),
-    Row::Left(Act::Sees(Look::Holds(WORLD, 0, 0)), YES),
+    Row::Left(Act::Starts(1)),
+    Row::Left(Act::Takes(POST_OF_RANK_1)),
+    Row::Left(Act::Takes(THREE_MEMBERS)),
+    Row::Left(Act::Sees(WORLD, Look::Unborn)),
+    Row::Left(NOT_MEMBER),
+    Row::Left(Act::Harvests(WORLD, Harvest::NotYet)),
+    Row::Left(Act::Prunes(WORLD, 0, Err(PruneError::NoBirth))),
+    Row::Left(Act::Sees(WORLD, Look::Holds(0, 0))),
 ];
 
 // Of a dead context nothing is known, nothing comes back, and nothing is left to drop.
 const DEAD_EARLY: &[Row] = &[
-    Row::Left(Act::Starts(1), Told::Open),
-    Row::Left(Act::Takes(DEAD), YES),
-    Row::Left(Act::Sees(Look::Unborn(WORLD)), YES),
-    Row::Left(Act::Sees(Look::Lacks(WORLD, 0, 0)), YES),
-    Row::Left(Act::Starts(2), NOT_MEMBER),
-    Row::Left(Act::Opens, NOT_MEMBER),
-    Row::Left(Act::Harvests(WORLD), NOT_YET),
-    Row::Left(Act::Prunes(WORLD, 7), Told::Prune(Ok(()))),
-    Row::Left(Act::Takes(POST_OF_RANK_1), YES),
-    Row::Left(Act::Sees(Look::Lacks(WORLD, 0, 1)), YES),
+    Row::Left(Act::Starts(1)),
+    Row::Left(Act::Takes(DEAD)),
+    Row::Left(Act::Sees(WORLD, Look::Unborn)),
+    Row::Left(Act::Sees(WORLD, Look::Lacks(0, 0))),
+    Row::Left(NOT_MEMBER),
+    Row::Left(Act::Harvests(WORLD, Harvest::NotYet)),
+    Row::Left(Act::Prunes(WORLD, 7, Ok(()))),
+    Row::Left(Act::Takes(POST_OF_RANK_1)),
+    Row::Left(Act::Sees(WORLD, Look::Lacks(0, 1))),
+];
+
+// The left rank closes its first request, and lets its result go, since an open one is for the second call. Who hands the closed one in again is
+// told so, and gets it back, as does who hands in all. Each wait that lets go keeps the results of open requests, and the newest.
+const LET_GO: &[Row] = &[
+    Row::Left(Act::Starts(1)),
+    Row::Left(Act::Starts(10)),
+    Row::Right(Act::Starts(2)),
+    Row::Right(Act::Starts(20)),
+    Row::Left(Act::WaitsAndForgets(0, Told::NotYet)),
+    Row::Swap,
+    Row::Left(Act::IsDone(0, true)),
+    Row::Left(Act::Forgets(0)),
+    Row::Left(Act::TestsAny(Told::First(0))),
+    Row::Left(Act::Forgets(1)),
+    Row::Left(Act::Tests(1, Told::LetGo)),
+    Row::Left(Act::Waits(1, Told::LetGo)),
+    Row::Left(Act::WaitsAndForgets(1, Told::LetGo)),
+    Row::Left(Act::IsDone(1, true)),
+    Row::Left(Act::TestsAll(Told::LetGo)),
+    Row::Left(Act::WaitsAll(Told::LetGo)),
+    Row::Left(Act::Starts(100)),
+    Row::Left(Act::WaitsAndForgets(2, Told::NotYet)),
+    Row::Right(Act::Starts(200)),
+    Row::Swap,
+    Row::Left(Act::WaitsAndForgets(2, Told::Sum(100, 300))),
+    Row::Left(Act::Sees(WORLD, Look::Forgotten(1))),
+    Row::Left(Act::WaitsAndForgets(0, Told::Sum(10, 30))),
+    Row::Left(Act::Sees(WORLD, Look::Forgotten(2))),
+    Row::Left(Act::WaitsAndForgets(0, Told::LetGo)),
+    Row::Right(Act::WaitsAndForgets(0, Told::Sum(2, 3))),
+    Row::Right(Act::Sees(WORLD, Look::Forgotten(0))),
+    Row::Right(Act::TestsSome(2)),
+    Row::Right(Act::Forgets(2)),
+    Row::Right(Act::TestsSome(0)),
+    Row::Right(Act::WaitsSome(0)),
+    Row::Right(Act::Starts(2000)),
+    Row::Left(Act::Starts(1000)),
+    Row::Swap,
+    Row::Right(Act::WaitsSome(1)),
+    Row::Right(Act::WaitsAny(Told::None)),
 ];
 
 // What the rows show, how many ranks there are, and the rows.
-const DESKS: [(&str, u8, &[Row]); 7] = [
+const DESKS: [(&str, u8, &[Row]); 8] = [
     ("tests close all or none", 2, TESTED),
     ("results have the own post", 2, OWN),
+    ("results are let go", 2, LET_GO),
     ("posts come before a birth", 3, EARLY),
     ("what both acknowledge is not sent again", 2, DELTAS),
     ("another post", 2, OTHER_POST),
@@ -177,7 +214,7 @@ const DESKS: [(&str, u8, &[Row]); 7] = [
     ("a dead context", 2, DEAD_EARLY),
 ];
 
-fn member_of(alloc: Global, me: u8, ranks: u8) -> Result<Member, Fail>
+fn member_of(alloc: Global, me: u8, ranks: u8) -> Result<Member, OutOfMemory>
     requires me { me < ranks }
     requires few { ranks ≤ 64 }
 {
@@ -198,9 +235,9 @@ fn is_so(
     ops: &Ops,
 ) -> Result<bool, Fail> {
     match row {
-        Row::Left(act, wanted) => Ok(gets(alloc, left, act, ops)? == wanted),
-        Row::Right(act, wanted) => Ok(gets(alloc, right, act, ops)? == wanted),
-        Row::Swap => swap(alloc, &mut left.desk, &mut right.desk),
+        Row::Left(act) => does(alloc, left, act, ops),
+        Row::Right(act) => does(alloc, right, act, ops),
+        Row::Swap => Ok(swap(alloc, &mut left.desk, &mut right.desk)?),
         Row::ToRight(posts) => Ok(give(alloc, &mut left.desk, &mut right.desk)? == posts),
         Row::ToLeft(posts) => Ok(give(alloc, &mut right.desk, &mut left.desk)? == posts),
     }
@@ -222,16 +259,31 @@ fn first_wrong(
     Ok(None)
 }
 
-// The same of the first rank of so many, on the left, and the last one.
+// The same of this rank, on the left, and the last one of so many.
+fn run_with(
+    alloc: Global,
+    left: &mut Member,
+    ranks: u8,
+    rows: &[Row],
+    ops: &Ops,
+) -> Result<Option<usize>, Fail>
+    requires some { 0 < ranks }
+    requires few { ranks ≤ 64 }
+{
+    let mut right = member_of(alloc, ranks - 1, ranks)?;
+    let wrong = first_wrong(alloc, left, &mut right, rows, ops);
+    drop(right);
+    wrong
+}
+
+// The same of the first and the last rank of so many.
 fn run(alloc: Global, ranks: u8, rows: &[Row], ops: &Ops) -> Result<Option<usize>, Fail> {
     if ranks == 0 || ranks > 64 {
         return Err(Fail::from("no ranks"));
     }
     let mut left = member_of(alloc, 0, ranks)?;
-    let mut right = member_of(alloc, ranks - 1, ranks)?;
-    let wrong = first_wrong(alloc, &mut left, &mut right, rows, ops);
+    let wrong = run_with(alloc, &mut left, ranks, rows, ops);
     drop(left);
-    drop(right);
     wrong
 }
 

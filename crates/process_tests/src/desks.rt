@@ -1,69 +1,69 @@
 //! What ranks do at their desks, and what they get.
 use crate::calls::make_call;
 use crate::looks::{Look, is_seen, sum_in};
-use join_core::{Exact, Join};
+use join_core::{Exact, Join, OutOfMemory};
 use mpx_board::{Board, PruneError};
 use mpx_comm::{CallError, Comm, Desk, Request, Tested, WaitError};
 use mpx_kind::{Call, Kind, Mode, Reduction};
 use mpx_name::Name;
 use mpx_node::{Finished, Harvest, Node};
-use mpx_num::{Items, Numbers, Op, Ops, Ty};
+use mpx_num::{Numbers, Op, Ops, Ty};
 use mpx_post::PostError;
 use mpx_wire::decode;
 use std::alloc::Global;
 use std::mem;
 use std::test::Fail;
-use test_drafts::contexts::{On, name_of, sum_of};
+use test_drafts::contexts::{On, WORLD, name_of, sum_of};
 use test_drafts::{bare, proc};
 
-// What a rank does. Requests are told by their places in its list.
+// What a rank does, and what it gets. Requests are told by their places in its list.
 #[derive(Clone, Copy)]
 pub enum Act {
-    // It posts its number to a sum by all.
+    // It posts its number to a sum by all: the request is the last one of the list.
     Starts(i128),
-    // A blocking call, without a turn.
+    // It may neither post nor open a gathering.
+    MayNot(PostError),
+    // A blocking call, without a turn, that isn't done: the request is the last one of the list.
     Calls(Kind),
-    Tests(usize),
-    Waits(usize),
-    // All requests of the list.
-    TestsAll,
-    WaitsAll,
-    TestsAny,
+    Tests(usize, Told),
+    Waits(usize, Told),
+    WaitsAndForgets(usize, Told),
+    // Whether the request is done, which stays open.
+    IsDone(usize, bool),
+    // All requests of the list: what the first one gave.
+    TestsAll(Told),
+    WaitsAll(Told),
+    TestsAny(Told),
     // For any open request, a turn.
-    WaitsAny,
+    WaitsAny(Told),
+    // So many open requests are done.
+    TestsSome(usize),
+    WaitsSome(usize),
     Turns,
-    // It asks whose posts the request waits for.
-    Awaits(usize),
-    // It opens the gathering of rank 0.
-    Opens,
+    // Of whom it waits for, at most one: of this rank, or of none.
+    Awaits(usize, Option<u8>),
+    // It lets go what no open request is for: so many results then.
+    Forgets(u32),
     // It takes the board of this frame.
     Takes(&'static [u8]),
-    Harvests(On),
-    Prunes(On, u32),
-    Sees(Look),
+    Harvests(On, Harvest),
+    Prunes(On, u32, Result<(), PruneError>),
+    Sees(On, Look),
 }
 
-// What it gets.
+// What requests come to.
 #[derive(Clone, Copy, PartialEq, Eq)]
 pub enum Told {
-    Refused(PostError),
-    // It is posted and not done: the request is the last one of the list.
-    Open,
     // It isn't done: each request is handed back, and is the last one of the list.
     NotYet,
+    // Its result was let go: the same.
+    LetGo,
     // Of a sum, whose own post has this number: the number and the sum.
     Sum(i128, i128),
     // The call with this number is the first one that is done.
     First(u32),
-    NoneIsDone,
-    NoneIsOpen,
-    // Of just this rank, or of none.
-    AwaitsRank(u8),
-    AwaitsNone,
-    Harvest(Harvest),
-    Prune(Result<(), PruneError>),
-    Is(bool),
-    Other,
+    // None is done, or none is open.
+    None,
 }
 
 // A rank: its desk, the communicator of all, and its requests.
@@ -74,50 +74,62 @@ pub struct Member {
     pub requests: Vec<Request>,
 }
 
-fn own_in(alloc: Global, finished: &Finished) -> Option<i128> {
-    let items = Items::spelled(alloc, finished.mine.items()?).ok()?;
-    items.nums().first().copied()
-}
-
-// Whether the own post is that of the number.
-fn is_post_of(alloc: Global, finished: &Finished, own: i128) -> Result<bool, Fail> {
+// Whether it is the sum, beside the own post of the number.
+fn is_sum(alloc: Global, finished: &Finished, own: i128, sum: i128) -> Result<bool, OutOfMemory> {
     let given = [own];
     let mut posted = sum_of(&given);
     posted.call = Call::Reduction(Reduction::Allreduce, Mode::Nonblocking);
-    let mine = bare(alloc, &posted)?.ok_or("no post")?;
-    Ok(finished.mine.same(&mine))
-}
-
-fn gave(alloc: Global, finished: &Finished) -> Result<Told, Fail> {
-    let (Some(own), Some(sum)) = (own_in(alloc, finished), sum_in(finished)) else {
-        return Ok(Told::Other);
+    let mine = bare(alloc, &posted)?;
+    let is_mine = match &mine {
+        Some(mine) => finished.mine.same(mine),
+        None => false,
     };
-    if is_post_of(alloc, finished, own)? {
-        return Ok(Told::Sum(own, sum));
-    }
-    Ok(Told::Other)
+    drop(mine);
+    Ok(is_mine && sum_in(finished) == Some(sum))
 }
 
-fn keeps(member: &mut Member, request: Request, told: Told) -> Result<Told, Fail> {
+fn gives(alloc: Global, finished: &Finished, wanted: Told) -> Result<bool, OutOfMemory> {
+    match wanted {
+        Told::Sum(own, sum) => is_sum(alloc, finished, own, sum),
+        _ => Ok(false),
+    }
+}
+
+fn first_gives(alloc: Global, all: &[Finished], wanted: Told) -> Result<bool, OutOfMemory> {
+    match all.first() {
+        Some(finished) => gives(alloc, finished, wanted),
+        None => Ok(false),
+    }
+}
+
+fn keeps(member: &mut Member, request: Request, so: bool) -> Result<bool, OutOfMemory> {
     member.requests.push(request)?;
-    Ok(told)
+    Ok(so)
 }
 
-fn starts(alloc: Global, member: &mut Member, number: i128, ops: &Ops) -> Result<Told, Fail> {
+fn starts(alloc: Global, member: &mut Member, number: i128, ops: &Ops) -> Result<bool, Fail> {
     let items = Numbers::one(number);
-    match member
+    let request = member
         .desk
-        .iallreduce(alloc, &member.comm, Op::Sum, Ty::I64, items, ops)
-    {
-        Ok(request) => keeps(member, request, Told::Open),
-        Err(refusal) => Ok(Told::Refused(refusal)),
-    }
+        .iallreduce(alloc, &member.comm, Op::Sum, Ty::I64, items, ops)?;
+    Ok(keeps(member, request, true)?)
 }
 
-fn calls(alloc: Global, member: &mut Member, kind: Kind, ops: &Ops) -> Result<Told, Fail> {
+fn may_not(alloc: Global, member: &mut Member, why: PostError, ops: &Ops) -> bool {
+    let items = Numbers::one(2);
+    let desk = &mut member.desk;
+    let posted = desk.iallreduce(alloc, &member.comm, Op::Sum, Ty::I64, items, ops);
+    let opened = desk.open_gathering(alloc, &member.comm, 9, &[0]);
+    posted.err() == Some(why) && opened.err() == Some(why)
+}
+
+fn calls(alloc: Global, member: &mut Member, kind: Kind, ops: &Ops) -> Result<bool, OutOfMemory> {
     match make_call(alloc, &mut member.desk, &member.comm, kind, ops) {
-        Err(CallError::StillWaiting(request)) => keeps(member, request, Told::Open),
-        _ => Ok(Told::Other),
+        Err(CallError::StillWaiting(request)) => keeps(member, request, true),
+        other => {
+            drop(other);
+            Ok(false)
+        }
     }
 }
 
@@ -129,154 +141,300 @@ fn taken(member: &mut Member, at: usize) -> Result<Request, Fail> {
     Err(Fail::from("no request"))
 }
 
-fn tests(alloc: Global, member: &mut Member, at: usize, ops: &Ops) -> Result<Told, Fail> {
-    let request = taken(member, at)?;
-    match member.desk.test(alloc, request, ops) {
-        Ok(Tested::Done(finished)) => gave(alloc, &finished),
-        Ok(Tested::NotYet(request)) => keeps(member, request, Told::NotYet),
-        Err(_) => Ok(Told::Other),
-    }
-}
-
-fn waits(alloc: Global, member: &mut Member, at: usize, ops: &Ops) -> Result<Told, Fail> {
-    let request = taken(member, at)?;
-    match member.desk.wait(alloc, request, 0, ops) {
-        Ok(finished) => gave(alloc, &finished),
-        Err(WaitError::StillWaiting(request)) => keeps(member, request, Told::NotYet),
-        Err(_) => Ok(Told::Other),
-    }
-}
-
-// What the first one gave.
-fn first_gave(alloc: Global, all: &[Finished]) -> Result<Told, Fail> {
-    match all.first() {
-        Some(finished) => gave(alloc, finished),
-        None => Ok(Told::Other),
-    }
-}
-
-fn tests_all(alloc: Global, member: &mut Member, ops: &Ops) -> Result<Told, Fail> {
-    let requests = mem::replace(&mut member.requests, Vec::new(alloc));
-    match member.desk.testall(alloc, requests, ops) {
-        Ok(Tested::Done(all)) => first_gave(alloc, &all),
-        Ok(Tested::NotYet(requests)) => {
-            member.requests = requests;
-            Ok(Told::NotYet)
+// A wait's answer as that of a test.
+fn waited<F: Drop, R: Drop>(answer: Result<F, WaitError<R>>) -> Option<Tested<F, R>> {
+    match answer {
+        Ok(finished) => Some(Tested::Done(finished)),
+        Err(WaitError::StillWaiting(requests)) => Some(Tested::NotYet(requests)),
+        Err(WaitError::LetGo(requests)) => Some(Tested::LetGo(requests)),
+        Err(other) => {
+            drop(other);
+            None
         }
-        Err(_) => Ok(Told::Other),
     }
 }
 
-fn waits_all(alloc: Global, member: &mut Member, ops: &Ops) -> Result<Told, Fail> {
-    let requests = mem::replace(&mut member.requests, Vec::new(alloc));
-    match member.desk.waitall(alloc, requests, 1, ops) {
-        Ok(all) => first_gave(alloc, &all),
-        Err(_) => Ok(Told::Other),
+// Whether a request came to that.
+fn comes_to(
+    alloc: Global,
+    member: &mut Member,
+    came: Tested<Finished, Request>,
+    wanted: Told,
+) -> Result<bool, OutOfMemory> {
+    match came {
+        Tested::NotYet(request) => keeps(member, request, wanted == Told::NotYet),
+        Tested::LetGo(request) => keeps(member, request, wanted == Told::LetGo),
+        Tested::Done(finished) => {
+            let is_so = gives(alloc, &finished, wanted);
+            drop(finished);
+            is_so
+        }
     }
 }
 
-fn tests_any(alloc: Global, member: &mut Member, ops: &Ops) -> Result<Told, Fail> {
-    match member.desk.testany(alloc, ops)? {
-        None => Ok(Told::NoneIsDone),
-        Some((request, _)) => Ok(Told::First(request.call())),
-    }
+fn tests(
+    alloc: Global,
+    member: &mut Member,
+    at: usize,
+    wanted: Told,
+    ops: &Ops,
+) -> Result<bool, Fail> {
+    let request = taken(member, at)?;
+    let came = member.desk.test(alloc, request, ops)?;
+    Ok(comes_to(alloc, member, came, wanted)?)
 }
 
-fn waits_any(alloc: Global, member: &mut Member, ops: &Ops) -> Told {
-    match member.desk.waitany(alloc, 1, ops) {
-        Ok(None) => Told::NoneIsOpen,
-        Ok(Some((request, _))) => Told::First(request.call()),
-        Err(WaitError::StillWaiting(())) => Told::NoneIsDone,
-        Err(_) => Told::Other,
-    }
-}
-
-fn awaits(alloc: Global, member: &Member, at: usize) -> Result<Told, Fail> {
-    let Some(request) = member.requests.get(at) else {
-        return Ok(Told::Other);
+fn waits(
+    alloc: Global,
+    member: &mut Member,
+    at: usize,
+    forgets: bool,
+    wanted: Told,
+    ops: &Ops,
+) -> Result<bool, Fail> {
+    let request = taken(member, at)?;
+    let answer = if forgets {
+        member.desk.wait_and_forget(alloc, request, 0, ops)
+    } else {
+        member.desk.wait(alloc, request, 0, ops)
     };
-    let ranks = member.desk.awaited(alloc, request)?;
-    match ranks.as_slice() {
-        [] => Ok(Told::AwaitsNone),
-        [rank] => Ok(Told::AwaitsRank(*rank)),
-        _ => Ok(Told::Other),
+    let came = waited(answer).ok_or("no turn")?;
+    Ok(comes_to(alloc, member, came, wanted)?)
+}
+
+fn is_done(
+    alloc: Global,
+    member: &mut Member,
+    at: usize,
+    done: bool,
+    ops: &Ops,
+) -> Result<bool, OutOfMemory> {
+    match member.requests.get(at) {
+        Some(request) => Ok(member.desk.status(alloc, request, ops)? == done),
+        None => Ok(false),
     }
 }
 
-fn opens(alloc: Global, member: &mut Member) -> Told {
-    match member.desk.open_gathering(alloc, &member.comm, 9, &[0]) {
-        Ok(_) => Told::Open,
-        Err(refusal) => Told::Refused(refusal),
+// Whether all requests came to that.
+fn all_come_to(
+    alloc: Global,
+    member: &mut Member,
+    came: Tested<Vec<Finished>, Vec<Request>>,
+    wanted: Told,
+) -> Result<bool, OutOfMemory> {
+    match came {
+        Tested::NotYet(requests) => {
+            member.requests = requests;
+            Ok(wanted == Told::NotYet)
+        }
+        Tested::LetGo(requests) => {
+            member.requests = requests;
+            Ok(wanted == Told::LetGo)
+        }
+        Tested::Done(all) => {
+            let is_so = first_gives(alloc, &all, wanted);
+            drop(all);
+            is_so
+        }
     }
+}
+
+fn tests_all(alloc: Global, member: &mut Member, wanted: Told, ops: &Ops) -> Result<bool, Fail> {
+    let requests = mem::replace(&mut member.requests, Vec::new(alloc));
+    let came = member.desk.testall(alloc, requests, ops)?;
+    Ok(all_come_to(alloc, member, came, wanted)?)
+}
+
+fn waits_all(alloc: Global, member: &mut Member, wanted: Told, ops: &Ops) -> Result<bool, Fail> {
+    let requests = mem::replace(&mut member.requests, Vec::new(alloc));
+    let came = waited(member.desk.waitall(alloc, requests, 1, ops)).ok_or("no turn")?;
+    Ok(all_come_to(alloc, member, came, wanted)?)
+}
+
+fn first_of(done: Option<(Request, Finished)>) -> Told {
+    let told = match &done {
+        Some((request, _)) => Told::First(request.call()),
+        None => Told::None,
+    };
+    drop(done);
+    told
+}
+
+fn tests_any(
+    alloc: Global,
+    member: &mut Member,
+    wanted: Told,
+    ops: &Ops,
+) -> Result<bool, OutOfMemory> {
+    let done = member.desk.testany(alloc, ops)?;
+    Ok(first_of(done) == wanted)
+}
+
+fn waits_any(alloc: Global, member: &mut Member, wanted: Told, ops: &Ops) -> bool {
+    match member.desk.waitany(alloc, 1, ops) {
+        Ok(done) => first_of(done) == wanted,
+        Err(WaitError::StillWaiting(())) => wanted == Told::NotYet,
+        Err(_) => false,
+    }
+}
+
+fn tests_some(
+    alloc: Global,
+    member: &mut Member,
+    count: usize,
+    ops: &Ops,
+) -> Result<bool, OutOfMemory> {
+    let done = member.desk.testsome(alloc, ops)?;
+    let same = done.len() == count;
+    drop(done);
+    Ok(same)
+}
+
+fn waits_some(alloc: Global, member: &mut Member, count: usize, ops: &Ops) -> bool {
+    match member.desk.waitsome(alloc, 1, ops) {
+        Ok(done) => {
+            let same = done.len() == count;
+            drop(done);
+            same
+        }
+        Err(_) => false,
+    }
+}
+
+fn awaits(alloc: Global, member: &Member, at: usize, wanted: Option<u8>) -> Result<bool, Fail> {
+    let request = member.requests.get(at).ok_or("no request")?;
+    let ranks = member.desk.awaited(alloc, request)?;
+    let is_so = match ranks.as_slice() {
+        [] => wanted.is_none(),
+        [rank] => wanted == Some(*rank),
+        _ => false,
+    };
+    drop(ranks);
+    Ok(is_so)
+}
+
+fn forgets(alloc: Global, member: &mut Member, gone: u32) -> Result<bool, Fail> {
+    member.desk.forget(&member.comm);
+    is_seen(alloc, member.desk.host(), WORLD, Look::Forgotten(gone))
 }
 
 // The desk takes the part twice, and then its board is the join. Where memory was refused to the first take (`rt try --test --fail-alloc`),
 // the board stood between the old one and the join.
-fn takes_part(alloc: Global, desk: &mut Desk<Node>, part: &Board) -> Result<bool, Fail> {
+fn takes_part(
+    alloc: Global,
+    desk: &mut Desk<Node>,
+    part: &Board,
+    old: &Board,
+    joined: &Board,
+) -> Result<bool, OutOfMemory> {
+    let took = desk.take(alloc, part).is_ok();
+    let between = old.leq(desk.host().board()) && desk.host().board().leq(joined);
+    desk.take(alloc, part)?;
+    Ok((took || between) && desk.host().board().same(joined))
+}
+
+fn takes_board(alloc: Global, desk: &mut Desk<Node>, part: &Board) -> Result<bool, OutOfMemory> {
     let old = desk.host().board().copy(alloc)?;
     let joined = old.joined(alloc, part)?;
-    let took = desk.take(alloc, part).is_ok();
-    let between = old.leq(desk.host().board()) && desk.host().board().leq(&joined);
-    desk.take(alloc, part)?;
-    Ok((took || between) && desk.host().board().same(&joined))
+    let took = takes_part(alloc, desk, part, &old, &joined);
+    drop(joined);
+    drop(old);
+    took
 }
 
 // It takes the frame too, which then tells nothing new.
-fn takes(alloc: Global, desk: &mut Desk<Node>, frame: &[u8]) -> Result<Told, Fail> {
+fn takes(alloc: Global, desk: &mut Desk<Node>, frame: &[u8]) -> Result<bool, Fail> {
     let part = decode(alloc, frame)?;
-    let is_joined = takes_part(alloc, desk, &part)?;
-    desk.take_frame(alloc, frame)?;
-    Ok(Told::Is(is_joined && part.leq(desk.host().board())))
+    let took = takes_board(alloc, desk, &part);
+    let again = desk.take_frame(alloc, frame);
+    let told = part.leq(desk.host().board());
+    drop(part);
+    again?;
+    Ok(took? && told)
 }
 
-fn harvests(alloc: Global, desk: &mut Desk<Node>, on: On, ops: &Ops) -> Result<Told, Fail> {
+fn harvests(
+    alloc: Global,
+    desk: &mut Desk<Node>,
+    on: On,
+    wanted: Harvest,
+    ops: &Ops,
+) -> Result<bool, Fail> {
     let name = name_of(alloc, on)?;
-    Ok(Told::Harvest(desk.harvest(alloc, &name, ops)?))
+    let told = desk.harvest(alloc, &name, ops);
+    drop(name);
+    Ok(told? == wanted)
 }
 
-fn prunes(alloc: Global, desk: &mut Desk<Node>, on: On, number: u32) -> Result<Told, Fail> {
+fn prunes(
+    alloc: Global,
+    desk: &mut Desk<Node>,
+    on: On,
+    number: u32,
+    wanted: Result<(), PruneError>,
+) -> Result<bool, Fail> {
     let name = name_of(alloc, on)?;
-    Ok(Told::Prune(desk.prune(&name, number)))
+    let told = desk.prune(&name, number);
+    drop(name);
+    Ok(told == wanted)
 }
 
-// What the rank gets that does this.
-pub fn gets(alloc: Global, member: &mut Member, act: Act, ops: &Ops) -> Result<Told, Fail> {
+// Whether the rank that does this gets that.
+pub fn does(alloc: Global, member: &mut Member, act: Act, ops: &Ops) -> Result<bool, Fail> {
     match act {
         Act::Starts(number) => starts(alloc, member, number, ops),
-        Act::Calls(kind) => calls(alloc, member, kind, ops),
-        Act::Tests(at) => tests(alloc, member, at, ops),
-        Act::Waits(at) => waits(alloc, member, at, ops),
-        Act::TestsAll => tests_all(alloc, member, ops),
-        Act::WaitsAll => waits_all(alloc, member, ops),
-        Act::TestsAny => tests_any(alloc, member, ops),
-        Act::WaitsAny => Ok(waits_any(alloc, member, ops)),
-        Act::Turns => Ok(Told::Is(member.desk.turn(alloc, 3).is_ok())),
-        Act::Awaits(at) => awaits(alloc, member, at),
-        Act::Opens => Ok(opens(alloc, member)),
+        Act::MayNot(why) => Ok(may_not(alloc, member, why, ops)),
+        Act::Calls(kind) => Ok(calls(alloc, member, kind, ops)?),
+        Act::Tests(at, wanted) => tests(alloc, member, at, wanted, ops),
+        Act::Waits(at, wanted) => waits(alloc, member, at, false, wanted, ops),
+        Act::WaitsAndForgets(at, wanted) => waits(alloc, member, at, true, wanted, ops),
+        Act::IsDone(at, done) => Ok(is_done(alloc, member, at, done, ops)?),
+        Act::TestsAll(wanted) => tests_all(alloc, member, wanted, ops),
+        Act::WaitsAll(wanted) => waits_all(alloc, member, wanted, ops),
+        Act::TestsAny(wanted) => Ok(tests_any(alloc, member, wanted, ops)?),
+        Act::WaitsAny(wanted) => Ok(waits_any(alloc, member, wanted, ops)),
+        Act::TestsSome(count) => Ok(tests_some(alloc, member, count, ops)?),
+        Act::WaitsSome(count) => Ok(waits_some(alloc, member, count, ops)),
+        Act::Turns => Ok(member.desk.turn(alloc, 3).is_ok()),
+        Act::Awaits(at, wanted) => awaits(alloc, member, at, wanted),
+        Act::Forgets(gone) => forgets(alloc, member, gone),
         Act::Takes(frame) => takes(alloc, &mut member.desk, frame),
-        Act::Harvests(on) => harvests(alloc, &mut member.desk, on, ops),
-        Act::Prunes(on, number) => prunes(alloc, &mut member.desk, on, number),
-        Act::Sees(look) => Ok(Told::Is(is_seen(alloc, member.desk.host(), look)?)),
+        Act::Harvests(on, wanted) => harvests(alloc, &mut member.desk, on, wanted, ops),
+        Act::Prunes(on, number, wanted) => prunes(alloc, &mut member.desk, on, number, wanted),
+        Act::Sees(on, look) => is_seen(alloc, member.desk.host(), on, look),
     }
 }
 
 // Each takes the other's board.
-pub fn swap(alloc: Global, left: &mut Desk<Node>, right: &mut Desk<Node>) -> Result<bool, Fail> {
+pub fn swap(
+    alloc: Global,
+    left: &mut Desk<Node>,
+    right: &mut Desk<Node>,
+) -> Result<bool, OutOfMemory> {
     left.take(alloc, right.host().board())?;
     right.take(alloc, left.host().board())?;
     Ok(true)
 }
 
-// The one takes all boards of the other's deltas. How many of these have the first post of process 0.
-pub fn give(alloc: Global, from: &mut Desk<Node>, to: &mut Desk<Node>) -> Result<usize, Fail> {
-    let world = Name::world(alloc);
+fn take_each(alloc: Global, desk: &mut Desk<Node>, parts: &[Board]) -> Result<usize, OutOfMemory> {
     let mut with_post: usize = 0;
-    let made = from.deltas(alloc, 524_288)?;
-    for part in made.iter() {
-        to.take(alloc, part)?;
-        if part.holds(&world, 0, proc(0)).is_some() {
+    for part in parts {
+        desk.take(alloc, part)?;
+        if part.holds(&Name::world(alloc), 0, proc(0)).is_some() {
             with_post = with_post.wrapping_add(1);
         }
     }
     Ok(with_post)
+}
+
+// The one takes all boards of the other's deltas. How many of these have the first post of process 0.
+pub fn give(
+    alloc: Global,
+    from: &mut Desk<Node>,
+    to: &mut Desk<Node>,
+) -> Result<usize, OutOfMemory> {
+    let made = from.deltas(alloc, 524_288)?;
+    let with_post = take_each(alloc, to, &made);
+    drop(made);
+    with_post
 }

@@ -1,5 +1,5 @@
 //! What is seen of a node.
-use join_core::Exact;
+use join_core::{Exact, OutOfMemory};
 use mpx_name::Name;
 use mpx_node::{Finished, Node, PartError};
 use mpx_value::Outcome;
@@ -8,22 +8,23 @@ use std::test::Fail;
 use test_drafts::contexts::{On, name_of};
 use test_drafts::proc;
 
-// What is seen, on a context where it is of one.
+// What is seen, on a context.
 #[derive(Clone, Copy)]
 pub enum Look {
     // The first call gave this sum.
     Sum(i128),
     // The board has the post of a call by a process.
-    Holds(On, u32, u8),
-    Lacks(On, u32, u8),
+    Holds(u32, u8),
+    Lacks(u32, u8),
     // The board doesn't tell how the context came to be.
-    Unborn(On),
-    // The whole board is its one part.
-    OnePart,
-    // Ten bytes are too few for the board.
-    DoesNotFit,
-    // So many results on the context of all are let go, and no more.
+    Unborn,
+    Born,
+    // So many results are let go, and no more.
     Forgotten(u32),
+    // Of all contexts: the whole board is its one part.
+    OnePart,
+    // Of all contexts: ten bytes are too few for the board.
+    DoesNotFit,
 }
 
 // The first number that a call gave.
@@ -34,50 +35,52 @@ pub fn sum_in(finished: &Finished) -> Option<i128> {
     }
 }
 
-fn has_sum(alloc: Global, node: &Node, sum: i128) -> Result<bool, Fail> {
-    let name = name_of(alloc, On::Below(0))?;
-    match node.result(&name, 0) {
-        Some(finished) => Ok(sum_in(finished) == Some(sum)),
-        None => Ok(false),
-    }
+fn sum_on(node: &Node, name: &Name) -> Option<i128> {
+    sum_in(node.result(name, 0)?)
 }
 
-fn holds(alloc: Global, node: &Node, on: On, call: u32, by: u8) -> Result<bool, Fail> {
-    let name = name_of(alloc, on)?;
-    Ok(node.board().holds(&name, call, proc(by)).is_some())
-}
-
-fn is_born(alloc: Global, node: &Node, on: On) -> Result<bool, Fail> {
-    let name = name_of(alloc, on)?;
-    Ok(node.board().birth(&name).is_some())
-}
-
-fn is_one_part(alloc: Global, node: &Node) -> Result<bool, Fail> {
+fn is_one_part(alloc: Global, node: &Node) -> Result<bool, OutOfMemory> {
     let made = node.parts(alloc, 524_288)?;
-    Ok(made.len() == 1 && made.iter().all(|one| one.same(node.board())))
+    let is_one = match made.as_slice() {
+        [one] => one.same(node.board()),
+        _ => false,
+    };
+    drop(made);
+    Ok(is_one)
 }
 
-fn fits(alloc: Global, node: &Node, limit: usize) -> bool {
-    !matches!(node.part(alloc, limit), Err(PartError::DoesNotFit))
+fn does_not_fit(alloc: Global, node: &Node, limit: usize) -> bool {
+    let part = node.part(alloc, limit);
+    let refused = matches!(&part, Err(PartError::DoesNotFit));
+    drop(part);
+    refused
 }
 
 // It has the result of the first call that isn't let go, and none of the one before it.
-pub fn has_forgotten(alloc: Global, node: &Node, below: u32) -> bool {
-    let world = Name::world(alloc);
-    node.forgotten(&world) == below
-        && node.result(&world, below).is_some()
-        && (below == 0 || node.result(&world, below - 1).is_none())
+pub fn has_forgotten(node: &Node, name: &Name, below: u32) -> bool {
+    node.forgotten(name) == below
+        && node.result(name, below).is_some()
+        && (below == 0 || node.result(name, below - 1).is_none())
 }
 
 // Whether this is seen of the node.
-pub fn is_seen(alloc: Global, node: &Node, look: Look) -> Result<bool, Fail> {
+fn is_seen_on(alloc: Global, node: &Node, name: &Name, look: Look) -> Result<bool, OutOfMemory> {
     match look {
-        Look::Sum(sum) => has_sum(alloc, node, sum),
-        Look::Holds(on, call, by) => holds(alloc, node, on, call, by),
-        Look::Lacks(on, call, by) => Ok(!holds(alloc, node, on, call, by)?),
-        Look::Unborn(on) => Ok(!is_born(alloc, node, on)?),
+        Look::Sum(sum) => Ok(sum_on(node, name) == Some(sum)),
+        Look::Holds(call, by) => Ok(node.board().holds(name, call, proc(by)).is_some()),
+        Look::Lacks(call, by) => Ok(node.board().holds(name, call, proc(by)).is_none()),
+        Look::Unborn => Ok(node.board().birth(name).is_none()),
+        Look::Born => Ok(node.board().birth(name).is_some()),
+        Look::Forgotten(below) => Ok(has_forgotten(node, name, below)),
         Look::OnePart => is_one_part(alloc, node),
-        Look::DoesNotFit => Ok(!fits(alloc, node, 10)),
-        Look::Forgotten(below) => Ok(has_forgotten(alloc, node, below)),
+        Look::DoesNotFit => Ok(does_not_fit(alloc, node, 10)),
     }
+}
+
+// Whether this is seen of the node on the context.
+pub fn is_seen(alloc: Global, node: &Node, on: On, look: Look) -> Result<bool, Fail> {
+    let name = name_of(alloc, on)?;
+    let seen = is_seen_on(alloc, node, &name, look);
+    drop(name);
+    Ok(seen?)
 }

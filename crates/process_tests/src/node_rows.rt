@@ -1,5 +1,6 @@
 //! A node alone: its posts are done at once.
 use crate::looks::has_forgotten;
+use join_core::OutOfMemory;
 use mpx_group::Proc;
 use mpx_name::Name;
 use mpx_node::Node;
@@ -41,18 +42,25 @@ const ALONE: [Row; 15] = [
     (Act::HarvestsTo(3, true), 4),
 ];
 
+fn posts(alloc: Global, node: &mut Node, world: &Name, ops: &Ops) -> Result<bool, OutOfMemory> {
+    let draft = a_sum(alloc, 1)?;
+    Ok(node.post(alloc, world, draft, ops).is_ok())
+}
+
 // Whether it comes out so.
-fn does(alloc: Global, node: &mut Node, act: Act, ops: &Ops) -> Result<bool, Fail> {
-    let world = Name::world(alloc);
+fn does(
+    alloc: Global,
+    node: &mut Node,
+    world: &Name,
+    act: Act,
+    ops: &Ops,
+) -> Result<bool, OutOfMemory> {
     match act {
-        Act::Posts => {
-            let draft = a_sum(alloc, 1)?;
-            Ok(node.post(alloc, &world, draft, ops).is_ok())
-        }
-        Act::HarvestsTo(call, done) => Ok(node.harvest_to(alloc, &world, call, ops)? == done),
+        Act::Posts => posts(alloc, node, world, ops),
+        Act::HarvestsTo(call, done) => Ok(node.harvest_to(alloc, world, call, ops)? == done),
         Act::Forgets(below, gone) => {
-            node.forget(&world, below);
-            Ok(has_forgotten(alloc, node, gone) || node.front(&world) == 0)
+            node.forget(world, below);
+            Ok(has_forgotten(node, world, gone) || node.front(world) == 0)
         }
     }
 }
@@ -61,12 +69,12 @@ fn does(alloc: Global, node: &mut Node, act: Act, ops: &Ops) -> Result<bool, Fai
 fn first_wrong(
     alloc: Global,
     node: &mut Node,
+    world: &Name,
     rows: &[Row],
     ops: &Ops,
-) -> Result<Option<usize>, Fail> {
-    let world = Name::world(alloc);
+) -> Result<Option<usize>, OutOfMemory> {
     for (at, &(act, front)) in rows.iter().enumerate() {
-        if !does(alloc, node, act, ops)? || node.front(&world) != front {
+        if !does(alloc, node, world, act, ops)? || node.front(world) != front {
             return Ok(Some(at));
         }
     }
@@ -77,8 +85,14 @@ fn first_wrong(
 fn a_node_goes_so(rt: HostRuntime) -> Result<(), Fail> {
     let ops = Ops::none(rt.alloc());
     let mut node = Node::new(rt.alloc(), Proc::new(0), 1, 1)?;
-    let wrong = first_wrong(rt.alloc(), &mut node, &ALONE, &ops)?;
+    let wrong = first_wrong(
+        rt.alloc(),
+        &mut node,
+        &Name::world(rt.alloc()),
+        &ALONE,
+        &ops,
+    );
     drop(node);
-    assert_eq!(rt; wrong, None);
+    assert_eq!(rt; wrong, Ok(None));
     Ok(())
 }

@@ -10,6 +10,7 @@ use std::alloc::Global;
 use std::marker::Brand;
 use std::process::Abort;
 use std::test::Fail;
+use test_drafts::contexts::WORLD;
 use test_drafts::proc;
 
 // Two ranks, whose posts go through a relay. There is no process 3.
@@ -128,7 +129,7 @@ const TEN_THOUSAND: &[Row] = &[
     (9_998, 1, Act::Take(0), Told::Taken),
 ];
 
-// What is seen then of a process, and which two have one board.
+// What is seen then of a process, on the context of all, and which two have one board.
 type Seen = (&'static [(u8, Look)], &'static [(u8, u8)]);
 
 const NOTHING: Seen = (&[], &[]);
@@ -187,7 +188,7 @@ fn is_all_seen(alloc: Global, world: &World<Brand>, seen: Seen) -> Result<bool, 
     let mut all = true;
     for &(number, look) in seen.0 {
         let node = world.node(proc(number)).ok_or("no node")?;
-        all = is_seen(alloc, node, look)? && all;
+        all = is_seen(alloc, node, WORLD, look)? && all;
     }
     for &(one, other) in seen.1 {
         all = have_one_board(world, one, other) && all;

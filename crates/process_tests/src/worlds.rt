@@ -1,7 +1,9 @@
 //! Rows of what processes of a world do, and what they are told.
 ghost use Rattle.std.specs.Prelude.{◌≡◌, []};
 
+use join_core::OutOfMemory;
 use mpx_board::PruneError;
+use mpx_group::Proc;
 use mpx_name::Name;
 use mpx_num::{Listing, Numbers, Ops};
 use mpx_world::{Cut, Event, Names, Reply, World};
@@ -50,31 +52,37 @@ pub enum Told {
 // So many times a process does the same, and is told this the first time; numbers in what it is told go up by one each time.
 pub type Row = (u32, u8, Act, Told);
 
-fn posts(alloc: Global, number: u8, drafted: &Drafted<'_>) -> Result<Event, Fail> {
-    Ok(Event::Post {
-        proc: proc(number),
-        name: Name::world(alloc),
-        draft: draft(alloc, drafted)?,
-    })
+fn posts(alloc: Global, proc: Proc, drafted: &Drafted<'_>) -> Result<Event, OutOfMemory> {
+    let draft = draft(alloc, drafted)?;
+    let name = Name::world(alloc);
+    Ok(Event::Post { proc, name, draft })
 }
 
-fn gathers(alloc: Global, number: u8) -> Result<Event, Fail> {
+fn gathers(alloc: Global, proc: Proc) -> Result<Event, OutOfMemory> {
+    let ranks = Numbers::new(alloc, vec![in alloc; 0, 2]?)?;
+    let parent = Name::world(alloc);
+    let tag = 9;
     Ok(Event::Gather {
-        proc: proc(number),
-        parent: Name::world(alloc),
-        tag: 9,
-        ranks: Numbers::new(alloc, vec![in alloc; 0, 2]?)?,
+        proc,
+        parent,
+        tag,
+        ranks,
     })
 }
 
-fn event(alloc: Global, number: u8, act: Act) -> Result<Event, Fail> {
-    let (proc, name) = (proc(number), Name::world(alloc));
+fn event(alloc: Global, proc: Proc, act: Act) -> Result<Event, OutOfMemory> {
     match act {
-        Act::Sum(item) => posts(alloc, number, &sum_of(&[item])),
-        Act::Barrier => posts(alloc, number, &just(kinds::BARRIER)),
-        Act::Gather => gathers(alloc, number),
-        Act::Harvest => Ok(Event::Harvest { proc, name }),
-        Act::Prune(number) => Ok(Event::Prune { proc, name, number }),
+        Act::Sum(item) => posts(alloc, proc, &sum_of(&[item])),
+        Act::Barrier => posts(alloc, proc, &just(kinds::BARRIER)),
+        Act::Gather => gathers(alloc, proc),
+        Act::Harvest => {
+            let name = Name::world(alloc);
+            Ok(Event::Harvest { proc, name })
+        }
+        Act::Prune(number) => {
+            let name = Name::world(alloc);
+            Ok(Event::Prune { proc, name, number })
+        }
         Act::Send => {
             let cut = Cut::Whole;
             Ok(Event::Send { proc, cut })
@@ -84,7 +92,10 @@ fn event(alloc: Global, number: u8, act: Act) -> Result<Event, Fail> {
             Ok(Event::Send { proc, cut })
         }
         Act::Take(part) => Ok(Event::Take { proc, part }),
-        Act::Forget(below) => Ok(Event::Forget { proc, name, below }),
+        Act::Forget(below) => {
+            let name = Name::world(alloc);
+            Ok(Event::Forget { proc, name, below })
+        }
     }
 }
 
@@ -106,11 +117,11 @@ fn reply(alloc: Global, told: Told, times: u32) -> Result<Reply, Fail> {
     }
 }
 
-fn events(alloc: Global, rows: &[Row]) -> Result<Vec<Event>, Fail> {
+fn events(alloc: Global, rows: &[Row]) -> Result<Vec<Event>, OutOfMemory> {
     let mut events = Vec::new(alloc);
     for &(count, number, act, _) in rows {
         for _ in 0..count {
-            events.push(event(alloc, number, act)?)?;
+            events.push(event(alloc, proc(number), act)?)?;
         }
     }
     Ok(events)
@@ -126,13 +137,17 @@ fn replies(alloc: Global, rows: &[Row]) -> Result<Vec<Reply>, Fail> {
     Ok(replies)
 }
 
-fn first_other(told: &[Reply], wanted: &[Reply]) -> Option<usize> {
+// The place of the first reply that isn't what the rows tell, if there is one.
+fn first_other(alloc: Global, told: &[Reply], rows: &[Row]) -> Result<Option<usize>, Fail> {
+    let wanted = replies(alloc, rows)?;
+    let mut first = None;
     for (at, (told, wanted)) in told.iter().zip(wanted.iter()).enumerate() {
-        if told != wanted {
-            return Some(at);
+        if first.is_none() && told != wanted {
+            first = Some(at);
         }
     }
-    None
+    drop(wanted);
+    Ok(first)
 }
 
 // The place of the first event that isn't answered as it should be, if there is one.
@@ -145,6 +160,10 @@ pub fn first_wrong(
     requires list { ⟦<Ops as Listing>⟧.operations ops.now ≡ [] }
 {
     let events = events(alloc, rows)?;
-    let told = world.run(alloc, &events, ops)?;
-    Ok(first_other(&told, &replies(alloc, rows)?))
+    let ran = world.run(alloc, &events, ops);
+    drop(events);
+    let told = ran?;
+    let wrong = first_other(alloc, &told, rows);
+    drop(told);
+    wrong
 }

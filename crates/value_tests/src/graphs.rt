@@ -6,7 +6,7 @@ use mpx_birth::{Birth, Topology};
 use mpx_graph::{NeighbourCounts, counts, topology_adjacent, topology_general};
 use mpx_match::{Verdict, verdict};
 use mpx_num::Ops;
-use mpx_post::Row;
+use mpx_post::{Post, Row};
 use std::alloc::Global;
 use std::test::Fail;
 use test_drafts::kinds;
@@ -45,14 +45,28 @@ fn makes(
 }
 
 // Whether what the members of the world post does.
-fn make(
+fn make_on(
     alloc: Global,
     world: &Birth,
+    posts: &[Post],
+    wanted: &[(usize, usize)],
+) -> Result<bool, Fail> {
+    let row = row_of(alloc, world, posts)?;
+    Ok(makes(alloc, world, &row, wanted)?)
+}
+
+fn make(
+    alloc: Global,
+    members: u8,
     calls: &[Posted],
     wanted: &[(usize, usize)],
 ) -> Result<bool, Fail> {
+    if members == 0 || members > 64 {
+        return Ok(false);
+    }
+    let world = Birth::world(alloc, members)?;
     let posts = posts_of(alloc, calls)?;
-    Ok(makes(alloc, world, &row_of(alloc, world, &posts)?, wanted)?)
+    make_on(alloc, &world, &posts, wanted)
 }
 
 // The edge from rank 1 to rank 2 is given twice.
@@ -65,11 +79,16 @@ const GIVEN: [Posted; 3] = [
 // One edge, that both ends name.
 const NAMED: [Posted; 2] = [Near(&[], &[(1, 0)]), Near(&[(0, 0)], &[])];
 
+// Rows, of so many members, and the sources and destinations of each rank.
+const ROWS: [(u8, &[Posted], &[(usize, usize)]); 2] = [
+    (3, &GIVEN, &[(0, 1), (0, 2), (4, 1)]),
+    (2, &NAMED, &[(0, 1), (1, 0)]),
+];
+
 #[test]
 fn rows_make_topologies(rt: HostRuntime) -> Result<(), Fail> {
-    let three = Birth::world(rt.alloc(), 3)?;
-    assert!(rt; make(rt.alloc(), &three, &GIVEN, &[(0, 1), (0, 2), (4, 1)])?);
-    let two = Birth::world(rt.alloc(), 2)?;
-    assert!(rt; make(rt.alloc(), &two, &NAMED, &[(0, 1), (1, 0)])?);
+    for (members, calls, wanted) in ROWS {
+        assert!(rt; make(rt.alloc(), members, calls, wanted)?);
+    }
     Ok(())
 }

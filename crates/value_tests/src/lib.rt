@@ -1,4 +1,4 @@
-//! What scripts don't show of numbers, births, posts, rows and the communicators that calls make, with values from outside, as rows
+//! What scripts don't show of births, posts, rows and the communicators that calls make, with values from outside, as rows
 //! of tables. No function owns more than it looks at: each exit of a function walks the drop of all that it owns.
 #![tactic(auto)]
 
@@ -8,8 +8,6 @@ mod births;
 mod children;
 #[cfg(test)]
 mod graphs;
-#[cfg(test)]
-mod numbers;
 #[cfg(test)]
 mod own_lists;
 #[cfg(test)]
