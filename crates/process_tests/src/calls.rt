@@ -353,14 +353,40 @@ fn first_wrong(alloc: Global, desk: &mut Desk<Node>, comm: &Comm, ops: &Ops) -> 
     None
 }
 
-// Whether the item is given as integers of a type, in a list and alone.
-fn as_integers(alloc: Global, desk: &mut Desk<Node>, comm: &Comm, ops: &Ops) -> Option<bool> {
-    let all = exchange(alloc, desk, comm, Exchange::Allgather, ops).ok()?;
-    let list = integers_of::<i64>(alloc, all).ok()?;
-    let is_list = list.as_slice() == [7].as_slice();
-    drop(list);
-    let sum = reduction(alloc, desk, comm, Reduction::Allreduce, ops).ok()?;
-    Some(is_list && integer_of::<u8>(sum) == Some(7))
+// Whether the call gave the item as integers of a type, in a list.
+fn gives_list(alloc: Global, answer: Result<Finished, CallError>) -> bool {
+    match answer {
+        Ok(finished) => {
+            let list = integers_of::<i64>(alloc, finished);
+            let is_so = match &list {
+                Ok(list) => list.as_slice() == [7].as_slice(),
+                Err(_) => false,
+            };
+            drop(list);
+            is_so
+        }
+        Err(refused) => {
+            drop(refused);
+            false
+        }
+    }
+}
+
+// Whether it gave it alone.
+fn gives_one(answer: Result<Finished, CallError>) -> bool {
+    match answer {
+        Ok(finished) => integer_of::<u8>(finished) == Some(7),
+        Err(refused) => {
+            drop(refused);
+            false
+        }
+    }
+}
+
+fn as_integers(alloc: Global, desk: &mut Desk<Node>, comm: &Comm, ops: &Ops) -> bool {
+    let listed = exchange(alloc, desk, comm, Exchange::Allgather, ops);
+    let summed = reduction(alloc, desk, comm, Reduction::Allreduce, ops);
+    gives_list(alloc, listed) & gives_one(summed)
 }
 
 fn gathers(alloc: Global, desk: &mut Desk<Node>, comm: &Comm, ops: &Ops) -> bool {
@@ -434,7 +460,7 @@ fn come_out(
 ) -> Option<(bool, Option<Kind>, bool)> {
     let comm = with_edges(alloc, desk, world, ops)?;
     let asked = asks(alloc, desk, &comm, world) == Ok(true);
-    let given = as_integers(alloc, desk, &comm, ops) == Some(true);
+    let given = as_integers(alloc, desk, &comm, ops);
     let gathered = gathers(alloc, desk, &comm, ops);
     let wrong = first_wrong(alloc, desk, &comm, ops);
     let closed = is_closed(alloc, desk, &comm, ops);
