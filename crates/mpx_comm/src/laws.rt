@@ -50,11 +50,17 @@ pub fn answers_are_stored_results()
 {}
 
 /// With results that are let go too: what was stored is stored, or its own process has let it go, for good. A request that is handed in
-/// again gets the same answer or none, and a result at the place of a draft's post still says that post. Gatherings, harvests and boards
-/// are among the first, as [`calls_keep_posts_and_results`] has them.
+/// again gets the same answer or none, and a result at the place of a draft's post still says that post. It is so of posts, tests, waits
+/// and turns, of gatherings, harvests and boards that come, and of results that are let go.
 pub fn results_stay_until_they_are_let_go()
     ensures later { (old now : NodeView) → Later old now → NodeHolds old now }
     ensures posts { (old : NodeView) (name : Name) (given : Given) → NodeHolds old (with_post name given old) }
+    ensures gatherings { (old now : NodeView) (parent : Name) (tag : ℤ) (ranks : List ℤ) (answer : Result Name PostError)
+        → Opens parent (gathers_on old parent tag ranks) answer old now → NodeHolds old now }
+    ensures harvests { (ops : List Operation) (old now : NodeView) (name : Name) (answer : Result Harvest OutOfMemory)
+        → HarvestsNext ops name answer old now → NodeHolds old now }
+    ensures boards { (old : NodeView) (part : Look) → NodeHolds old (learn part old) }
+    ensures stopped { (old now : NodeView) (part : Look) → StopsTaking part old now → NodeHolds old now }
     ensures forgets { (old : NodeView) (name : Name) (below : ℕ) → NodeHolds old (forgets name below old) }
     ensures chain { (old between now : NodeView) → NodeHolds old between → NodeHolds between now → NodeHolds old now }
     ensures again { (tested now : NodeView) (request : Request) (first again : Finished) (before after then_open last_open : List Request)
