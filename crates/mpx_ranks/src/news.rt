@@ -1,21 +1,23 @@
 //! How a member rests while it hears nothing new.
+use crate::crew::Crew;
 use join_core::Pair;
 use join_nest::Lift;
 use mpx_board::{Board, Entry, Lifted, is_told};
 use std::sync::Wait;
-use std::thread::{Parker, yield_now};
-use std::time::Duration;
+use std::thread::yield_now;
 
 // After so many turns without news a member sleeps.
 const BUSY: u32 = 5;
 
-/// What a member has heard, and for how many turns it has heard nothing new.
+/// What a member has heard, for how many turns it has heard nothing new, how often it saw all woken, and whether its last post is still
+/// to wake them.
 #[derive(Drop)]
 pub(crate) struct News {
     me: u8,
     heard: u64,
     idle: u32,
-    parker: Parker,
+    wakes: u64,
+    has_posted: bool,
 }
 
 impl News {
@@ -25,7 +27,8 @@ impl News {
             me,
             heard: 0,
             idle: 0,
-            parker: Parker::new(),
+            wakes: 0,
+            has_posted: false,
         }
     }
 
@@ -43,15 +46,25 @@ impl News {
     /// The member has posted, so that there is something to send.
     pub(crate) fn has_posted(&mut self) {
         self.idle = 0;
+        self.has_posted = true;
     }
 
-    /// Lets the other threads have their turn; behind turns that brought nothing new it sleeps, longer each time, up to a millisecond.
-    pub(crate) fn rest<R: Wait>(&self, rt: &R) {
+    /// Lets the other threads have their turn, and wakes them behind a post. Behind turns that brought nothing new it sleeps, longer each
+    /// time, up to a millisecond or until another wakes it.
+    pub(crate) fn rest<R: Wait>(&mut self, rt: &R, crew: &Crew) {
+        if self.has_posted {
+            self.has_posted = false;
+            crew.wake();
+        }
+        let wakes = crew.wakes();
+        if wakes != self.wakes {
+            self.wakes = wakes;
+            self.idle = 0;
+        }
         if self.idle < BUSY {
             yield_now();
         } else {
-            let micros = micros(self.idle, self.me);
-            self.parker.park_timeout(rt, Duration::from_micros(micros));
+            crew.sleep(rt, wakes, micros(self.idle, self.me));
         }
     }
 }
