@@ -59,7 +59,7 @@ impl News {
         let wakes = crew.wakes();
         if wakes != self.wakes {
             self.wakes = wakes;
-            self.idle = 0;
+            self.idle = self.idle.min(BUSY);
         }
         if self.idle < BUSY {
             yield_now();
