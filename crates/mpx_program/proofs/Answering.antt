@@ -1,6 +1,7 @@
 -- What a call does with the text that a reader gives.
-use Rattle.std.proofs.Common.{◌≡◌, ℕ, Bool, false, List, Option, Some, None, Result, Ok, Err, refl, subst, sym}
-use Rattle.std.specs.Prelude.{◌≢◌}
+use Rattle.std.proofs.Common.{◌≡◌, ℕ, Bool, false, List, [], Option, Some, None, Result, Ok, Err, inl, inr, refl, subst, sym}
+use Rattle.std.proofs.lemmas.Result.{IfOk-weaker}
+use Rattle.std.specs.Prelude.{◌≢◌, ◌⊎◌}
 use Rattle.std.specs.Io.KnownBytes.{Keeps}
 use Rattle.mpx_num.specs.declared.own.Operation.{Operation}
 use Rattle.mpx_threads.specs.Gates.{nowhere}
@@ -20,8 +21,11 @@ use Rattle.mpx_run.specs.Founded.{IsFounded}
 use Rattle.mpx_run.specs.Reports.{IsPrinted}
 use Rattle.mpx_run.proofs.Less.{runs_printed}
 use Rattle.mpx_run.proofs.Pieces.{gated_prints, prints_ungated, refused_prints, runs_ungated, written_prints}
-use Rattle.mpx_program.specs.Jobs.{AnswersText, DoesJobWith, Exits, FailsBefore, StrictBy, StrictOn}
+use Rattle.mpx_program.proofs.Telling.{found_tells}
+use Rattle.mpx_program.specs.Explained.{HasTold, IsFound}
+use Rattle.mpx_program.specs.Jobs.{AnswersText, DoesJobWith, Exits, ExplainsOn, FailsBefore, StrictBy, StrictOn, TellsRead}
 use Rattle.mpx_program.specs.Strict.{IsStrict}
+use Rattle.mpx_program.specs.declared.found.Found.{Found}
 use Rattle.mpx_words.specs.declared.invocation.Invocation.{Invocation}
 
 kept : (o : Option (List ℕ)) → Keeps o o
@@ -54,11 +58,22 @@ does_nothing ops call there left old why more code Says fails exits = record {
   complains = false;
   strict = tt;
   more = more;
+  explains = tt;
   exits = exits;
 }
 
+-- what is told of a script is told of a text that is read so; where memory was wanting, nothing is
+explained : (ops : List Operation) (call : Invocation) (text : List ℕ) (script : ScriptView) (found : Found) (read : reading ops text ≡ Ok script) (is : IsFound ops call.job.command script found) (answer : Result End RunError) (more : List ℕ)
+    → (more ≡ []) ⊎ HasTold script text found answer more → ExplainsOn ops call text answer more
+explained ops call text script found read is (Err error) more told = tt
+explained ops call text script found read is (Ok end) more (inl none) = subst (λ r. TellsRead ops call.job.command r text end more) (sym read) (inl none)
+explained ops call text script found read is (Ok end) more (inr told) = subst (λ r. TellsRead ops call.job.command r text end more) (sym read) (found_tells ops call.job.command script text found (Ok end) more is told)
+
 -- what is answered is what is written of a script
-module _ (ops : List Operation) (call : Invocation) (text : List ℕ) (script : ScriptView) (complains : Bool) (read : reading ops text ≡ Ok script) (strict : IsStrict ops call text complains) (old new : Option (List ℕ)) (more : List ℕ) (code : ℕ) (Says : List ℕ → Type 0) where
+module _ (ops : List Operation) (call : Invocation) (text : List ℕ) (script : ScriptView) (complains : Bool) (read : reading ops text ≡ Ok script) (strict : IsStrict ops call text complains) (found : Found) (is_found : IsFound ops call.job.command script found) (old new : Option (List ℕ)) (more : List ℕ) (code : ℕ) (Says : List ℕ → Type 0) where
+  abbrev Told : Result End RunError → Type 0
+  Told answer = (more ≡ []) ⊎ HasTold script text found answer more
+
   strict_on : (answer : Result End RunError) → StrictOn ops call text answer complains
   strict_on (Ok end) = strict
   strict_on (Err error) = tt
@@ -67,22 +82,23 @@ module _ (ops : List Operation) (call : Invocation) (text : List ℕ) (script : 
   is_ungated (Ok end) p = λ e. cc e
   is_ungated (Err error) p = λ e. subst (λ a. PrintsUngated IsFounded ops call.job text old new a) e p
 
-  answers : (answer : Result End RunError) → PrintsUngated IsFounded ops call.job text old new answer → Exits answer complains call.flags.explain more code Says → AnswersText IsFounded ops call text old new code Says
-  answers answer prints exits = record {
+  answers : (answer : Result End RunError) → PrintsUngated IsFounded ops call.job text old new answer → Told answer → Exits answer complains call.flags.explain more code Says → AnswersText IsFounded ops call text old new code Says
+  answers answer prints told exits = record {
     answer = answer;
     prints = gated_prints IsFounded ops nowhere call.job text old new answer prints;
     ungated = is_ungated answer prints;
     complains = complains;
     strict = strict_on answer;
     more = more;
+    explains = explained ops call text script found read is_found answer more told;
     exits = exits;
   }
 
-  pub answers_written : (out : List ℕ) (end : End) (answer : Result End RunError) → ComesTo IsFounded ops call.job.command call.job.options script end out → IsWritten old new out end answer → Exits answer complains call.flags.explain more code Says → AnswersText IsFounded ops call text old new code Says
+  pub answers_written : (out : List ℕ) (end : End) (answer : Result End RunError) → ComesTo IsFounded ops call.job.command call.job.options script end out → IsWritten old new out end answer → Told answer → Exits answer complains call.flags.explain more code Says → AnswersText IsFounded ops call text old new code Says
   answers_written out end answer comes written = answers answer (written_prints IsFounded ops call.job text script old new out end answer read comes written)
 
-  pub answers_refused : (why : RunError) → new ≡ old → IsRefusedFor call.job script why → Exits (Err why) complains call.flags.explain more code Says → AnswersText IsFounded ops call text old new code Says
-  answers_refused why same refused = answers (Err why) (subst (λ n. PrintsUngated IsFounded ops call.job text old n (Err why)) (sym same) (refused_prints IsFounded ops call.job text script old why read refused))
+  pub answers_refused : (why : RunError) → new ≡ old → IsRefusedFor call.job script why → Told (Err why) → Exits (Err why) complains call.flags.explain more code Says → AnswersText IsFounded ops call text old new code Says
+  answers_refused why same refused told exits = answers (Err why) (subst (λ n. PrintsUngated IsFounded ops call.job text old n (Err why)) (sym same) (refused_prints IsFounded ops call.job text script old why read refused)) told exits
 
 -- what is done with a text is done with what the reader gives
 pub does_text : (ops : List Operation) (call : Invocation) (there left old new : Option (List ℕ)) (text now : List ℕ) (code : ℕ) (Says : List ℕ → Type 0) → TakesInput there left text → now ≡ text → AnswersText IsFounded ops call now old new code Says
@@ -94,6 +110,7 @@ does_text ops call there left old new text now code Says taken same a = record {
   complains = a.complains;
   strict = by_answer a.answer a.complains a.strict;
   more = a.more;
+  explains = IfOk-weaker a.answer _ _ (λ end told. (text, taken, subst (λ xs. TellsRead ops call.job.command (reading ops xs) xs end a.more) same told)) a.explains;
   exits = a.exits;
 } where
   by_answer : (answer : Result End RunError) (complains : Bool) → StrictOn ops call now answer complains → StrictBy ops call there left answer complains
@@ -108,5 +125,6 @@ does_printed ops call there left old new code Says d = record {
   complains = d.complains;
   strict = d.strict;
   more = d.more;
+  explains = d.explains;
   exits = d.exits;
 }

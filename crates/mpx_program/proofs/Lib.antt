@@ -1,2 +1,3 @@
 mod Answering
+mod Telling
 mod Saying

@@ -1,12 +1,9 @@
 -- What is said, in two parts.
-use Rattle.std.proofs.Common.{◌≡◌, refl, ap, sym, ◌∙◌, ℕ, zero, suc, Bool, true, false, List, [], ◌∷◌, ◌++◌, take, Option, Some, None, Result, Ok, Err, append_assoc, append-nil, subst}
+use Rattle.std.proofs.Common.{◌≡◌, refl, ap, sym, ◌∙◌, ℕ, zero, suc, List, [], ◌∷◌, ◌++◌, take, Option, Some, None, Result, Ok, Err, append_assoc, append-nil, subst}
 use Rattle.std.specs.Prelude.{OnErr, OnOk}
 use Rattle.std.specs.Io.KnownBytes.{Appends}
-use Rattle.mpx_run.specs.declared.end.End.{End}
 use Rattle.mpx_run.specs.declared.streams.WriteFault.{WriteFault}
-use Rattle.mpx_run.specs.declared.texts.RunError.{RunError}
 use Rattle.mpx_program.specs.Jobs.{Tells}
-use Rattle.mpx_program.specs.Status.{advice, explanation, message, why}
 
 -- a beginning of the first part is one of both
 begins : (n : ℕ) (xs ys : List ℕ) → (m : ℕ) × (take m (xs ++ ys) ≡ take n xs)

@@ -1,3 +1,4 @@
 pub mod Status
 pub mod Strict
+pub mod Explained
 pub mod Jobs

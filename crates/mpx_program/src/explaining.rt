@@ -1,11 +1,17 @@
 //! What `--explain` tells beside why a run ended.
-ghost use Rattle.std.specs.Prelude.{◌≡◌, [], false};
+ghost use Rattle.std.specs.Prelude.{◌≡◌, ◌⊎◌, [], IfOk, List, OnOk, false, map};
+ghost use Rattle.mpx_num.specs.declared.own.Operation.{Operation};
+ghost use Rattle.mpx_eval.specs.Findings.{AreFindings};
+ghost use Rattle.mpx_eval.specs.Found.{complaint_view, waiting_view};
+ghost use Rattle.mpx_explain.specs.Findings.{AreTold};
+ghost use Rattle.mpx_waiting.specs.ToldLines.{waiting_told};
+ghost use Rattle.mpx_program.specs.Explained.{AreCalls, HasTold, IsBehind, IsHeaded, TellsEarly, TellsEnd, TellsEvaluation};
 
 use crate::found::Found;
 use crate::prepared::Prepared;
 use crate::reason::push_reason;
 use join_core::OutOfMemory;
-use mpx_eval::Findings;
+use mpx_eval::{Complaint, Findings};
 use mpx_explain::{
     explain_calls, explain_earlier, explain_refusals, explain_results, explain_served,
     explain_unheard, run_end,
@@ -13,14 +19,15 @@ use mpx_explain::{
 use mpx_node::Node;
 use mpx_num::Ops;
 use mpx_run::{Cause, End, Left, RunError};
+use mpx_script::Script;
 use mpx_waiting::push_waiting;
 use mpx_words::Invocation;
 use std::alloc::Global;
 
-/// Further lines, where `--explain` is asked for and the job came to an end: for whose posts ranks wait, calls that are refused or are faults,
+/// Further lines, where `--explain` is asked for: of a job that came to an end for whose posts ranks wait, calls that are refused or are faults,
 /// and results that are past their types. Where a run ended early, these lines are of the evaluation and stand behind a heading that says so;
 /// before it stands where ranks wait in this run, and whose posts they lack. So they do where the text couldn't be written, behind the system's
-/// reason. Where memory is wanting, fewer lines.
+/// reason. Where memory is wanting, nothing.
 pub(crate) fn explained(
     alloc: Global,
     call: &Invocation,
@@ -28,15 +35,19 @@ pub(crate) fn explained(
     answer: &Result<End, RunError>,
     left: Option<&Left>,
 ) -> Vec<u8>
-    ensures { call.now.flags.explain ≡ false → result.items ≡ [] }
+    ensures off { call.now.flags.explain ≡ false → result.items ≡ [] }
+    ensures on { (result.items ≡ []) ⊎ HasTold prepared.now.script prepared.now.text.items prepared.now.found answer.now result.items }
 {
-    let mut told = Vec::new(alloc);
-    if call.flags.explain {
-        if let Some(left) = left {
-            let _ = push_found(alloc, prepared, answer, left, &mut told);
-        }
+    if !call.flags.explain {
+        return Vec::new(alloc);
     }
-    told
+    let Some(left) = left else {
+        return Vec::new(alloc);
+    };
+    match found_told(alloc, prepared, answer, left) {
+        Ok(told) => told,
+        Err(OutOfMemory) => Vec::new(alloc),
+    }
 }
 
 /// What is explained where the script couldn't be read for this reason: what the system says.
@@ -64,66 +75,121 @@ pub(crate) fn explained_refusals(
     told
 }
 
-fn push_found(
+// What is told by what was found.
+fn found_told(
     alloc: Global,
     prepared: &Prepared,
     answer: &Result<End, RunError>,
     left: &Left,
-    told: &mut Vec<u8>,
-) -> Result<(), OutOfMemory> {
-    let (text, script) = (prepared.text.as_slice(), &prepared.script);
+) -> Result<Vec<u8>, OutOfMemory>
+    ensures { IfOk result (λ told. HasTold prepared.now.script prepared.now.text.items prepared.now.found answer.now told.items) }
+{
     match &prepared.found {
-        Found::Nothing => Ok(()),
-        Found::Certain(found) => explain_calls(alloc, text, script, found, told),
-        Found::InEvaluation(found) => match answer {
-            Ok(End::Waiting(_, Cause::InEveryRun)) => push_evaluation(alloc, prepared, found, told),
-            Ok(End::Waiting(ranks, _)) => push_early(alloc, prepared, left, ranks, found, told),
-            Ok(End::Finished) => push_evaluation(alloc, prepared, found, told),
-            Err(error) => {
-                push_reason(alloc, error, told)?;
-                push_early(alloc, prepared, left, &[], found, told)
-            }
-        },
+        Found::Nothing => Ok(Vec::new(alloc)),
+        Found::Certain(found) => certain_told(alloc, &prepared.text, &prepared.script, found),
+        Found::InEvaluation(found) => end_told(alloc, prepared, found, answer, left),
     }
 }
 
+// The calls on `world` that are refused for certain.
+fn certain_told(
+    alloc: Global,
+    text: &[u8],
+    script: &Script,
+    found: &[Complaint],
+) -> Result<Vec<u8>, OutOfMemory>
+    ensures { IfOk result (λ told. AreTold text.now (map complaint_view found.now) [] told.items) }
+{
+    let mut told = Vec::new(alloc);
+    explain_calls(alloc, text, script, found, &mut told)?;
+    Ok(told)
+}
+
+// What is told of a run or an evaluation that came to this.
+fn end_told(
+    alloc: Global,
+    prepared: &Prepared,
+    found: &Findings,
+    answer: &Result<End, RunError>,
+    left: &Left,
+) -> Result<Vec<u8>, OutOfMemory>
+    ensures { IfOk result (λ told. IfOk answer.now (λ end. (ops : List Operation) → AreFindings ops prepared.now.script (map waiting_view found.now.waiting.items) (map complaint_view found.now.complaints.items) (map complaint_view found.now.unheard.items)
+        → TellsEnd ops prepared.now.script prepared.now.text.items end told.items)) }
+{
+    match answer {
+        Ok(End::Finished) => evaluation_told(alloc, prepared, found),
+        Ok(End::Waiting(_, Cause::InEveryRun)) => evaluation_told(alloc, prepared, found),
+        Ok(End::Waiting(ranks, Cause::TurnsUsedUp(_))) => {
+            early_told(alloc, prepared, left, ranks, found)
+        }
+        Ok(End::Waiting(ranks, Cause::AllLost)) => early_told(alloc, prepared, left, ranks, found),
+        Ok(End::Waiting(ranks, Cause::Unknown)) => early_told(alloc, prepared, left, ranks, found),
+        Err(error) => fault_told(alloc, prepared, left, found, error),
+    }
+}
+
+// What is told where the text couldn't be written.
+fn fault_told(
+    alloc: Global,
+    prepared: &Prepared,
+    left: &Left,
+    found: &Findings,
+    error: &RunError,
+) -> Result<Vec<u8>, OutOfMemory> {
+    let mut told = Vec::new(alloc);
+    push_reason(alloc, error, &mut told)?;
+    let early = early_told(alloc, prepared, left, &[], found)?;
+    told.extend_from_slice(&early)?;
+    Ok(told)
+}
+
 // The lines of a run that ended early, and behind a heading those of the evaluation. Where ranks wait in the evaluation isn't told twice.
-fn push_early(
+fn early_told(
     alloc: Global,
     prepared: &Prepared,
     left: &Left,
     ranks: &[u8],
     found: &Findings,
-    told: &mut Vec<u8>,
-) -> Result<(), OutOfMemory> {
-    let mut here = Vec::new(alloc);
-    push_run_end(alloc, prepared, left, ranks, found, &mut here)?;
-    told.extend_from_slice(&here)?;
-    let mut there = Vec::new(alloc);
-    push_waits(alloc, prepared, found, &mut there)?;
-    let mut calls = Vec::new(alloc);
-    push_calls(alloc, prepared, found, &mut calls)?;
-    push_behind(here.as_slice(), there.as_slice(), calls.as_slice(), told)
+) -> Result<Vec<u8>, OutOfMemory>
+    ensures { IfOk result (λ told. (ops : List Operation) → AreFindings ops prepared.now.script (map waiting_view found.now.waiting.items) (map complaint_view found.now.complaints.items) (map complaint_view found.now.unheard.items)
+        → TellsEarly ops prepared.now.script prepared.now.text.items told.items) }
+{
+    let mut told = Vec::new(alloc);
+    push_run_end(alloc, prepared, left, ranks, found, &mut told)?;
+    let there = waits_told(alloc, prepared, found)?;
+    push_behind(there.as_slice(), &mut told)?;
+    drop(there);
+    let calls = calls_told(alloc, prepared, found)?;
+    push_headed(calls.as_slice(), &mut told)?;
+    drop(calls);
+    Ok(told)
 }
 
-// Adds what is of the evaluation, of whose waits the text is there, and here that of the run's. Of a text that was cut the rest isn't known.
-fn push_behind(
-    here: &[u8],
-    there: &[u8],
-    calls: &[u8],
-    told: &mut Vec<u8>,
-) -> Result<(), OutOfMemory> {
-    let is_cut = there.ends_with(b" more\n");
-    if !there.is_empty() && here == there && !is_cut {
+// Adds what waits of the evaluation are told there, behind those of the run. Of a text that was cut the rest isn't known.
+fn push_behind(there: &[u8], told: &mut Vec<u8>) -> Result<(), OutOfMemory>
+    ensures { OnOk result (IsBehind told.old.items there.now told.new.items) }
+{
+    if there.is_empty() {
+        return Ok(());
+    }
+    if told.as_slice() == there && !there.ends_with(b" more\n") {
         told.extend_from_slice(b"in the evaluation these ranks wait there too\n")?;
-    } else if !there.is_empty() {
-        told.extend_from_slice(b"in the evaluation ranks wait here:\n")?;
-        told.extend_from_slice(there)?;
+        return Ok(());
     }
-    if !calls.is_empty() {
-        told.extend_from_slice(b"in the evaluation:\n")?;
-        told.extend_from_slice(calls)?;
+    told.extend_from_slice(b"in the evaluation ranks wait here:\n")?;
+    told.extend_from_slice(there)?;
+    Ok(())
+}
+
+// Adds the lines of calls behind a heading, where there are some.
+fn push_headed(calls: &[u8], told: &mut Vec<u8>) -> Result<(), OutOfMemory>
+    ensures { OnOk result (IsHeaded told.old.items calls.now told.new.items) }
+{
+    if calls.is_empty() {
+        return Ok(());
     }
+    told.extend_from_slice(b"in the evaluation:\n")?;
+    told.extend_from_slice(calls)?;
     Ok(())
 }
 
@@ -158,40 +224,46 @@ fn nodes_of(alloc: Global, left: &Left, ranks: u8) -> Result<Vec<&Node>, OutOfMe
 }
 
 // What is found in the evaluation.
-fn push_evaluation(
+fn evaluation_told(
     alloc: Global,
     prepared: &Prepared,
     found: &Findings,
-    told: &mut Vec<u8>,
-) -> Result<(), OutOfMemory> {
-    push_waits(alloc, prepared, found, told)?;
-    push_calls(alloc, prepared, found, told)
+) -> Result<Vec<u8>, OutOfMemory>
+    ensures { IfOk result (λ told. (ops : List Operation) → AreFindings ops prepared.now.script (map waiting_view found.now.waiting.items) (map complaint_view found.now.complaints.items) (map complaint_view found.now.unheard.items)
+        → TellsEvaluation ops prepared.now.script prepared.now.text.items told.items) }
+{
+    let mut told = waits_told(alloc, prepared, found)?;
+    push_calls(alloc, prepared, found, &mut told)?;
+    Ok(told)
 }
 
 // Who waits in the evaluation.
-fn push_waits(
-    alloc: Global,
-    prepared: &Prepared,
-    found: &Findings,
-    told: &mut Vec<u8>,
-) -> Result<(), OutOfMemory> {
-    let text = prepared.text.as_slice();
-    push_waiting(
-        alloc,
-        text,
-        &prepared.script,
-        found.waiting.as_slice(),
-        told,
-    )
+fn waits_told(alloc: Global, prepared: &Prepared, found: &Findings) -> Result<Vec<u8>, OutOfMemory>
+    ensures { IfOk result (λ told. told.items ≡ waiting_told prepared.now.text.items prepared.now.script.statements (map waiting_view found.now.waiting.items)) }
+{
+    let mut told = Vec::new(alloc);
+    let (text, script) = (prepared.text.as_slice(), &prepared.script);
+    push_waiting(alloc, text, script, found.waiting.as_slice(), &mut told)?;
+    Ok(told)
 }
 
 // Which calls are refused or are faults there, and which results are past their types.
+fn calls_told(alloc: Global, prepared: &Prepared, found: &Findings) -> Result<Vec<u8>, OutOfMemory>
+    ensures { IfOk result (λ told. AreCalls prepared.now.text.items prepared.now.script.statements (map complaint_view found.now.complaints.items) (map complaint_view found.now.unheard.items) [] told.items) }
+{
+    let mut told = Vec::new(alloc);
+    push_calls(alloc, prepared, found, &mut told)?;
+    Ok(told)
+}
+
 fn push_calls(
     alloc: Global,
     prepared: &Prepared,
     found: &Findings,
     told: &mut Vec<u8>,
-) -> Result<(), OutOfMemory> {
+) -> Result<(), OutOfMemory>
+    ensures { OnOk result (AreCalls prepared.now.text.items prepared.now.script.statements (map complaint_view found.now.complaints.items) (map complaint_view found.now.unheard.items) told.old.items told.new.items) }
+{
     let (text, script) = (prepared.text.as_slice(), &prepared.script);
     let waiting = found.waiting.as_slice();
     explain_calls(alloc, text, script, &found.complaints, told)?;

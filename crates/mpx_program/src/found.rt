@@ -1,5 +1,6 @@
 //! What is found in a script beside the job, for `--strict` and for `--explain`: once.
 ghost use Rattle.std.specs.Prelude.{IfOk};
+ghost use Rattle.mpx_program.specs.Explained.{IsFound};
 ghost use Rattle.mpx_program.specs.Strict.{Complains, ComplainsIn, IsAsked};
 
 use join_core::OutOfMemory;
@@ -37,7 +38,8 @@ pub(crate) fn examine_script(
     script: &Script,
     ops: &Ops,
 ) -> Result<Examined, OutOfMemory>
-    ensures { IfOk result (λ examined. IsAsked call.now.flags.strict (Complains (⟦<Ops as Listing>⟧.operations ops.now) call.now.job.command script.now examined.complains) examined.complains) }
+    ensures found { IfOk result (λ examined. IsFound (⟦<Ops as Listing>⟧.operations ops.now) call.now.job.command script.now examined.found) }
+    ensures strict { IfOk result (λ examined. IsAsked call.now.flags.strict (Complains (⟦<Ops as Listing>⟧.operations ops.now) call.now.job.command script.now examined.complains) examined.complains) }
 {
     if call.flags.strict {
         return found_in(alloc, call.job.command, script, ops);
@@ -54,7 +56,9 @@ pub(crate) fn examine_script(
 }
 
 // What is found, where there is memory for it.
-fn found_for_lines(alloc: Global, command: Command, script: &Script, ops: &Ops) -> Found {
+fn found_for_lines(alloc: Global, command: Command, script: &Script, ops: &Ops) -> Found
+    ensures { IsFound (⟦<Ops as Listing>⟧.operations ops.now) command script.now result }
+{
     match found_in(alloc, command, script, ops) {
         Ok(examined) => examined.found,
         Err(OutOfMemory) => Found::Nothing,
@@ -68,7 +72,8 @@ fn found_in(
     script: &Script,
     ops: &Ops,
 ) -> Result<Examined, OutOfMemory>
-    ensures { IfOk result (λ examined. Complains (⟦<Ops as Listing>⟧.operations ops.now) command script.now examined.complains) }
+    ensures found { IfOk result (λ examined. IsFound (⟦<Ops as Listing>⟧.operations ops.now) command script.now examined.found) }
+    ensures complains { IfOk result (λ examined. Complains (⟦<Ops as Listing>⟧.operations ops.now) command script.now examined.complains) }
 {
     match command {
         Command::Run => found_in_evaluation(alloc, script, ops),
@@ -79,7 +84,9 @@ fn found_in(
 
 // It complains where some line of the evaluation says that a call was refused or is a fault, or one of a request is a fault that no line tells.
 fn found_in_evaluation(alloc: Global, script: &Script, ops: &Ops) -> Result<Examined, OutOfMemory>
-    ensures { IfOk result (λ examined. ComplainsIn (⟦<Ops as Listing>⟧.operations ops.now) script.now examined.complains) }
+    ensures run { IfOk result (λ examined. IsFound (⟦<Ops as Listing>⟧.operations ops.now) Command.Run script.now examined.found) }
+    ensures eval { IfOk result (λ examined. IsFound (⟦<Ops as Listing>⟧.operations ops.now) Command.Eval script.now examined.found) }
+    ensures complains { IfOk result (λ examined. ComplainsIn (⟦<Ops as Listing>⟧.operations ops.now) script.now examined.complains) }
 {
     let found = examine(alloc, script, ops)?;
     let complains = !found.complaints.is_empty() || !found.unheard.is_empty();
@@ -91,7 +98,8 @@ fn found_in_evaluation(alloc: Global, script: &Script, ops: &Ops) -> Result<Exam
 
 // It complains where some call on `world` is refused for certain.
 fn found_for_certain(alloc: Global, script: &Script, ops: &Ops) -> Result<Examined, OutOfMemory>
-    ensures { IfOk result (λ examined. Complains (⟦<Ops as Listing>⟧.operations ops.now) Command.Check script.now examined.complains) }
+    ensures found { IfOk result (λ examined. IsFound (⟦<Ops as Listing>⟧.operations ops.now) Command.Check script.now examined.found) }
+    ensures complains { IfOk result (λ examined. Complains (⟦<Ops as Listing>⟧.operations ops.now) Command.Check script.now examined.complains) }
 {
     let found = certain_refusals(alloc, script, ops)?;
     let complains = !found.is_empty();

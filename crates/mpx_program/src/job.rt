@@ -5,6 +5,7 @@ ghost use Rattle.mpx_script.specs.Reading.{reading};
 ghost use Rattle.mpx_run.specs.Founded.{IsFounded};
 ghost use Rattle.mpx_run.specs.Reports.{IsPrinted};
 ghost use Rattle.mpx_run.specs.Texts.{ComesTo, IsRefusedFor, is_in_threads};
+ghost use Rattle.mpx_program.specs.Explained.{IsFound};
 ghost use Rattle.mpx_program.specs.Jobs.{AnswersText, DoesJob, DoesJobWith, Exits, IsRefused, Tells, ask_for_threads};
 ghost use Rattle.mpx_program.specs.Strict.{IsStrict};
 
@@ -169,6 +170,7 @@ fn answer<W: Write, E: Write>(
 ) -> Exit
     requires read { reading (⟦<Ops as Listing>⟧.operations ops.now) prepared.now.text.items ≡ Ok prepared.now.script }
     requires strict { IsStrict (⟦<Ops as Listing>⟧.operations ops.now) call.now prepared.now.text.items prepared.now.complains }
+    requires found { IsFound (⟦<Ops as Listing>⟧.operations ops.now) call.now.job.command prepared.now.script prepared.now.found }
     requires comes { IfOk printed (λ p. ComesTo IsFounded (⟦<Ops as Listing>⟧.operations ops.now) call.now.job.command call.now.job.options prepared.now.script p.end (string_bytes p.text)) }
     requires refused { IfErr printed (λ e. IsRefusedFor call.now.job prepared.now.script e) }
     ensures { AnswersText IsFounded (⟦<Ops as Listing>⟧.operations ops.now) call.now prepared.now.text.items (W.contents out.old) (W.contents out.new) result.status (Tells (E.contents err.old) (E.contents err.new) result.told) }

@@ -31,10 +31,20 @@ fn handed_on(alloc: Global, args: io::Result<env::Args>) -> Result<Vec<String>, 
     ensures { IfOk result (λ words. IsOkAnd args (λ args. words.items ≡ into_iter_items args)) }
 {
     match args {
-        Ok(args) => Ok(args.collect(alloc)?),
+        Ok(args) => Ok(in_order(alloc, args)?),
         Err(error) if error.kind() == io::ErrorKind::OutOfMemory => Err(AllocError.into()),
         Err(_) => Err(not_text(alloc)),
     }
+}
+
+fn in_order(alloc: Global, args: env::Args) -> Result<Vec<String>, AllocError>
+    ensures { IfOk result (λ words. words.items ≡ into_iter_items args) }
+{
+    let mut words = Vec::new(alloc);
+    for word in args {
+        words.push(word)?;
+    }
+    Ok(words)
 }
 
 /// Who looks on, by what these words ask for.

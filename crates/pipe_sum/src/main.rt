@@ -2,6 +2,8 @@
 //! lines of text on their standard streams. Its only word is the process's rank, 0 or 1.
 #![tactic(auto)]
 
+ghost use Rattle.std.specs.Prelude.{◌<◌};
+
 mod carry;
 
 use carry::{hear, say};
@@ -30,7 +32,9 @@ fn begin<W: Write>(
     rank: u8,
     ops: &Ops,
     out: &mut W,
-) -> Option<()> {
+) -> Option<()>
+    requires { rank < 2 }
+{
     let world = Comm::world(alloc, 2, rank);
     let mine = Numbers::one(10 + i128::from(rank));
     let request = desk.iallreduce(alloc, &world, Op::Sum, Ty::I64, mine, ops);
@@ -59,16 +63,21 @@ fn sum_heard(rt: &HostRuntime, desk: &mut Desk<Node>, ops: &Ops) -> Option<i64> 
     None
 }
 
-fn sum(rt: &HostRuntime, desk: &mut Desk<Node>, rank: u8) -> Option<i64> {
+fn sum(rt: &HostRuntime, desk: &mut Desk<Node>, rank: u8) -> Option<i64>
+    requires { rank < 2 }
+{
     let ops = Ops::none(rt.alloc());
     begin(rt.alloc(), desk, rank, &ops, &mut io::writer(rt))?;
     sum_heard(rt, desk, &ops)
 }
 
 fn main(rt: HostRuntime) -> ExitCode {
-    let Some(rank @ 0..=1) = rank_told(&rt) else {
+    let Some(rank) = rank_told(&rt) else {
         return ExitCode::from(2);
     };
+    if rank > 1 {
+        return ExitCode::from(2);
+    }
     let Ok(node) = Node::new(rt.alloc(), Proc::new(rank), 2, 2) else {
         return ExitCode::FAILURE;
     };

@@ -1,1 +1,2 @@
+pub mod NewHomes
 pub mod NewPorts

@@ -24,12 +24,12 @@ module _ (setup : Setup) (table : TableId) (unplanned : setup.planned ≡ false)
   one_more : (ports rest : List PortView) (b : PortView) → ports ≡ rest ++ b ∷ [] → length ports ≡ length rest + 1
   one_more ports rest b is = ap length is ∙ length-append rest (b ∷ [])
 
-  pub fresh_last : (me n : ℕ) (ports rest : List PortView) (b : PortView) → n ≡ me + 1 → IsFleet setup table n ports → ports ≡ rest ++ b ∷ [] → IsFresh ops table me b
+  fresh_last : (me n : ℕ) (ports rest : List PortView) (b : PortView) → n ≡ me + 1 → IsFleet setup table n ports → ports ≡ rest ++ b ∷ [] → IsFresh ops table me b
   fresh_last me n ports rest b count fleet is =
       let more = one_more ports rest b is in
       fresh_at me (length rest) b (omega (arith, count, fleet.count, more)) (fleet_last setup table n ports rest b fleet is)
 
-  pub fresh_before : (me n : ℕ) (ports rest front : List PortView) (b a : PortView) → n ≡ me + 2 → IsFleet setup table n ports → ports ≡ rest ++ b ∷ [] → rest ≡ front ++ a ∷ [] → IsFresh ops table me a
+  fresh_before : (me n : ℕ) (ports rest front : List PortView) (b a : PortView) → n ≡ me + 2 → IsFleet setup table n ports → ports ≡ rest ++ b ∷ [] → rest ≡ front ++ a ∷ [] → IsFresh ops table me a
   fresh_before me n ports rest front b a count fleet is is' =
       let more = one_more ports rest b is in
       let more' = one_more rest front a is' in

@@ -6,6 +6,7 @@ ghost use Rattle.mpx_bus.specs.Buses.{table_of};
 ghost use Rattle.port_tests.specs.Homes.{IsHome};
 
 use crate::ports::{Act, LIMIT, does, harvests};
+use join_core::OutOfMemory;
 use mpx_bus::{Bus, Port};
 use mpx_num::{Listing, Ops};
 use std::alloc::Global;
@@ -62,7 +63,25 @@ fn go_on<R: Wait>(
     Ok(all)
 }
 
-// Pushes, pops and harvests until the sum is done, and pushes once more, so that the other gets on.
+// Pushes, pops and harvests. Whether the sum is done.
+fn harvests_in_turn<R: Wait>(
+    rt: &R,
+    alloc: Global,
+    bus: &Bus,
+    port: &mut Port,
+    ops: &Ops,
+) -> Result<bool, OutOfMemory>
+    requires list { ⟦<Ops as Listing>⟧.operations ops.now ≡ port.old.setup.operations }
+    requires queue { port.old.table ≡ table_of bus.now }
+    requires plan { port.old.setup.planned ≡ false }
+    ensures { IsSamePort port.old port.new }
+{
+    drop(bus.push_own(rt, alloc, port, LIMIT)?);
+    drop(bus.pop(rt, alloc, port));
+    harvests(alloc, port, ops)
+}
+
+// Does so until the sum is done, and pushes once more, so that the other gets on.
 fn work<R: Wait>(rt: &R, alloc: Global, bus: &Bus, mut port: Port, turns: u32, ops: &Ops) -> Port
     requires list { ⟦<Ops as Listing>⟧.operations ops.now ≡ port.setup.operations }
     requires queue { port.table ≡ table_of bus.now }
@@ -70,10 +89,9 @@ fn work<R: Wait>(rt: &R, alloc: Global, bus: &Bus, mut port: Port, turns: u32, o
     ensures { IsSamePort port result }
 {
     for _ in 0..turns {
-        let _ = bus.push_own(rt, alloc, &mut port, LIMIT);
-        let _ = bus.pop(rt, alloc, &mut port);
-        if matches!(harvests(alloc, &mut port, ops), Ok(true)) {
-            let _ = bus.push_own(rt, alloc, &mut port, LIMIT);
+        let done = harvests_in_turn(rt, alloc, bus, &mut port, ops);
+        if done == Ok(true) {
+            drop(bus.push_own(rt, alloc, &mut port, LIMIT));
             return port;
         }
         yield_now();

@@ -5,7 +5,7 @@ ghost use Rattle.mpx_shared.specs.LawfulPorts.{IsLawful, made_in};
 ghost use Rattle.port_tests.specs.Fresh.{ArePair};
 
 use crate::ports::sum_in;
-use join_core::Exact;
+use join_core::{Exact, OutOfMemory};
 use mpx_bus::{Bus, Port};
 use mpx_group::Proc;
 use mpx_name::Name;
@@ -58,55 +58,70 @@ fn post_sum<L: PortLock, R: Wait>(
     )
 }
 
-// Whether there is no such post, and else the sum that the call gave beside the ticket's post, where that is told.
-fn told_in(tested: &TicketTested, ticket: &Ticket) -> (bool, Option<i128>) {
+// Whether that tells this sum beside the ticket's post; or that there is no such post, where no sum is wanted.
+fn tells(tested: &TicketTested, ticket: &Ticket, wanted: Option<i128>) -> bool {
     match tested {
-        TicketTested::Strange => (true, None),
         TicketTested::Done(finished) => {
-            if finished.mine.same(&ticket.post) {
-                (false, sum_in(finished))
-            } else {
-                (false, None)
-            }
+            wanted.is_some() && sum_in(finished) == wanted && finished.mine.same(&ticket.post)
         }
-        _ => (false, None),
+        TicketTested::Strange => wanted.is_none(),
+        _ => false,
     }
 }
 
-// What the port tells of the ticket.
-fn told<L: PortLock, R: Wait>(
+// Whether the port tells that of the ticket.
+fn is_told<L: PortLock, R: Wait>(
     rt: &R,
     alloc: Global,
     port: &SharedPort<L>,
     ticket: &Ticket,
-) -> Result<(bool, Option<i128>), Fail> {
+    wanted: Option<i128>,
+) -> Result<bool, OutOfMemory> {
     let tested = port.test(rt, alloc, ticket)?;
-    let told = told_in(&tested, ticket);
+    let told = tells(&tested, ticket, wanted);
     drop(tested);
     Ok(told)
 }
 
-// Both gossip in turn. Whether both are told the sum then, and a ticket of the first is strange to the second.
+// Both gossip in turn.
 fn gossip_on<M: PortLock, N: PortLock, R: Wait>(
+    rt: &R,
+    alloc: Global,
+    bus: &Bus,
+    first: &SharedPort<M>,
+    second: &SharedPort<N>,
+    ops: &Ops,
+) -> Result<(), OutOfMemory>
+    requires list { (⟦<Ops as Listing>⟧.operations ops.now ≡ M.setup.operations) × (⟦<Ops as Listing>⟧.operations ops.now ≡ N.setup.operations) }
+    requires first { table_of bus.now ≡ M.table }
+    requires second { table_of bus.now ≡ N.table }
+{
+    for _ in 0..20 {
+        first.gossip(rt, alloc, bus, 10, ops)?;
+        second.gossip(rt, alloc, bus, 10, ops)?;
+    }
+    Ok(())
+}
+
+// Whether both are told the sum once they have gossiped, and a ticket of the first is strange to the second.
+fn have_sum<M: PortLock, N: PortLock, R: Wait>(
     rt: &R,
     alloc: Global,
     bus: &Bus,
     first: (&SharedPort<M>, &Ticket),
     second: (&SharedPort<N>, &Ticket),
     ops: &Ops,
-) -> Result<bool, Fail>
+) -> Result<bool, OutOfMemory>
     requires list { (⟦<Ops as Listing>⟧.operations ops.now ≡ M.setup.operations) × (⟦<Ops as Listing>⟧.operations ops.now ≡ N.setup.operations) }
     requires first { table_of bus.now ≡ M.table }
     requires second { table_of bus.now ≡ N.table }
 {
-    for _ in 0..20 {
-        first.0.gossip(rt, alloc, bus, 10, ops)?;
-        second.0.gossip(rt, alloc, bus, 10, ops)?;
-    }
-    let one = told(rt, alloc, first.0, first.1)?;
-    let two = told(rt, alloc, second.0, second.1)?;
-    let other = told(rt, alloc, second.0, first.1)?;
-    Ok(one == (false, Some(15)) && two == one && other == (true, None))
+    gossip_on(rt, alloc, bus, first.0, second.0, ops)?;
+    Ok(
+        is_told(rt, alloc, first.0, first.1, Some(15))?
+            && is_told(rt, alloc, second.0, second.1, Some(15))?
+            && is_told(rt, alloc, second.0, first.1, None)?,
+    )
 }
 
 // Both post a number. Whether both are told the sum.
@@ -142,9 +157,9 @@ fn with_first<M: PortLock, N: PortLock, R: Wait>(
     requires second { ((N.all ≡ N.parts) × (0 < N.parts)) × ((N.setup.planned ≡ false) × (table_of bus.now ≡ N.table)) }
 {
     let two = post_sum(rt, alloc, second, 8, ops)?;
-    let told = gossip_on(rt, alloc, bus, first, (&second.port, &two), ops);
+    let told = have_sum(rt, alloc, bus, first, (&second.port, &two), ops);
     drop(two);
-    told
+    Ok(told?)
 }
 
 // Shares two new ports. Whether gossip brings both the sum.

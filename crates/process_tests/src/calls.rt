@@ -1,6 +1,7 @@
 //! Each call by its name, blocking and nonblocking, by the only rank of a communicator that has an edge to itself.
-use mpx_comm::{AskError, CallError, Comm, Desk, Relation, Request, integer_of, integers_of};
-use mpx_group::{Proc, Rank};
+use crate::questions::{as_integers, asks};
+use mpx_comm::{CallError, Comm, Desk, Request};
+use mpx_group::Proc;
 use mpx_kind::{Exchange, Kind, Neighbourhood, NewCommunicator, Reduction};
 use mpx_node::{Finished, Node};
 use mpx_num::{Numbers, Op, Ops, Ty};
@@ -56,7 +57,7 @@ fn one() -> Numbers {
     Numbers::one(1)
 }
 
-fn exchange(
+pub fn exchange(
     alloc: Global,
     desk: &mut Desk<Node>,
     comm: &Comm,
@@ -98,7 +99,7 @@ fn start_exchange(
     }
 }
 
-fn reduction(
+pub fn reduction(
     alloc: Global,
     desk: &mut Desk<Node>,
     comm: &Comm,
@@ -353,16 +354,6 @@ fn first_wrong(alloc: Global, desk: &mut Desk<Node>, comm: &Comm, ops: &Ops) -> 
     None
 }
 
-// Whether the item is given as integers of a type, in a list and alone.
-fn as_integers(alloc: Global, desk: &mut Desk<Node>, comm: &Comm, ops: &Ops) -> Option<bool> {
-    let all = exchange(alloc, desk, comm, Exchange::Allgather, ops).ok()?;
-    let list = integers_of::<i64>(alloc, all).ok()?;
-    let is_list = list.as_slice() == [7].as_slice();
-    drop(list);
-    let sum = reduction(alloc, desk, comm, Reduction::Allreduce, ops).ok()?;
-    Some(is_list && integer_of::<u8>(sum) == Some(7))
-}
-
 fn gathers(alloc: Global, desk: &mut Desk<Node>, comm: &Comm, ops: &Ops) -> bool {
     let started = start_gathered(alloc, desk, comm, ops);
     gives_later(alloc, desk, kinds::CREATE_GROUP, started, ops)
@@ -371,57 +362,6 @@ fn gathers(alloc: Global, desk: &mut Desk<Node>, comm: &Comm, ops: &Ops) -> bool
 fn is_closed(alloc: Global, desk: &mut Desk<Node>, comm: &Comm, ops: &Ops) -> bool {
     let closed = start_call(alloc, desk, comm, kinds::BARRIER, ops);
     closed.err() == Some(PostError::Closed)
-}
-
-// Whether the communicator is the same as its copy.
-fn is_as_its_copy(alloc: Global, desk: &Desk<Node>, comm: &Comm) -> bool {
-    let copy = comm.copy(alloc);
-    let same = match &copy {
-        Ok(twin) => desk.compare(comm, twin) == Ok(Relation::Ident),
-        Err(_) => false,
-    };
-    drop(copy);
-    same
-}
-
-// Whether the rank is the only member, as of the world.
-fn is_alone(alloc: Global, desk: &Desk<Node>, comm: &Comm, world: &Comm) -> Result<bool, AskError> {
-    let is_like = desk.compare(comm, world)? == Relation::Congruent;
-    let count = desk.members(comm)?.len();
-    let group = desk.group(alloc, comm)?;
-    let same = usize::from(group.size()) == count;
-    drop(group);
-    Ok(is_like && same && count == 1)
-}
-
-fn is_translated(
-    alloc: Global,
-    desk: &Desk<Node>,
-    comm: &Comm,
-    world: &Comm,
-) -> Result<bool, AskError> {
-    let ranks = desk.translate(alloc, comm, &[Rank::At(0), Rank::At(1)], world)?;
-    let is_so = ranks.as_slice() == [Rank::At(0), Rank::Undefined].as_slice();
-    drop(ranks);
-    Ok(is_so)
-}
-
-// Whether the rank is its own neighbour, and the world has no graph.
-fn is_graph(desk: &Desk<Node>, comm: &Comm, world: &Comm) -> Result<bool, AskError> {
-    let (sources, destinations) = (desk.sources(comm)?, desk.destinations(comm)?);
-    let is_so = sources.len() == 1 && sources[0].weight == 4 && destinations.len() == 1;
-    let has_none = matches!(desk.sources(world), Err(AskError::NoTopology));
-    Ok(is_so && desk.is_weighted(comm)? && has_none)
-}
-
-// What the rank is told of the graph's communicator.
-fn asks(alloc: Global, desk: &Desk<Node>, comm: &Comm, world: &Comm) -> Result<bool, AskError> {
-    Ok(
-        is_as_its_copy(alloc, desk, comm)
-            && is_alone(alloc, desk, comm, world)?
-            && is_translated(alloc, desk, comm, world)?
-            && is_graph(desk, comm, world)?,
-    )
 }
 
 // Whether the rank is told what it asks, in integers too, and a post on a gathering gives what it should; the first kind whose calls don't;
@@ -434,7 +374,7 @@ fn come_out(
 ) -> Option<(bool, Option<Kind>, bool)> {
     let comm = with_edges(alloc, desk, world, ops)?;
     let asked = asks(alloc, desk, &comm, world) == Ok(true);
-    let given = as_integers(alloc, desk, &comm, ops) == Some(true);
+    let given = as_integers(alloc, desk, &comm, ops);
     let gathered = gathers(alloc, desk, &comm, ops);
     let wrong = first_wrong(alloc, desk, &comm, ops);
     let closed = is_closed(alloc, desk, &comm, ops);

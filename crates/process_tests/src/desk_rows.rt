@@ -1,7 +1,8 @@
 //! Desks: requests that are tested, the own post, posts before a birth, deltas, and frames that no process sent.
 ghost use Rattle.std.specs.Prelude.{◌<◌, ◌≤◌};
 
-use crate::desks::{Act, Member, Told, does, give, swap};
+use crate::boards::{give, swap};
+use crate::desks::{Act, Member, Told, does};
 use crate::looks::Look;
 use join_core::OutOfMemory;
 use mpx_board::PruneError;
@@ -287,11 +288,19 @@ fn run(alloc: Global, ranks: u8, rows: &[Row], ops: &Ops) -> Result<Option<usize
     wrong
 }
 
+// What the first rows show that come out otherwise, and the place of the first such row, if there are any.
+fn first_other(alloc: Global, ops: &Ops) -> Result<Option<(&'static str, usize)>, Fail> {
+    for (shown, ranks, rows) in DESKS {
+        if let Some(at) = run(alloc, ranks, rows, ops)? {
+            return Ok(Some((shown, at)));
+        }
+    }
+    Ok(None)
+}
+
 #[test]
 fn desks_go_so(rt: HostRuntime) -> Result<(), Fail> {
     let ops = Ops::none(rt.alloc());
-    for (shown, ranks, rows) in DESKS {
-        assert_eq!(rt; run(rt.alloc(), ranks, rows, &ops)?, None, "{shown}");
-    }
+    assert_eq!(rt; first_other(rt.alloc(), &ops)?, None);
     Ok(())
 }

@@ -1,20 +1,19 @@
 //! What ranks do at their desks, and what they get.
+use crate::boards::takes;
 use crate::calls::make_call;
 use crate::looks::{Look, is_seen, sum_in};
-use join_core::{Exact, Join, OutOfMemory};
-use mpx_board::{Board, PruneError};
+use join_core::{Exact, OutOfMemory};
+use mpx_board::PruneError;
 use mpx_comm::{CallError, Comm, Desk, Request, Tested, WaitError};
 use mpx_kind::{Call, Kind, Mode, Reduction};
-use mpx_name::Name;
 use mpx_node::{Finished, Harvest, Node};
 use mpx_num::{Numbers, Op, Ops, Ty};
 use mpx_post::PostError;
-use mpx_wire::decode;
 use std::alloc::Global;
 use std::mem;
 use std::test::Fail;
+use test_drafts::bare;
 use test_drafts::contexts::{On, WORLD, name_of, sum_of};
-use test_drafts::{bare, proc};
 
 // What a rank does, and what it gets. Requests are told by their places in its list.
 #[derive(Clone, Copy)]
@@ -318,41 +317,6 @@ fn forgets(alloc: Global, member: &mut Member, gone: u32) -> Result<bool, Fail> 
     is_seen(alloc, member.desk.host(), WORLD, Look::Forgotten(gone))
 }
 
-// The desk takes the part twice, and then its board is the join. Where memory was refused to the first take (`rt try --test --fail-alloc`),
-// the board stood between the old one and the join.
-fn takes_part(
-    alloc: Global,
-    desk: &mut Desk<Node>,
-    part: &Board,
-    old: &Board,
-    joined: &Board,
-) -> Result<bool, OutOfMemory> {
-    let took = desk.take(alloc, part).is_ok();
-    let between = old.leq(desk.host().board()) && desk.host().board().leq(joined);
-    desk.take(alloc, part)?;
-    Ok((took || between) && desk.host().board().same(joined))
-}
-
-fn takes_board(alloc: Global, desk: &mut Desk<Node>, part: &Board) -> Result<bool, OutOfMemory> {
-    let old = desk.host().board().copy(alloc)?;
-    let joined = old.joined(alloc, part)?;
-    let took = takes_part(alloc, desk, part, &old, &joined);
-    drop(joined);
-    drop(old);
-    took
-}
-
-// It takes the frame too, which then tells nothing new.
-fn takes(alloc: Global, desk: &mut Desk<Node>, frame: &[u8]) -> Result<bool, Fail> {
-    let part = decode(alloc, frame)?;
-    let took = takes_board(alloc, desk, &part);
-    let again = desk.take_frame(alloc, frame);
-    let told = part.leq(desk.host().board());
-    drop(part);
-    again?;
-    Ok(took? && told)
-}
-
 fn harvests(
     alloc: Global,
     desk: &mut Desk<Node>,
@@ -379,62 +343,41 @@ fn prunes(
     Ok(told == wanted)
 }
 
+// Of what takes no request out of the list, on no context by its name.
+fn does_at_once(
+    alloc: Global,
+    member: &mut Member,
+    act: Act,
+    ops: &Ops,
+) -> Result<bool, OutOfMemory> {
+    match act {
+        Act::MayNot(why) => Ok(may_not(alloc, member, why, ops)),
+        Act::Calls(kind) => calls(alloc, member, kind, ops),
+        Act::IsDone(at, done) => is_done(alloc, member, at, done, ops),
+        Act::TestsAny(wanted) => tests_any(alloc, member, wanted, ops),
+        Act::WaitsAny(wanted) => Ok(waits_any(alloc, member, wanted, ops)),
+        Act::TestsSome(count) => tests_some(alloc, member, count, ops),
+        Act::WaitsSome(count) => Ok(waits_some(alloc, member, count, ops)),
+        Act::Turns => Ok(member.desk.turn(alloc, 3).is_ok()),
+        _ => Ok(false),
+    }
+}
+
 // Whether the rank that does this gets that.
 pub fn does(alloc: Global, member: &mut Member, act: Act, ops: &Ops) -> Result<bool, Fail> {
     match act {
         Act::Starts(number) => starts(alloc, member, number, ops),
-        Act::MayNot(why) => Ok(may_not(alloc, member, why, ops)),
-        Act::Calls(kind) => Ok(calls(alloc, member, kind, ops)?),
         Act::Tests(at, wanted) => tests(alloc, member, at, wanted, ops),
         Act::Waits(at, wanted) => waits(alloc, member, at, false, wanted, ops),
         Act::WaitsAndForgets(at, wanted) => waits(alloc, member, at, true, wanted, ops),
-        Act::IsDone(at, done) => Ok(is_done(alloc, member, at, done, ops)?),
         Act::TestsAll(wanted) => tests_all(alloc, member, wanted, ops),
         Act::WaitsAll(wanted) => waits_all(alloc, member, wanted, ops),
-        Act::TestsAny(wanted) => Ok(tests_any(alloc, member, wanted, ops)?),
-        Act::WaitsAny(wanted) => Ok(waits_any(alloc, member, wanted, ops)),
-        Act::TestsSome(count) => Ok(tests_some(alloc, member, count, ops)?),
-        Act::WaitsSome(count) => Ok(waits_some(alloc, member, count, ops)),
-        Act::Turns => Ok(member.desk.turn(alloc, 3).is_ok()),
         Act::Awaits(at, wanted) => awaits(alloc, member, at, wanted),
         Act::Forgets(gone) => forgets(alloc, member, gone),
         Act::Takes(frame) => takes(alloc, &mut member.desk, frame),
         Act::Harvests(on, wanted) => harvests(alloc, &mut member.desk, on, wanted, ops),
         Act::Prunes(on, number, wanted) => prunes(alloc, &mut member.desk, on, number, wanted),
         Act::Sees(on, look) => is_seen(alloc, member.desk.host(), on, look),
+        _ => Ok(does_at_once(alloc, member, act, ops)?),
     }
-}
-
-// Each takes the other's board.
-pub fn swap(
-    alloc: Global,
-    left: &mut Desk<Node>,
-    right: &mut Desk<Node>,
-) -> Result<bool, OutOfMemory> {
-    left.take(alloc, right.host().board())?;
-    right.take(alloc, left.host().board())?;
-    Ok(true)
-}
-
-fn take_each(alloc: Global, desk: &mut Desk<Node>, parts: &[Board]) -> Result<usize, OutOfMemory> {
-    let mut with_post: usize = 0;
-    for part in parts {
-        desk.take(alloc, part)?;
-        if part.holds(&Name::world(alloc), 0, proc(0)).is_some() {
-            with_post = with_post.wrapping_add(1);
-        }
-    }
-    Ok(with_post)
-}
-
-// The one takes all boards of the other's deltas. How many of these have the first post of process 0.
-pub fn give(
-    alloc: Global,
-    from: &mut Desk<Node>,
-    to: &mut Desk<Node>,
-) -> Result<usize, OutOfMemory> {
-    let made = from.deltas(alloc, 524_288)?;
-    let with_post = take_each(alloc, to, &made);
-    drop(made);
-    with_post
 }

@@ -4,6 +4,8 @@
 #![tactic(auto)]
 
 #[cfg(test)]
+mod boards;
+#[cfg(test)]
 mod calls;
 #[cfg(test)]
 mod desk_rows;
@@ -13,6 +15,8 @@ mod desks;
 mod looks;
 #[cfg(test)]
 mod node_rows;
+#[cfg(test)]
+mod questions;
 #[cfg(test)]
 mod world_rows;
 #[cfg(test)]

@@ -230,12 +230,22 @@ fn run(
     came
 }
 
+// What the first rows show that come out otherwise, and the place of the first such event, if there are any.
+fn first_other(alloc: Global, ops: &Ops) -> Result<Option<(&'static str, Option<usize>)>, Fail>
+    requires list { ⟦<Ops as Listing>⟧.operations ops.now ≡ [] }
+{
+    for (shown, ranks, processes, rows, seen) in WORLDS {
+        let (wrong, is_seen) = run(alloc, ranks, processes, rows, seen, ops)?;
+        if wrong.is_some() || !is_seen {
+            return Ok(Some((shown, wrong)));
+        }
+    }
+    Ok(None)
+}
+
 #[test]
 fn worlds_go_so(rt: HostRuntime) -> Result<(), Fail> {
     let ops = Ops::none(rt.alloc());
-    for (shown, ranks, processes, rows, seen) in WORLDS {
-        let came = run(rt.alloc(), ranks, processes, rows, seen, &ops)?;
-        assert_eq!(rt; came, (None, true), "{shown}");
-    }
+    assert_eq!(rt; first_other(rt.alloc(), &ops)?, None);
     Ok(())
 }

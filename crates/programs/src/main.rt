@@ -67,18 +67,16 @@ fn print_all<R: Threads + Wait + Sync, W: Write>(
     out.flush().ok()
 }
 
-// The job's own operations.
-fn own_ops(alloc: Global) -> Option<Ops> {
+// Makes the list of the job's own operations, and runs all by it.
+fn go<R: Threads + Wait + Sync, W: Write>(rt: &R, alloc: Global, out: &mut W) -> Option<()> {
     let mut list: Vec<Box<dyn OwnOp + Send + Sync + Drop>> = Vec::new(alloc);
     list.push(Box::new(alloc, Product).ok()?).ok()?;
-    Ops::new(list).ok()
+    let ops = Ops::new(list).ok()?;
+    print_all(rt, alloc, out, &ops)
 }
 
 fn main(rt: HostRuntime) -> ExitCode {
-    let Some(ops) = own_ops(rt.alloc()) else {
-        return ExitCode::FAILURE;
-    };
-    match print_all(&rt, rt.alloc(), &mut io::writer(&rt), &ops) {
+    match go(&rt, rt.alloc(), &mut io::writer(&rt)) {
         Some(()) => ExitCode::SUCCESS,
         None => {
             let _told = writeln!(rt.stderr(), "gave up");

@@ -2,4 +2,4 @@ use Rattle.port_tests.specs.Homes.{ranks_alone}
 use Rattle.port_tests.proofs.shared_pairs.two_ports.Given as goal
 
 abbrev pub ghosts-new : goal.ghosts-new
-ghosts-new g a = record { setup = ranks_alone 2 }
+ghosts-new g = record { setup = ranks_alone 2 }

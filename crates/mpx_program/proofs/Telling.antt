@@ -1,0 +1,57 @@
+-- What is told of what was found in a script.
+use Rattle.std.proofs.Common.{ℕ, List, [], Result, Ok, Err, IfOk, inl, inr, subst}
+use Rattle.mpx_num.specs.declared.own.Operation.{Operation}
+use Rattle.mpx_statement.specs.declared.job.Command.{Command}
+use Rattle.mpx_statement.specs.declared.job.Command.TheVariants.{Run, Eval, Check}
+use Rattle.mpx_script.specs.ScriptView.{ScriptView}
+use Rattle.mpx_eval.specs.Complaints.{ComplaintView, complaints_in}
+use Rattle.mpx_eval.specs.Findings.{AreFindings}
+use Rattle.mpx_eval.specs.Unheard.{unheard_in}
+use Rattle.mpx_eval.specs.Waiting.{WaitingView}
+use Rattle.mpx_explain.specs.Findings.{AreTold}
+use Rattle.mpx_run.specs.declared.end.End.{End}
+use Rattle.mpx_run.specs.declared.texts.RunError.{RunError}
+use Rattle.mpx_waiting.specs.ToldLines.{waiting_told}
+use Rattle.mpx_program.specs.Explained.{AreCalls, IsBehind, IsFound, IsHeaded, HasTold, TellsEarly, TellsEvaluation, TellsMore}
+use Rattle.mpx_program.specs.declared.found.Found.{Found}
+use Rattle.mpx_program.specs.declared.found.Found.TheVariants as F
+
+module _ (ops : List Operation) (script : ScriptView) (text : List ℕ) (waiting : List WaitingView) (complaints unheard : List ComplaintView) (f : AreFindings ops script waiting complaints unheard) where
+  -- the calls that are found are those of the evaluation
+  calls_of_end : (old new : List ℕ) → AreCalls text script.statements complaints unheard old new
+      → AreCalls text script.statements (complaints_in script.statements script.ranks f.end) (unheard_in ops script.statements script.ranks f.end) old new
+  calls_of_end old new calls = subst (λ cs. AreCalls text script.statements cs (unheard_in ops script.statements script.ranks f.end) old new) f.complaints_are
+      (subst (λ us. AreCalls text script.statements complaints us old new) f.unheard_are calls)
+
+  pub evaluation_tells : (more : List ℕ) → AreCalls text script.statements complaints unheard (waiting_told text script.statements waiting) more → TellsEvaluation ops script text more
+  evaluation_tells more calls = record {
+    end = f.end;
+    evaluation = f.evaluation;
+    calls = subst (λ ws. AreCalls text script.statements (complaints_in script.statements script.ranks f.end) (unheard_in ops script.statements script.ranks f.end) (waiting_told text script.statements ws) more) f.waiting_are
+        (calls_of_end (waiting_told text script.statements waiting) more calls);
+  }
+
+  pub early_tells : (here waits lines more : List ℕ) → IsBehind here (waiting_told text script.statements waiting) waits → AreCalls text script.statements complaints unheard [] lines → IsHeaded waits lines more
+      → TellsEarly ops script text more
+  early_tells here waits lines more behind calls headed = record {
+    end = f.end;
+    evaluation = f.evaluation;
+    here = here;
+    waits = waits;
+    behind = subst (λ ws. IsBehind here (waiting_told text script.statements ws) waits) f.waiting_are behind;
+    lines = lines;
+    calls = calls_of_end [] lines calls;
+    headed = headed;
+  }
+
+-- what is told by what was found is of the script's evaluation, whatever the command
+pub found_tells : (ops : List Operation) (command : Command) (script : ScriptView) (text : List ℕ) (found : Found) (answer : Result End RunError) (more : List ℕ) → IsFound ops command script found → HasTold script text found answer more
+    → IfOk answer (λ end. TellsMore ops command script text end more)
+found_tells ops command script text found (Err error) more is told = tt
+found_tells ops command script text F.Nothing (Ok end) more is told = inl told
+found_tells ops Check script text (F.Certain found) (Ok end) more is told = inr (subst (λ cs. AreTold text cs [] more) is told)
+found_tells ops Run script text (F.Certain found) (Ok end) more is told = absurd is
+found_tells ops Eval script text (F.Certain found) (Ok end) more is told = absurd is
+found_tells ops Check script text (F.InEvaluation found) (Ok end) more is told = absurd is
+found_tells ops Run script text (F.InEvaluation found) (Ok end) more is told = inr (told ops is)
+found_tells ops Eval script text (F.InEvaluation found) (Ok end) more is told = inr (told ops is)

@@ -1,0 +1,14 @@
+use Rattle.std.proofs.Common.{◌∙◌, subst}
+use Rattle.mpx_program.specs.Explained.{IsBehind, IsHeaded}
+use Rattle.mpx_program.proofs.Telling.{early_tells}
+use Rattle.mpx_program.proofs.explaining.early_told.Goals as goal
+
+pub returns : goal.returns
+returns c =
+    let here = c.push_run_end.new.told.items in
+    let waits = c.push_behind.new.told.items in
+    let more = c.push_headed.new.told.items in
+    λ ops f. early_tells ops c.args.prepared.now.script c.args.prepared.now.text.items _ _ _ f here waits c.in_ok-calls.calls.items more
+    (subst (λ xs. IsBehind here xs waits) (c.as_slice.ensures.value ∙ c.in_ok-there.ensures) c.in_ok-push_behind.ensures)
+    c.in_ok-calls.ensures
+    (subst (λ xs. IsHeaded waits xs more) c.as_slice-2.ensures.value c.in_ok-push_headed.ensures)

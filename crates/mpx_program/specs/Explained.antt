@@ -1,0 +1,89 @@
+-- What `--explain` tells of a script's evaluation.
+use Rattle.std.specs.Prelude.{◌≡◌, ◌⊎◌, ℕ, List, [], ◌++◌, codes, map, Result, IfOk}
+use Rattle.mpx_num.specs.declared.own.Operation.{Operation}
+use Rattle.mpx_statement.specs.declared.job.Command.{Command}
+use Rattle.mpx_statement.specs.declared.job.Command.TheVariants.{Check}
+use Rattle.mpx_statement.specs.declared.statement.Statement.{Statement}
+use Rattle.mpx_script.specs.ScriptView.{ScriptView}
+use Rattle.mpx_meaning.specs.Evaluation.{State, IsEvaluation}
+use Rattle.mpx_eval.specs.Certain.{certain_in}
+use Rattle.mpx_eval.specs.Complaints.{ComplaintView, complaints_in}
+use Rattle.mpx_eval.specs.Findings.{AreFindings}
+use Rattle.mpx_eval.specs.Found.{complaint_view, waiting_view}
+use Rattle.mpx_eval.specs.Unheard.{unheard_in}
+use Rattle.mpx_eval.specs.Waiting.{waiting_in_full}
+use Rattle.mpx_explain.specs.Findings.{AreTold}
+use Rattle.mpx_explain.specs.Overflows.{AreOverflows}
+use Rattle.mpx_run.specs.declared.end.Cause.TheVariants.{InEveryRun}
+use Rattle.mpx_run.specs.declared.end.End.{End}
+use Rattle.mpx_run.specs.declared.end.End.TheVariants.{Finished, Waiting}
+use Rattle.mpx_run.specs.declared.texts.RunError.{RunError}
+use Rattle.mpx_waiting.specs.ToldLines.{waiting_told}
+use Rattle.mpx_program.specs.declared.found.Found.{Found}
+use Rattle.mpx_program.specs.declared.found.Found.TheVariants as F
+
+-- behind other lines stand those of these complaints, of these faults that no line tells, and of results that are past their types
+pub record AreCalls (text : List ℕ) (statements : List (List Statement)) (complaints unheard : List ComplaintView) (old new : List ℕ) : Type 0 where
+  pub first : List ℕ
+  pub second : List ℕ
+  pub heard : AreTold text complaints old first
+  pub faults : AreTold text unheard first second
+  pub results : AreOverflows text statements second new
+
+-- who waits at the end of the script's evaluation, and the calls that are refused or are faults there
+pub record TellsEvaluation (ops : List Operation) (script : ScriptView) (text more : List ℕ) : Type 0 where
+  pub end : State
+  pub evaluation : IsEvaluation ops script.statements script.ranks end
+  pub calls : AreCalls text script.statements (complaints_in script.statements script.ranks end) (unheard_in ops script.statements script.ranks end)
+      (waiting_told text script.statements (waiting_in_full ops script.statements script.ranks end)) more
+
+-- the lines of the evaluation's waits stand behind those of a run, or it is said that they are the same
+abbrev pub IsBehind : (here there more : List ℕ) → Type 0
+IsBehind here there more = ((there ≡ []) × (more ≡ here))
+    ⊎ ((here ≡ there) × (more ≡ here ++ codes "in the evaluation these ranks wait there too\n"))
+    ⊎ (more ≡ (here ++ codes "in the evaluation ranks wait here:\n") ++ there)
+
+-- the lines of calls stand behind a heading, where there are some
+abbrev pub IsHeaded : (before calls more : List ℕ) → Type 0
+IsHeaded before calls more = ((calls ≡ []) × (more ≡ before)) ⊎ (more ≡ (before ++ codes "in the evaluation:\n") ++ calls)
+
+-- behind lines of the run itself, which ended early, the same of the evaluation
+pub record TellsEarly (ops : List Operation) (script : ScriptView) (text more : List ℕ) : Type 0 where
+  pub end : State
+  pub evaluation : IsEvaluation ops script.statements script.ranks end
+  pub here : List ℕ
+  pub waits : List ℕ
+  pub behind : IsBehind here (waiting_told text script.statements (waiting_in_full ops script.statements script.ranks end)) waits
+  pub lines : List ℕ
+  pub calls : AreCalls text script.statements (complaints_in script.statements script.ranks end) (unheard_in ops script.statements script.ranks end) [] lines
+  pub headed : IsHeaded waits lines more
+
+-- of a job that runs or evaluates, by its end
+abbrev pub TellsEnd : List Operation → ScriptView → (text : List ℕ) → End → (more : List ℕ) → Type 0
+TellsEnd ops script text Finished more = TellsEvaluation ops script text more
+TellsEnd ops script text (Waiting ranks InEveryRun) more = TellsEvaluation ops script text more
+TellsEnd ops script text (Waiting ranks cause) more = TellsEarly ops script text more
+
+-- of one that checks, the calls that are refused for certain
+abbrev pub TellsOf : List Operation → Command → ScriptView → (text : List ℕ) → End → (more : List ℕ) → Type 0
+TellsOf ops Check script text end more = AreTold text (certain_in ops script) [] more
+TellsOf ops command script text end more = TellsEnd ops script text end more
+
+-- that, or nothing where memory is wanting
+abbrev pub TellsMore : List Operation → Command → ScriptView → (text : List ℕ) → End → (more : List ℕ) → Type 0
+TellsMore ops command script text end more = (more ≡ []) ⊎ TellsOf ops command script text end more
+
+-- what is found in a script for a job of this command
+abbrev pub IsFound : List Operation → Command → ScriptView → Found → Type 0
+IsFound ops command script F.Nothing = Unit {0}
+IsFound ops Check script (F.Certain found) = map complaint_view found.items ≡ certain_in ops script
+IsFound ops command script (F.Certain found) = ⊥
+IsFound ops Check script (F.InEvaluation found) = ⊥
+IsFound ops command script (F.InEvaluation found) = AreFindings ops script (map waiting_view found.waiting.items) (map complaint_view found.complaints.items) (map complaint_view found.unheard.items)
+
+-- what is told by what was found, where a job came to this
+abbrev pub HasTold : ScriptView → (text : List ℕ) → Found → Result End RunError → (more : List ℕ) → Type 0
+HasTold script text F.Nothing answer more = more ≡ []
+HasTold script text (F.Certain found) answer more = AreTold text (map complaint_view found.items) [] more
+HasTold script text (F.InEvaluation found) answer more = IfOk answer (λ end. (ops : List Operation)
+    → AreFindings ops script (map waiting_view found.waiting.items) (map complaint_view found.complaints.items) (map complaint_view found.unheard.items) → TellsEnd ops script text end more)
