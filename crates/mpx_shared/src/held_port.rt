@@ -61,6 +61,7 @@ impl<L: PortLock> HeldPort<L> {
         requires opening { port.journal ≡ L.opening }
         requires count { length (made_in port) ≡ L.before }
         requires book { book.total ≡ 0 }
+        ensures { result ≡ (port, (0, [])) }
     {
         HeldPort {
             port,
