@@ -2,8 +2,8 @@
 use crate::terminals::{Leaping, Shown};
 use mpx_shell::exit_code;
 use std::alloc::Global;
-use std::io::{self, Read, Write};
 use std::env;
+use std::io::{self, Read, Write};
 use std::process::ExitCode;
 use std::sync::Wait;
 use std::thread::Threads;

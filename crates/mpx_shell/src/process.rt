@@ -27,7 +27,14 @@ use std::{env, io};
 /// run, `shown` shows that as it goes, and comes back in any case. What fails on the standard error is let go: the status stands.
 ///
 /// Only a call that asks for a run in threads goes by functions that may wait. This one has their bound `Wait` itself, so it owes no return.
-pub fn exit_code<T: Threads + Wait + Sync, R: Read, W: Write, E: Write, C: Clock, S: Write + IsTerminal + Drop>(
+pub fn exit_code<
+    T: Threads + Wait + Sync,
+    R: Read,
+    W: Write,
+    E: Write,
+    C: Clock,
+    S: Write + IsTerminal + Drop,
+>(
     rt: &T,
     alloc: Global,
     args: io::Result<env::Args>,
