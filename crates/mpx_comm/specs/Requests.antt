@@ -56,12 +56,14 @@ ArePosted node rs = (i : ℕ) (request : Request) → slice_get rs i ≡ Some re
 
 -- POSTS
 
--- with these operations of the job's own just the draft is posted since, as the next call on the context, and what was stored or posted before stays
+-- with these operations of the job's own just the draft is posted since, as the next call on the context; what was stored or posted before stays, and
+-- no result was let go
 pub record HasPosted (ops : List Operation) (name : Name) (draft : Draft) (old new : NodeView) : Type 0 where
   pub accepted : checked_on ops old name draft ≡ Ok (given_by draft)
   pub own : IsOwn new name (posted_on old name) (given_by draft)
   pub posted : (n : Name) → posted_on new n ≡ posted_on (with_post name (given_by draft) old) n
   pub stored : (n : Name) (call : ℕ) (finished : Finished) → result_at old n call ≡ Some finished → result_at new n call ≡ Some finished
+  pub let_go : (n : Name) (call : ℕ) → is_let_go new n call ≡ is_let_go old n call
   pub kept : (n : Name) (call : ℕ) (given : Given) → IsOwn old n call given → IsOwn new n call given
 
 -- the next call on a context

@@ -50,11 +50,13 @@ pub fn answers_are_stored_results()
 {}
 
 /// With results that are let go too: what was stored is stored, or its own process has let it go, for good. A request that is handed in
-/// again gets the same answer or none, and a result at the place of a draft's post still says that post. It is so of posts, tests, waits
-/// and turns, of gatherings, harvests and boards that come, and of results that are let go.
+/// again gets the same answer or none, and a result at the place of a draft's post still says that post. It is so of posts, blocking
+/// calls, whatever these answer, tests, waits and turns, of gatherings, harvests and boards that come, and of results that are let go.
 pub fn results_stay_until_they_are_let_go()
     ensures later { (old now : NodeView) → Later old now → NodeHolds old now }
     ensures posts { (old : NodeView) (name : Name) (given : Given) → NodeHolds old (with_post name given old) }
+    ensures calls { (ops : List Operation) (old now : NodeView) (name : Name) (draft : Draft)
+        → HasPosted ops name draft old now → NodeHolds old now }
     ensures gatherings { (old now : NodeView) (parent : Name) (tag : ℤ) (ranks : List ℤ) (answer : Result Name PostError)
         → Opens parent (gathers_on old parent tag ranks) answer old now → NodeHolds old now }
     ensures harvests { (ops : List Operation) (old now : NodeView) (name : Name) (answer : Result Harvest OutOfMemory)
