@@ -114,12 +114,12 @@ OneIsAtHand node requests = (i : ℕ) × (request : Request) × (slice_get reque
 abbrev pub AreResults : NodeView → List Request → List Finished → Type 0
 AreResults node requests all = map (result_of node) requests ≡ map Some all
 
--- a test of many closes all or none
+-- a test of many closes all or none. Where the result of one of them was let go it says so, whatever the others are
 abbrev pub TestsAll : List Request → Result (Tested (Vec Finished Global) (Vec Request Global)) (AllocFailed (Vec Request Global)) → NodeView → (before after : List Request) → Type 0
 TestsAll requests (Ok (Done all)) node before after = AreResults node requests all.items × (after ≡ close_all before requests)
-TestsAll requests (Ok (NotYet back)) node before after = (back.items ≡ requests) × OneIsPending node requests × (after ≡ before)
+TestsAll requests (Ok (NotYet back)) node before after = (back.items ≡ requests) × AreKept node requests × OneIsPending node requests × (after ≡ before)
 TestsAll requests (Ok (TestedLetGo back)) node before after = (back.items ≡ requests) × (list_any (has_let_go node) requests ≡ true) × (after ≡ before)
-TestsAll requests (Err refused) node before after = (refused.value.items ≡ requests) × OneIsAtHand node requests × (after ≡ before)
+TestsAll requests (Err refused) node before after = (refused.value.items ≡ requests) × AreKept node requests × OneIsAtHand node requests × (after ≡ before)
 
 -- each of the first so many was not done at some moment
 abbrev pub WerePending : List Operation → (old new : NodeView) → (number : ℕ) → List Request → Type 0
@@ -161,13 +161,14 @@ Waits node turned refused request turns (Err (NoMemory back)) old new before aft
 Waits node turned refused request turns (Err (GaveUp back)) old new before after = (back ≡ request) × GivesUpOne node turned refused request T.GaveUp turns old new × (after ≡ before)
 Waits node turned refused request turns (Err (LetGo back)) old new before after = (back ≡ request) × (has_let_go (node old) request ≡ true) × (new ≡ old) × (after ≡ before)
 
+-- so does a wait for many. Where the result of one of them was let go it says so, whatever the others are
 abbrev pub WaitsAll : {H : Type 0} → (node : H → NodeView) → (turned : H → ℕ → H → Type 0) → (refused : H → TurnError → H → Type 0) → List Request → (turns : ℕ) → Result (Vec Finished Global) (WaitError (Vec Request Global)) → (old new : H) → (before after : List Request) → Type 0
 WaitsAll node turned refused requests turns (Ok all) old new before after =
     AreResults (node new) requests all.items × ((n : ℕ) × (n ≤ turns) × AwaitsAll node turned requests old n new) × (after ≡ close_all before requests)
 WaitsAll node turned refused requests turns (Err (StillWaiting back)) old new before after =
-    (back.items ≡ requests) × OneIsPending (node new) requests × AwaitsAll node turned requests old turns new × (after ≡ before)
-WaitsAll node turned refused requests turns (Err (NoMemory back)) old new before after = (back.items ≡ requests) × GivesUpAll node turned refused requests T.OutOfMemory turns old new × (after ≡ before)
-WaitsAll node turned refused requests turns (Err (GaveUp back)) old new before after = (back.items ≡ requests) × GivesUpAll node turned refused requests T.GaveUp turns old new × (after ≡ before)
+    (back.items ≡ requests) × AreKept (node new) requests × OneIsPending (node new) requests × AwaitsAll node turned requests old turns new × (after ≡ before)
+WaitsAll node turned refused requests turns (Err (NoMemory back)) old new before after = (back.items ≡ requests) × AreKept (node new) requests × GivesUpAll node turned refused requests T.OutOfMemory turns old new × (after ≡ before)
+WaitsAll node turned refused requests turns (Err (GaveUp back)) old new before after = (back.items ≡ requests) × AreKept (node new) requests × GivesUpAll node turned refused requests T.GaveUp turns old new × (after ≡ before)
 WaitsAll node turned refused requests turns (Err (LetGo back)) old new before after = (back.items ≡ requests) × (list_any (has_let_go (node old)) requests ≡ true) × (new ≡ old) × (after ≡ before)
 
 -- BLOCKING CALLS

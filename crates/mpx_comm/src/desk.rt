@@ -180,8 +180,9 @@ impl<H: Host> Desk<H> {
         }
     }
 
-    /// Whether all of these are done (`MPI_TESTALL`, MPI 4.1 section 3.7.5): `Done` closes all and gives their results, in the order
-    /// of the requests; `NotYet`, `LetGo` and an `Err`, for want of memory, close none and hand them back. It makes no turn.
+    /// Whether all of these are done (`MPI_TESTALL`, MPI 4.1 section 3.7.5): `LetGo` where the result of one was let go, whatever the
+    /// others are. Else `Done` closes all and gives their results, in the order of the requests; `NotYet` where one isn't done; an `Err`
+    /// for want of memory, for what is at hand. All but `Done` close none and hand them back. It makes no turn.
     pub fn testall(
         &mut self,
         alloc: Global,
@@ -259,7 +260,8 @@ impl<H: Host> Desk<H> {
 
     /// Waits for all their results (`MPI_WAITALL`, MPI 4.1 section 3.7.5), in the order of the requests, while the host makes at most
     /// `turns` turns: it looks once before the first and once after each, and makes no turn after the look that finds them all. All
-    /// are closed, or none is. An `Err` hands them back, as that of [`Desk::wait`] does.
+    /// are closed, or none is. An `Err` hands them back, as that of [`Desk::wait`] does: `LetGo`, at once, where the result of one was let
+    /// go, whatever the others are, and else one of the others.
     pub fn waitall(
         &mut self,
         alloc: Global,
