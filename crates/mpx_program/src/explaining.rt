@@ -13,7 +13,7 @@ use crate::reason::push_reason;
 use join_core::OutOfMemory;
 use mpx_eval::{Complaint, Findings};
 use mpx_explain::{
-    explain_calls, explain_earlier, explain_refusals, explain_results, explain_served,
+    EndedRun, explain_calls, explain_earlier, explain_refusals, explain_results, explain_served,
     explain_unheard, run_end,
 };
 use mpx_node::Node;
@@ -204,11 +204,27 @@ fn push_run_end(
 ) -> Result<(), OutOfMemory> {
     let (text, script) = (prepared.text.as_slice(), &prepared.script);
     let nodes = nodes_of(alloc, left, script.ranks())?;
-    let lines = left.transcripts.as_slice();
-    let end = run_end(alloc, script, &found.complaints, ranks, lines, &nodes)?;
+    let lines = counts_of(alloc, left)?;
+    let run = EndedRun {
+        script,
+        complaints: &found.complaints,
+        waiting: ranks,
+        lines: &lines,
+        nodes: &nodes,
+    };
+    let end = run_end(alloc, &run)?;
     push_waiting(alloc, text, script, end.waiting.as_slice(), told)?;
     explain_earlier(alloc, text, &end.earlier, &end.waiting, told)?;
     explain_served(alloc, text, end.served.as_slice(), told)
+}
+
+// How many lines each rank has at the end of a run.
+fn counts_of(alloc: Global, left: &Left) -> Result<Vec<usize>, OutOfMemory> {
+    let mut counts = Vec::new(alloc);
+    for lines in &left.transcripts {
+        counts.push(lines.len())?;
+    }
+    Ok(counts)
 }
 
 // The nodes of so many ranks at the end of a run.
