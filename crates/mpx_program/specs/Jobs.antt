@@ -1,5 +1,5 @@
 -- What a call of the program does.
-use Rattle.std.specs.Prelude.{◌≡◌, ◌≢◌, ◌⊎◌, ℕ, Bool, false, take, List, ◌++◌, [], ◌∷◌, Option, Some, None, Result, Ok, Err, IfOk, codes}
+use Rattle.std.specs.Prelude.{◌≡◌, ◌≢◌, ◌⊎◌, ℕ, Bool, take, List, ◌++◌, [], ◌∷◌, Option, Some, None, Result, Ok, Err, IfOk, codes}
 use Rattle.std.specs.Io.KnownBytes.{Appends}
 use Rattle.clap.specs.Faults.{fault_of}
 use Rattle.clap.specs.Kinds.{IsAmong, or_else}
@@ -13,7 +13,7 @@ use Rattle.mpx_script.specs.Reading.{reading}
 use Rattle.mpx_script.specs.ScriptView.{ScriptView}
 use Rattle.mpx_script.specs.declared.faults.ScriptError.{ScriptError}
 use Rattle.mpx_run.specs.Founded.{IsFounded}
-use Rattle.mpx_run.specs.Texts.{OfRuns, Prints, RunsUngated, TakesInput, is_in_threads}
+use Rattle.mpx_run.specs.Texts.{OfRuns, Prints, RunsUngated, TakesInput}
 use Rattle.mpx_run.specs.declared.end.End.{End}
 use Rattle.mpx_run.specs.declared.streams.WriteFault.{WriteFault}
 use Rattle.mpx_run.specs.declared.texts.RunError.{RunError}
@@ -113,11 +113,3 @@ pub record DoesWords (Is : OfRuns) (ops : List Operation) (words : List (List �
 -- the words ask for a job, or are refused
 abbrev pub DoesJob : (Is : OfRuns) (ops : List Operation) (words : List (List ℕ)) (there left old new : Option (List ℕ)) (code : ℕ) (Says : List ℕ → Type 0) → Type 0
 DoesJob Is ops words there left old new code Says = DoesWords Is ops words there left old new code Says ⊎ RefusesWords words there left old new code Says
-
--- whether the words ask for a run in threads, the only call that may wait
-abbrev pub is_for_threads : Option Invocation → Bool
-is_for_threads (Some call) = is_in_threads call.job
-is_for_threads None = false
-
-abbrev pub ask_for_threads : List (List ℕ) → Bool
-ask_for_threads words = is_for_threads (invocation_in words)

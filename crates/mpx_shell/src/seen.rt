@@ -1,10 +1,10 @@
-//! Who looks on at a run, by what the words of the call ask for.
+//! Who looks on at a run, by what a call asks for beside it.
 
 use crate::progress::HowFar;
 use mpx_node::Node;
 use mpx_sim::{FrameSeen, Observer, Progress};
 use mpx_trace::{Table, Trace};
-use mpx_words::flags_behind;
+use mpx_words::Flags;
 use std::alloc::Global;
 use std::io::{IsTerminal, Write};
 use std::time::Clock;
@@ -19,9 +19,8 @@ pub enum Seen<'a, C: Clock, S: Write + IsTerminal> {
 }
 
 impl<'a, C: Clock, S: Write + IsTerminal> Seen<'a, C, S> {
-    /// What these words ask for.
-    pub fn of(words: &[String], alloc: Global, clock: &'a C, out: S) -> Seen<'a, C, S> {
-        let flags = flags_behind(words);
+    /// What these flags ask for.
+    pub fn of(flags: Flags, alloc: Global, clock: &'a C, out: S) -> Seen<'a, C, S> {
         if flags.trace {
             Seen::Lines(Trace::new(alloc, out))
         } else if flags.table {

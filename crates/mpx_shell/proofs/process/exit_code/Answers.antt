@@ -1,38 +1,6 @@
 use Rattle.std.proofs.Common.{map, string_bytes}
+use Rattle.std.specs.Vec.Iter.{into_iter_items}
 use Rattle.mpx_run.specs.Founded.{IsFounded}
 use Rattle.mpx_run.specs.Reports.{IsPrinted}
-use Rattle.mpx_shell.specs.Answers.{Answers}
-use Rattle.mpx_shell.proofs.Ending.{ends_by, if_err, if_ok}
+use Rattle.mpx_shell.proofs.Ending.{answered, answered_nothing, no_err, refused_arguments}
 use Rattle.mpx_shell.proofs.process.exit_code.Goals as goal
-
-pub returns-then-ask_for_threads-clause-answers : goal.returns-then-ask_for_threads-clause-answers
-returns-then-ask_for_threads-clause-answers g c =
-    if_ok c.args.words.now c.in-Ok.words _ c.in-Ok.is
-    (ends_by (λ words. Answers IsPrinted (map string_bytes words) (g.R.Read.remaining c.args.reader.now) (g.R.Read.remaining c.answer_in_threads-exit.new.reader) (g.W.Write.contents c.args.out.now) (g.W.Write.contents c.answer_in_threads-exit.new.out))
-    _ _ _ _ c.answer_in_threads-exit.result _ c.deref-then-ask_for_threads.ensures.value c.answer_in_threads-exit.ensures.prints c.from.ensures)
-
-pub returns-then-ask_for_threads-clause-founded : goal.returns-then-ask_for_threads-clause-founded
-returns-then-ask_for_threads-clause-founded g c =
-    if_ok c.args.words.now c.in-Ok.words _ c.in-Ok.is
-    (ends_by (λ words. Answers IsFounded (map string_bytes words) (g.R.Read.remaining c.args.reader.now) (g.R.Read.remaining c.answer_in_threads-exit.new.reader) (g.W.Write.contents c.args.out.now) (g.W.Write.contents c.answer_in_threads-exit.new.out))
-    _ _ _ _ c.answer_in_threads-exit.result _ c.deref-then-ask_for_threads.ensures.value c.answer_in_threads-exit.ensures.founded c.from.ensures)
-
-pub returns-else-ask_for_threads-clause-answers : goal.returns-else-ask_for_threads-clause-answers
-returns-else-ask_for_threads-clause-answers g c =
-    if_ok c.args.words.now c.in-Ok.words _ c.in-Ok.is
-    (ends_by (λ words. Answers IsPrinted (map string_bytes words) (g.R.Read.remaining c.args.reader.now) (g.R.Read.remaining c.answer.new.reader) (g.W.Write.contents c.args.out.now) (g.W.Write.contents c.answer.new.out))
-    _ _ _ _ c.answer.result _ c.deref-in-Ok.ensures.value c.answer.ensures.prints c.from-in-Ok.ensures)
-
-pub returns-else-ask_for_threads-clause-founded : goal.returns-else-ask_for_threads-clause-founded
-returns-else-ask_for_threads-clause-founded g c =
-    if_ok c.args.words.now c.in-Ok.words _ c.in-Ok.is
-    (ends_by (λ words. Answers IsFounded (map string_bytes words) (g.R.Read.remaining c.args.reader.now) (g.R.Read.remaining c.answer.new.reader) (g.W.Write.contents c.args.out.now) (g.W.Write.contents c.answer.new.out))
-    _ _ _ _ c.answer.result _ c.deref-in-Ok.ensures.value c.answer.ensures.founded c.from-in-Ok.ensures)
-
-pub returns-in-Err-clause-refused : goal.returns-in-Err-clause-refused
-returns-in-Err-clause-refused g c =
-    if_err c.args.words.now c.in-Err.why _ c.in-Err.is (record {
-      exit = c.refuse.result;
-      does = c.refuse.ensures;
-      ends = c.from-in-Err.ensures;
-    })
