@@ -59,8 +59,8 @@ found_tells ops Run script text (F.InEvaluation found) (Ok end) more is told = t
 found_tells ops Eval script text (F.InEvaluation found) (Ok end) more is told = told ops is
 
 -- what is told is told, and so is that memory was wanting for it
-pub told_or_wanting : {V E : Type 0} (items : V → List ℕ) (script : ScriptView) (text : List ℕ) (found : Found) (answer : Result End RunError) (explains : Bool) (told : Result V E) (more : List ℕ)
+pub told_or_wanting : {V E : Type 0} (told : Result V E) (items : V → List ℕ) (script : ScriptView) (text : List ℕ) (found : Found) (answer : Result End RunError) (explains : Bool) (more : List ℕ)
     → (explains ≡ true → IfOk told (λ v. HasTold script text found answer (items v))) → IfOk told (λ v. more ≡ items v) → IfErr told (λ e. more ≡ unexplained)
     → explains ≡ true → (more ≡ unexplained) ⊎ HasTold script text found answer more
-told_or_wanting items script text found answer explains (Ok v) more tells is wanting on = inr (subst (HasTold script text found answer) (sym is) (tells on))
-told_or_wanting items script text found answer explains (Err e) more tells is wanting on = inl wanting
+told_or_wanting (Ok v) items script text found answer explains more tells is wanting on = inr (subst (HasTold script text found answer) (sym is) (tells on))
+told_or_wanting (Err e) items script text found answer explains more tells is wanting on = inl wanting

@@ -18,5 +18,5 @@ returns-in-Ok g c =
     (string_bytes c.in-Ok.printed.text) end answer
     (IfOk-at_ok _ c.in-Ok.is c.requires.comes)
     (subst (λ xs. IsWritten old new xs end answer) c.as_bytes.ensures.value c.write_printed-answer.ensures)
-    (told_or_wanting (λ v. v.items) p.script p.text.items p.found answer c.args.call.now.flags.explain c.explained-told.result c.more_of.result.now c.explained-told.ensures.on c.more_of.ensures.ok c.more_of.ensures.err)
+    (told_or_wanting c.explained-told.result (λ v. v.items) p.script p.text.items p.found answer c.args.call.now.flags.explain c.more_of.result.now c.explained-told.ensures.on c.more_of.ensures.ok c.more_of.ensures.err)
     c.exit_of.ensures
