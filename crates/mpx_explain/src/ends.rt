@@ -2,6 +2,7 @@
 ghost use Rattle.std.specs.Prelude.{◌≡◌, ◌++◌, ◌∷◌, [], IfOk, IfSome, OnOk, Some, map};
 ghost use Rattle.std.specs.List.{All};
 ghost use Rattle.mpx_node.specs.Shown.{node_of};
+ghost use Rattle.mpx_explain.specs.declared.ended.EndedRun.{EndedRun as Ended};
 ghost use Rattle.mpx_explain.specs.RunEnds.{AreLacked, ComesFirst, IsThere, LacksPosts, TellsRun, process_of, waiting_there, waits_at, where_of};
 
 use crate::ended::EndedRun;
@@ -155,8 +156,7 @@ fn found_at(
 
 fn found_with(rank: u8, statement: usize, calls: Vec<MissingCall>, is_served: bool) -> Found
     ensures place { where_of result.waiting ≡ (rank, statement) }
-    ensures rank { result.waiting.rank ≡ rank }
-    ensures calls { result.waiting.calls.items ≡ calls.items }
+    ensures lacked { (run : Ended) → All (LacksPosts run rank) calls.items → AreLacked run result.waiting }
 {
     Found {
         waiting: WaitingRank {
