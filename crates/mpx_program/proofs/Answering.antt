@@ -86,23 +86,23 @@ module _ (ops : List Operation) (call : Invocation) (text : List ℕ) (script : 
   is_ungated (Ok end) p = λ e. cc e
   is_ungated (Err error) p = λ e. subst (λ a. PrintsUngated IsFounded ops call.job text old new a) e p
 
-  answers : (answer : Result End RunError) → PrintsUngated IsFounded ops call.job text old new answer → Told answer → Exits answer complains call.flags.explain more code Says → AnswersText IsFounded ops call text old new code Says
-  answers answer prints told exits = record {
+  answers : (answer : Result End RunError) → PrintsUngated IsFounded ops call.job text old new answer → ExplainsOn ops call text answer more → Exits answer complains call.flags.explain more code Says → AnswersText IsFounded ops call text old new code Says
+  answers answer prints explains exits = record {
     answer = answer;
     prints = gated_prints IsFounded ops nowhere call.job text old new answer prints;
     ungated = is_ungated answer prints;
     complains = complains;
     strict = strict_on answer;
     more = more;
-    explains = explained ops call text script found read is_found answer more told;
+    explains = explains;
     exits = exits;
   }
 
   pub answers_written : (out : List ℕ) (end : End) (answer : Result End RunError) → ComesTo IsFounded ops call.job.command call.job.options script end out → IsWritten old new out end answer → Told answer → Exits answer complains call.flags.explain more code Says → AnswersText IsFounded ops call text old new code Says
-  answers_written out end answer comes written = answers answer (written_prints IsFounded ops call.job text script old new out end answer read comes written)
+  answers_written out end answer comes written told = answers answer (written_prints IsFounded ops call.job text script old new out end answer read comes written) (explained ops call text script found read is_found answer more told)
 
-  pub answers_refused : (why : RunError) → new ≡ old → IsRefusedFor call.job script why → Told (Err why) → Exits (Err why) complains call.flags.explain more code Says → AnswersText IsFounded ops call text old new code Says
-  answers_refused why same refused told exits = answers (Err why) (subst (λ n. PrintsUngated IsFounded ops call.job text old n (Err why)) (sym same) (refused_prints IsFounded ops call.job text script old why read refused)) told exits
+  pub answers_refused : (why : RunError) → new ≡ old → IsRefusedFor call.job script why → Exits (Err why) complains call.flags.explain more code Says → AnswersText IsFounded ops call text old new code Says
+  answers_refused why same refused exits = answers (Err why) (subst (λ n. PrintsUngated IsFounded ops call.job text old n (Err why)) (sym same) (refused_prints IsFounded ops call.job text script old why read refused)) tt exits
 
 -- what is done with a text is done with what the reader gives
 pub does_text : (ops : List Operation) (call : Invocation) (there left old new : Option (List ℕ)) (text now : List ℕ) (code : ℕ) (Says : List ℕ → Type 0) → TakesInput there left text → now ≡ text → AnswersText IsFounded ops call now old new code Says
