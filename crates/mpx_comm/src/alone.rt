@@ -39,6 +39,9 @@ impl Host for Node {
     // None is refused.
     ghost turn_refused = { λ a why b. ⊥ };
 
+    // It remembers none.
+    ghost has_had = { λ h name call finished. Unit {0} };
+
     fn post(
         &mut self,
         alloc: Global,
@@ -94,6 +97,12 @@ impl Host for Node {
     ghost turns_none = { λ h. tt };
 
     ghost turns_more = { λ a b c m n x y. tt };
+
+    ghost had_now = { λ h name call finished x. tt };
+
+    ghost had_later = { λ a b n name call finished x y. tt };
+
+    ghost had_refused = { λ a b why name call finished x y. tt };
 }
 
 /// What the user of a node alone does for it between the calls.

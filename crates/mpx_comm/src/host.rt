@@ -1,10 +1,12 @@
 //! Who posts for a process and hears of others.
-ghost use Rattle.std.specs.Prelude.{◌≡◌, ◌+◌, ◌≤◌, ℕ, List, IfErr, OnOk};
+ghost use Rattle.std.specs.Prelude.{◌≡◌, ◌+◌, ◌≤◌, ℕ, List, Some, IfErr, OnOk};
 ghost use Rattle.std.specs.Option.{option_copied};
+ghost use Rattle.mpx_name.specs.Name.{Name as NameView};
 ghost use Rattle.mpx_num.specs.declared.own.Operation.{Operation};
 ghost use Rattle.mpx_post.specs.Drafts.{refusal_of};
 ghost use Rattle.mpx_board.specs.Looks.{look};
 ghost use Rattle.mpx_node.specs.Forgetting.{forgets};
+ghost use Rattle.mpx_node.specs.declared.finished.Finished.{Finished as FinishedView};
 ghost use Rattle.mpx_node.specs.Nodes.{NodeView, Opens, Posts, checked_on, gathers_on, result_on, posted_on, front_on};
 ghost use Rattle.mpx_comm.specs.Harvested.{HarvestsNext};
 ghost use Rattle.mpx_comm.specs.Later.{Later};
@@ -33,6 +35,9 @@ pub trait Host: Drop {
 
     /// A turn may be refused so, from one state to another.
     ghost turn_refused: { Self → TurnErrorView → Self → Type 0 };
+
+    /// It has had this result of a call, let go since or not. Who remembers none says so of any.
+    ghost has_had: { Self → NameView → ℕ → FinishedView → Type 0 };
 
     /// Posts the draft as the next call on a context, and gives its number. It makes no turn. An `Err` changes nothing: it is the draft's
     /// first refusal, or want of memory where it has none.
@@ -102,4 +107,13 @@ pub trait Host: Drop {
     ghost turns_none: { (h : Self) → turned h 0 h };
 
     ghost turns_more: { (a b c : Self) (m n : ℕ) → turned a m b → turned b n c → turned a (m + n) c };
+
+    /// What it has it has had,
+    ghost had_now: { (h : Self) (name : NameView) (call : ℕ) (finished : FinishedView) → result_on (node h) name call ≡ Some finished → has_had h name call finished };
+
+    /// and through all turns, and calls that make none, that stays so,
+    ghost had_later: { (a b : Self) (n : ℕ) (name : NameView) (call : ℕ) (finished : FinishedView) → turned a n b → has_had a name call finished → has_had b name call finished };
+
+    /// and where a turn is refused.
+    ghost had_refused: { (a b : Self) (why : TurnErrorView) (name : NameView) (call : ℕ) (finished : FinishedView) → turn_refused a why b → has_had a name call finished → has_had b name call finished };
 }

@@ -174,7 +174,7 @@ impl<'a, L: Seat, O: Folds, R: Wait> Host for Member<'a, L, O, R> {
         }
         let turned = gossip(self.rt, alloc, self.bus, &mut self.port);
         self.news.note(self.port.node().board());
-        self.news.rest(self.rt, crew);
+        self.news.rest(self.rt, &crew.sleepers);
         match turned {
             Ok(()) => Ok(()),
             Err(OutOfMemory) => Err(TurnError::OutOfMemory),

@@ -73,7 +73,7 @@ fn make_turns<L: PortLock, G: Gate, R: Wait>(
     requires queue { table_of bench.now.bus.now ≡ L.table }
     ensures { IfOk result (λ end. end ≡ GossipEnd.GaveUp → GivesUpWithin (G.gives_up bench.now.gate.now) me bench.now.turns) }
 {
-    let mut calm = Calm::new(port.fingerprint(rt));
+    let mut calm = Calm::new(me, port.fingerprint(rt));
     for nth in 0..bench.turns {
         if bench.watch.is_over(bench.ranks) {
             return Ok(GossipEnd::Over);
@@ -83,7 +83,7 @@ fn make_turns<L: PortLock, G: Gate, R: Wait>(
             Pass::GiveUp => return Ok(GossipEnd::GaveUp),
         }
         calm.note(bench.watch, me, port.fingerprint(rt));
-        calm.rest(rt, signal, me);
+        calm.rest(rt, bench.watch);
     }
     Ok(GossipEnd::Over)
 }

@@ -43,9 +43,9 @@ impl<'a> Looks<'a> {
         self.watch.call_begins();
     }
 
-    /// The rank has posted.
+    /// The rank has posted: all gossips that sleep are woken.
     pub(crate) fn has_posted(&self) {
         self.watch.tell_news();
-        self.signal.hurry();
+        self.watch.sleepers.wake();
     }
 }

@@ -34,6 +34,9 @@ impl Host for Inbox {
     // One that is refused takes none.
     ghost turn_refused = { λ a why b. b.boards.items ≡ a.boards.items };
 
+    // It remembers no result that was let go.
+    ghost has_had = { λ h name call finished. Unit {0} };
+
     fn post(
         &mut self,
         alloc: Global,
@@ -93,4 +96,10 @@ impl Host for Inbox {
     ghost turns_none = { λ h. refl };
 
     ghost turns_more = { λ a b c m n x y. take_more m n a.boards.items b.boards.items c.boards.items x y };
+
+    ghost had_now = { λ h name call finished x. tt };
+
+    ghost had_later = { λ a b n name call finished x y. tt };
+
+    ghost had_refused = { λ a b why name call finished x y. tt };
 }
