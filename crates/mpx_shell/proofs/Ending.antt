@@ -47,3 +47,8 @@ module _ {A E : Type 0} (words_in : A → List (List ℕ)) (args : Result A E) (
 pub no_err : {A E P : Type 0} {Q : A → Type 0} (args : Result A E) → IsOkAnd args Q → OnErr args P
 no_err (Ok a) q = tt
 no_err (Err e) q = absurd q
+
+-- what is so is so without arguments
+pub on_err : {A E P : Type 0} (args : Result A E) → P → OnErr args P
+on_err (Ok a) p = tt
+on_err (Err e) p = p
