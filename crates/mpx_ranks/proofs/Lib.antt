@@ -1,2 +1,4 @@
 pub mod Quiet
+pub mod More
+pub mod Values
 pub mod Jobs

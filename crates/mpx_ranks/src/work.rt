@@ -1,9 +1,9 @@
 //! A process of a job in its thread: a rank runs the program and then gossips on for the others, a relay gossips alone.
 ghost use Rattle.std.specs.Prelude.{◌≡◌, ◌<◌, ◌≤◌, false, IfSome};
 ghost use Rattle.mpx_bus.specs.Buses.{table_of};
-ghost use Rattle.mpx_bus.specs.Ports.{IsNew, node_in};
+ghost use Rattle.mpx_bus.specs.Ports.{IsNew};
 ghost use Rattle.mpx_ranks.specs.Members.{IsSeated};
-ghost use Rattle.mpx_ranks.specs.Ranks.{Answers, HasWorked, IsReady};
+ghost use Rattle.mpx_ranks.specs.Ranks.{HasAnswered, HasWorked, IsReady};
 
 use crate::crew::Crew;
 use crate::folds::Folds;
@@ -111,7 +111,7 @@ fn work_as_rank<L: Seat, O: Folds, K: Ledger, P: Program, R: Wait>(
     requires count { L.setup.ranks ≡ ranks }
     requires port { IsNew L.setup L.table me port }
     ensures sits { IsSeated L.table L.setup L.me result.port }
-    ensures gave { IfSome result.answer (λ a. Answers (P.gives program.now) L.setup.operations ranks L.setup.size me a (node_in result.port)) }
+    ensures gave { IfSome result.answer (λ a. HasAnswered (P.gives program.now) L.setup me a result.port.journal) }
 {
     let member = Member::<L, O, R>::new(rt, bus, list, crew, me, port);
     let Ok(all) = crew.begins(rt, start, place) else {
@@ -144,7 +144,7 @@ fn run_program<K: Ledger, P: Program, H: Host>(
     ops: &Ops,
 ) -> P::Answer
     requires { (_all.now.of ≡ _start.now.all.id) × (_all.now.value.total.amount ≡ 0) }
-    ensures { P.gives program.now (H.goes_by desk.old.host (⟦<Ops as Listing>⟧.operations ops.now)) world.now (H.node desk.old.host) (H.node desk.new.host) result }
+    ensures { P.gives program.now (H.goes_by desk.old.host (⟦<Ops as Listing>⟧.operations ops.now)) world.now (H.node desk.old.host) (H.node desk.new.host) (H.has_had desk.new.host) result }
 {
     program.run(alloc, desk, world, ops)
 }
