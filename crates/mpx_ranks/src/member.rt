@@ -13,6 +13,7 @@ use crate::folds::Folds;
 use crate::gossip::gossip;
 use crate::news::News;
 use crate::seat::Seat;
+use crate::start::{AllCame, Start};
 use join_core::OutOfMemory;
 use mpx_board::Board;
 use mpx_bus::{Bus, Port};
@@ -23,17 +24,21 @@ use mpx_num::Ops;
 use mpx_post::{Draft, PostError};
 use std::alloc::Global;
 use std::marker::PhantomData;
+use std::sync::ledger::Ledger;
 use std::sync::{OnceToken, Wait};
 
-/// A port on a bus that is lent, with the job's own operations, what the threads tell each other, and the right to wait. A turn takes
+/// A port on a bus that is lent, with the job's own operations, what the threads tell each other, and the right to wait. It has what shows
+/// that all threads have come, so there is none before that, and no desk over one. A turn takes
 /// a frame out of the queue and puts one in, drops posts that every member has harvested, and rests, longer while it hears nothing new.
 /// Once all are to stop it makes none any more, and has seen why.
 #[derive(Drop)]
-pub(crate) struct Member<'a, L: Seat, O: Folds, R: Wait> {
+pub(crate) struct Member<'a, L: Seat, O: Folds, K: Ledger, R: Wait> {
     pub(crate) rt: &'a R,
     pub(crate) bus: &'a Bus,
     pub(crate) ops: &'a O,
     pub(crate) crew: &'a Crew,
+    pub(crate) start: &'a Start<K>,
+    pub(crate) came: OnceToken<'a, AllCame<K>>,
     pub(crate) port: Port,
     pub(crate) news: News,
     pub(crate) seat: PhantomData<L>,
@@ -41,22 +46,27 @@ pub(crate) struct Member<'a, L: Seat, O: Folds, R: Wait> {
     ghost list_is: { O.operations ops.now ≡ L.setup.operations },
     ghost bus_is: { table_of bus.now ≡ L.table },
     ghost free: { L.setup.planned ≡ false },
+    ghost came_there: { came.of ≡ start.now.all.id },
+    ghost none_lacking: { came.value.total.amount ≡ 0 },
     ghost table_is: { port.table ≡ L.table },
     ghost setup_is: { port.setup ≡ L.setup },
     ghost me_is: { port.me ≡ L.me },
     ghost halt_is: { IfSome halt (λ token. token.of ≡ crew.now.halt.id) } by { Prim.hlevel props },
 }
 
-impl<'a, L: Seat, O: Folds, R: Wait> Member<'a, L, O, R> {
-    /// Whoever has this port. By its number it rests at other times than the others.
+impl<'a, L: Seat, O: Folds, K: Ledger, R: Wait> Member<'a, L, O, K, R> {
+    /// Whoever has this port, once all threads have come. By its number it rests at other times than the others.
     pub(crate) fn new(
         rt: &'a R,
         bus: &'a Bus,
         ops: &'a O,
         crew: &'a Crew,
+        start: &'a Start<K>,
+        came: OnceToken<'a, AllCame<K>>,
         me: u8,
         port: Port,
-    ) -> Member<'a, L, O, R>
+    ) -> Member<'a, L, O, K, R>
+        requires came { (came.of ≡ start.now.all.id) × (came.value.total.amount ≡ 0) }
         requires bus { table_of bus.now ≡ L.table }
         requires list { O.operations ops.now ≡ L.setup.operations }
         requires free { L.setup.planned ≡ false }
@@ -70,6 +80,8 @@ impl<'a, L: Seat, O: Folds, R: Wait> Member<'a, L, O, R> {
             bus,
             ops,
             crew,
+            start,
+            came,
             port,
             news: News::new(me),
             seat: PhantomData,
@@ -103,7 +115,7 @@ impl<'a, L: Seat, O: Folds, R: Wait> Member<'a, L, O, R> {
     }
 }
 
-impl<'a, L: Seat, O: Folds, R: Wait> Host for Member<'a, L, O, R> {
+impl<'a, L: Seat, O: Folds, K: Ledger, R: Wait> Host for Member<'a, L, O, K, R> {
     ghost use Rattle.mpx_ranks.specs.Bounded.{port_bounded};
     ghost use Rattle.mpx_ranks.specs.Had.{GoesOn, HadIn, goes_nowhere, goes_then, has_had_later, has_had_now};
     ghost use Rattle.mpx_ranks.specs.Members.{RefusesTurn, by_port, same_operations};
