@@ -44,7 +44,7 @@ fn sum_of<H: Host>(
 ) -> Option<i64> {
     let mine = Numbers::one(mine);
     let sum = desk.allreduce(alloc, world, Op::Sum, Ty::I64, mine, TURNS, ops);
-    integer_of(sum.ok()?)
+    integer_of(&sum.ok()?)
 }
 
 // The communicator of all ranks that give this colour.
@@ -71,7 +71,7 @@ fn gathered<H: Host>(
 ) -> Option<Vec<i64>> {
     let mine = Numbers::one(mine);
     let all = desk.gather(alloc, half, 0, Ty::I64, mine, TURNS, ops);
-    integers_of(alloc, all.ok()?).ok()
+    integers_of(alloc, &all.ok()?).ok()
 }
 
 fn main(rt: HostRuntime) -> Result<ExitCode, RanksError> {

@@ -3,6 +3,7 @@ use Rattle.std.specs.Prelude.{◌≡◌, ℕ, ◌==◌, ◌≤◌, ◌^◌, ◌&
 use Rattle.std.proofs.Common.{ap}
 use Rattle.std.specs.Bool.{Decides, beq}
 use Rattle.std.specs.List.{list_all, sum}
+use Rattle.std.specs.Option.{option_map_or}
 use Rattle.std.specs.Cmp.{booleans_Decides}
 use Rattle.std.proofs.lemmas.Bool.Decides.{Decides-and, Decides-eqb, Decides-like}
 use Rattle.std.proofs.lemmas.Slice.Eq.{slice_eq-Decides}
@@ -107,14 +108,12 @@ IsKept (Some topology) = IsTopology topology
 -- how many edges come to a rank, none where there is no topology
 
 abbrev pub indegree_in : Option TopologyView → ℕ → ℕ
-indegree_in None rank = 0
-indegree_in (Some topology) rank = length (sources_at topology rank)
+indegree_in topology rank = option_map_or (λ t. length (sources_at t rank)) topology 0
 
 -- how many go from it
 
 abbrev pub outdegree_in : Option TopologyView → ℕ → ℕ
-outdegree_in None rank = 0
-outdegree_in (Some topology) rank = length (destinations_at topology rank)
+outdegree_in topology rank = option_map_or (λ t. length (destinations_at t rank)) topology 0
 
 -- EQUALITY
 

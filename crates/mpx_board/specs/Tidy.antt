@@ -10,8 +10,7 @@ use Rattle.mpx_board.specs.Parts.{CallView, EntryView, LiftedView, AcksView, Par
 
 abbrev pub is_unknown : {A : Type 0} → FlatView A → Bool
 is_unknown unknown = true
-is_unknown (known x) = false
-is_unknown clash = false
+is_unknown v = false
 
 -- whether no key has an entry
 abbrev pub is_bare : {K V : Type 0} {R : K → K → Ordering} → FinMap R V → Bool

@@ -12,7 +12,8 @@ use Rattle.mpx_board.specs.Looks.{look}
 use Rattle.mpx_board.specs.Changes.{pruned_on}
 use Rattle.mpx_board.proofs.Facts.{IsContextUnder, IsUnder, fold_above_each, under_first, under_second}
 use Rattle.mpx_node.specs.declared.finished.Finished.{Finished}
-use Rattle.mpx_node.specs.Nodes.{NodeView, fresh, results_by, results_on, front_on, front_fact, births_of, harvest_part, checked_on, next_result, gathers_on, gathering_name, gathering_fact, learn, prune_part}
+use Rattle.mpx_node.specs.Deltas.{front_fact}
+use Rattle.mpx_node.specs.Nodes.{NodeView, fresh, results_by, results_on, front_on, births_of, harvest_part, checked_on, next_result, gathers_on, gathering_name, gathering_fact, learn, prune_part}
 use Rattle.std.specs.Prelude.{nat_lt, ◌&&◌}
 use Rattle.mpx_node.proofs.Forgotten.{front_forgotten}
 use Rattle.mpx_world.specs.Drafted.{makes_checked}

@@ -1,10 +1,10 @@
 -- What a desk lets go, and what it keeps.
-use Rattle.std.proofs.Common.{◌≡◌, ℕ, zero, suc, ◌<◌, ◌≤◌, ◌&&◌, Bool, true, false, cond, List, [], ◌∷◌, Option, Some, None, ◌⊎◌, inl, inr, refl, sym, ap, ◌∙◌, subst, arith, is_some}
+use Rattle.std.proofs.Common.{◌≡◌, ℕ, zero, suc, ◌<◌, ◌≤◌, ◌&&◌, Bool, true, false, cond, List, [], ◌∷◌, ◌++◌, length, Option, Some, None, ◌⊎◌, inl, inr, refl, sym, ap, ◌∙◌, subst, arith, is_some}
 use Rattle.std.specs.Prelude.{slice_get, nat_lt}
 use Rattle.std.specs.Option.{option_flatten, option_map}
 use Rattle.std.proofs.lemmas.Bool.Decides.{nat_tests}
-use Rattle.std.proofs.lemmas.Option.{same_Some}
 use Rattle.mpx_name.specs.Name.{Name, same_name}
+use Rattle.mpx_name.specs.Order.{name_equality}
 use Rattle.mpx_board.specs.Boards.{Look}
 use Rattle.mpx_node.specs.declared.finished.Finished.{Finished}
 use Rattle.mpx_node.specs.Forgetting.{forgets}
@@ -14,43 +14,54 @@ use Rattle.mpx_node.specs.Stored.{count_gone, let_go}
 use Rattle.mpx_node.proofs.Forgotten.{posted_forgotten, result_before, result_or_forgotten}
 use Rattle.mpx_node.proofs.Gone.{length_lets}
 use Rattle.mpx_comm.specs.declared.request.Request.{Request}
-use Rattle.mpx_comm.specs.Forgetting.{AreUntouched, forgets_but, least_call, lesser_call}
+use Rattle.mpx_comm.specs.Forgetting.{AreUntouched, IsLeastCall}
 use Rattle.mpx_comm.specs.Later.{is_empty, is_let_go, result_at, IsOwn}
 use Rattle.mpx_post.specs.Posts.{Given}
 use Rattle.mpx_comm.specs.Requests.{ArePosted}
+use Rattle.mpx_comm.proofs.Steps.{get_either}
 
 -- THE LEAST CALL
 
-lesser_by : (same less : Bool) (least call : ℕ) → nat_lt call least ≡ less → cond (same && less) call least ≤ least
-lesser_by true true least call e = grind (arith, nat_tests)
-lesser_by true false least call e = omega arith
-lesser_by false less least call e = omega arith
+-- what stands in a list does so in a longer one
+there_still : (rs qs : List Request) (i : ℕ) (r : Request) → slice_get rs i ≡ Some r → slice_get (rs ++ qs) i ≡ Some r
+there_still [] qs i r e = cc e
+there_still (x ∷ rs) qs zero r e = e
+there_still (x ∷ rs) qs (suc i) r e = there_still rs qs i r e
 
-lesser_most : (name : Name) (least : ℕ) (r : Request) → lesser_call name least r ≤ least
-lesser_most name least r = lesser_by (same_name r.name name) (nat_lt r.call least) least r.call refl
+last_there : (rs : List Request) (r : Request) → slice_get (rs ++ r ∷ []) (length rs) ≡ Some r
+last_there [] r = refl
+last_there (x ∷ rs) r = last_there rs r
 
-lesser_low_by : (less : Bool) (least call : ℕ) → nat_lt call least ≡ less → cond (true && less) call least ≤ call
-lesser_low_by true least call e = omega arith
-lesser_low_by false least call e = grind (arith, nat_tests)
+pub least_none : (most : ℕ) (name : Name) → IsLeastCall most name [] most
+least_none most name = record { within = omega arith; low = λ i r e n. cc e; met = inl refl }
 
-lesser_low : (name : Name) (least : ℕ) (r : Request) → same_name r.name name ≡ true → lesser_call name least r ≤ r.call
-lesser_low name least r same = subst (λ b. cond (b && nat_lt r.call least) r.call least ≤ r.call) (sym same) (lesser_low_by (nat_lt r.call least) least r.call refl)
+-- one request more, for a lesser call of the context
+pub least_less : (most : ℕ) (name : Name) (rs : List Request) (least : ℕ) (r : Request) → IsLeastCall most name rs least → r.name ≡ name → r.call < least → IsLeastCall most name (rs ++ r ∷ []) r.call
+least_less most name rs least r h same less = record { within = (let l = h.within in omega (arith, l, less)); low = λ i q e n. by_place q n (get_either rs r i q e); met = inr (length rs, r, last_there rs r, same, refl) } where
+  by_place : {i : ℕ} (q : Request) → q.name ≡ name → (slice_get rs i ≡ Some q) ⊎ ((i ≡ length rs) × (r ≡ q)) → r.call ≤ q.call
+  by_place {i} q n (inl there) = let l = h.low i q there n in omega (arith, l, less)
+  by_place q n (inr last) = subst (λ (x : Request). r.call ≤ x.call) last.1 (omega arith)
 
-least_most : (most : ℕ) (name : Name) (rs : List Request) → least_call most name rs ≤ most
-least_most most name [] = omega arith
-least_most most name (r ∷ rs) =
-    let rest = least_most (lesser_call name most r) name rs in
-    let one = lesser_most name most r in
-    omega (arith, rest, one)
+-- one request more, for no lesser call of the context
+pub least_same : (most : ℕ) (name : Name) (rs : List Request) (least : ℕ) (r : Request) → IsLeastCall most name rs least → (r.name ≡ name → least ≤ r.call) → IsLeastCall most name (rs ++ r ∷ []) least
+least_same most name rs least r h above = record { within = h.within; low = λ i q e n. by_place q n (get_either rs r i q e); met = met h.met } where
+  by_place : {i : ℕ} (q : Request) → q.name ≡ name → (slice_get rs i ≡ Some q) ⊎ ((i ≡ length rs) × (r ≡ q)) → least ≤ q.call
+  by_place {i} q n (inl there) = h.low i q there n
+  by_place q n (inr last) = subst (λ (x : Request). x.name ≡ name → least ≤ x.call) last.1 above n
 
-least_low : (most : ℕ) (name : Name) (rs : List Request) (i : ℕ) (q : Request) → slice_get rs i ≡ Some q → same_name q.name name ≡ true → least_call most name rs ≤ q.call
-least_low most name [] i q e same = cc e
-least_low most name (r ∷ rs) zero q e same =
-    let is : q ≡ r = sym (same_Some r q e) in
-    let here : lesser_call name most r ≤ q.call = subst (λ (x : Request). lesser_call name most r ≤ x.call) (sym is) (lesser_low name most r (subst (λ (x : Request). same_name x.name name ≡ true) is same)) in
-    let rest = least_most (lesser_call name most r) name rs in
-    omega (arith, rest, here)
-least_low most name (r ∷ rs) (suc i) q e same = least_low (lesser_call name most r) name rs i q e same
+  met : (least ≡ most) ⊎ ((i : ℕ) × (q : Request) × (slice_get rs i ≡ Some q) × (q.name ≡ name) × (least ≡ q.call)) → (least ≡ most) ⊎ ((i : ℕ) × (q : Request) × (slice_get (rs ++ r ∷ []) i ≡ Some q) × (q.name ≡ name) × (least ≡ q.call))
+  met (inl e) = inl e
+  met (inr (i, q, e, n, call)) = inr (i, q, there_still rs (r ∷ []) i q e, n, call)
+
+-- a request that isn't of the context, or for a lesser call, by the test
+pub above_by : (name : Name) (least : ℕ) (r : Request) → (same_name r.name name && nat_lt r.call least) ≡ false → r.name ≡ name → least ≤ r.call
+above_by name least r no same =
+    let is : same_name r.name name ≡ true = subst (λ n. same_name r.name n ≡ true) same (name_equality.reflexive r.name) in
+    let not_less : nat_lt r.call least ≡ false = sym (ap (λ b. b && nat_lt r.call least) is) ∙ no in
+    grind (arith, nat_tests)
+
+pub least_at : (m most : ℕ) (name : Name) (qs rs : List Request) (least : ℕ) → m ≡ most → qs ≡ rs → IsLeastCall m name qs least → IsLeastCall most name rs least
+least_at m most name qs rs least same equal h = subst (λ xs. IsLeastCall most name xs least) equal (subst (λ n. IsLeastCall n name qs least) same h)
 
 -- WHAT STAYS
 
@@ -114,15 +125,15 @@ module _ (name : Name) (below : ℕ) (node : NodeView) where
   own_kept n k given o = record { held = o.held; mine = λ f e. o.mine f (result_before name below node n k f e) }
 
 -- what open requests are for stays
-module _ (name : Name) (rs : List Request) (node new : NodeView) (is : new ≡ forgets_but name rs node) where
+module _ (name : Name) (rs : List Request) (node new : NodeView) (below : ℕ) (least : IsLeastCall (front_on node name) name rs below) (is : new ≡ forgets name below node) where
   place : (i : ℕ) (r : Request) → slice_get rs i ≡ Some r → slice_get (results_on new r.name) r.call ≡ slice_get (results_on node r.name) r.call
-  place i r e = ap (λ x. slice_get (results_on x r.name) r.call) is ∙ place_kept name (least_call (front_on node name) name rs) node r.name r.call (λ same. least_low (front_on node name) name rs i r e same)
+  place i r e = ap (λ x. slice_get (results_on x r.name) r.call) is ∙ place_kept name below node r.name r.call (λ same. least.low i r e (name_equality.sound r.name name same))
 
   pub untouched : AreUntouched node new rs
-  untouched i r e = (ap option_flatten (place i r e), ap (λ x. has_next x r.name) is ∙ next_kept name (least_call (front_on node name) name rs) node r.name)
+  untouched i r e = (ap option_flatten (place i r e), ap (λ x. has_next x r.name) is ∙ next_kept name below node r.name)
 
   pub posted_forgets : ArePosted node rs → ArePosted new rs
   posted_forgets all i r e = (
-    subst (λ n. r.call < n) (sym (ap (λ x. posted_on x r.name) is ∙ posted_forgotten name (least_call (front_on node name) name rs) node r.name)) (all i r e).0,
+    subst (λ n. r.call < n) (sym (ap (λ x. posted_on x r.name) is ∙ posted_forgotten name below node r.name)) (all i r e).0,
     ap is_empty (place i r e) ∙ (all i r e).1,
   )

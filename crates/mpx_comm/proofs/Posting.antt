@@ -200,6 +200,7 @@ module _ (old : NodeView) (name : Name) (given : Given) where
         own = subst (λ g. IsOwn posting name (posted_on old name) g) is (own_by bounded);
         posted = λ n. ap (λ g. posted_on (with_post name g old) n) is;
         stored = λ n k f h. ap (λ rs. stored_at rs k) (results_stay given (same_name n name) (old.opened n)) ∙ h;
+        let_go = λ n k. let_go_posted name given old n k;
         kept = kept_by;
       }
 
@@ -228,6 +229,7 @@ posted_then ops name draft old mid last h later = record {
   own = later.own name (posted_on old name) (given_by draft) h.own;
   posted = λ n. later.posted n ∙ h.posted n;
   stored = λ n k f e. later.stored n k f (h.stored n k f e);
+  let_go = λ n k. later.let_go n k ∙ h.let_go n k;
   kept = λ n k g o. later.own n k g (h.kept n k g o);
 }
 

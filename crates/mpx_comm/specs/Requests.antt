@@ -56,12 +56,14 @@ ArePosted node rs = (i : ℕ) (request : Request) → slice_get rs i ≡ Some re
 
 -- POSTS
 
--- with these operations of the job's own just the draft is posted since, as the next call on the context, and what was stored or posted before stays
+-- with these operations of the job's own just the draft is posted since, as the next call on the context; what was stored or posted before stays, and
+-- no result was let go
 pub record HasPosted (ops : List Operation) (name : Name) (draft : Draft) (old new : NodeView) : Type 0 where
   pub accepted : checked_on ops old name draft ≡ Ok (given_by draft)
   pub own : IsOwn new name (posted_on old name) (given_by draft)
   pub posted : (n : Name) → posted_on new n ≡ posted_on (with_post name (given_by draft) old) n
   pub stored : (n : Name) (call : ℕ) (finished : Finished) → result_at old n call ≡ Some finished → result_at new n call ≡ Some finished
+  pub let_go : (n : Name) (call : ℕ) → is_let_go new n call ≡ is_let_go old n call
   pub kept : (n : Name) (call : ℕ) (given : Given) → IsOwn old n call given → IsOwn new n call given
 
 -- the next call on a context
@@ -112,12 +114,12 @@ OneIsAtHand node requests = (i : ℕ) × (request : Request) × (slice_get reque
 abbrev pub AreResults : NodeView → List Request → List Finished → Type 0
 AreResults node requests all = map (result_of node) requests ≡ map Some all
 
--- a test of many closes all or none
+-- a test of many closes all or none. Where the result of one of them was let go it says so, whatever the others are
 abbrev pub TestsAll : List Request → Result (Tested (Vec Finished Global) (Vec Request Global)) (AllocFailed (Vec Request Global)) → NodeView → (before after : List Request) → Type 0
 TestsAll requests (Ok (Done all)) node before after = AreResults node requests all.items × (after ≡ close_all before requests)
-TestsAll requests (Ok (NotYet back)) node before after = (back.items ≡ requests) × OneIsPending node requests × (after ≡ before)
+TestsAll requests (Ok (NotYet back)) node before after = (back.items ≡ requests) × AreKept node requests × OneIsPending node requests × (after ≡ before)
 TestsAll requests (Ok (TestedLetGo back)) node before after = (back.items ≡ requests) × (list_any (has_let_go node) requests ≡ true) × (after ≡ before)
-TestsAll requests (Err refused) node before after = (refused.value.items ≡ requests) × OneIsAtHand node requests × (after ≡ before)
+TestsAll requests (Err refused) node before after = (refused.value.items ≡ requests) × AreKept node requests × OneIsAtHand node requests × (after ≡ before)
 
 -- each of the first so many was not done at some moment
 abbrev pub WerePending : List Operation → (old new : NodeView) → (number : ℕ) → List Request → Type 0
@@ -159,13 +161,14 @@ Waits node turned refused request turns (Err (NoMemory back)) old new before aft
 Waits node turned refused request turns (Err (GaveUp back)) old new before after = (back ≡ request) × GivesUpOne node turned refused request T.GaveUp turns old new × (after ≡ before)
 Waits node turned refused request turns (Err (LetGo back)) old new before after = (back ≡ request) × (has_let_go (node old) request ≡ true) × (new ≡ old) × (after ≡ before)
 
+-- so does a wait for many. Where the result of one of them was let go it says so, whatever the others are
 abbrev pub WaitsAll : {H : Type 0} → (node : H → NodeView) → (turned : H → ℕ → H → Type 0) → (refused : H → TurnError → H → Type 0) → List Request → (turns : ℕ) → Result (Vec Finished Global) (WaitError (Vec Request Global)) → (old new : H) → (before after : List Request) → Type 0
 WaitsAll node turned refused requests turns (Ok all) old new before after =
     AreResults (node new) requests all.items × ((n : ℕ) × (n ≤ turns) × AwaitsAll node turned requests old n new) × (after ≡ close_all before requests)
 WaitsAll node turned refused requests turns (Err (StillWaiting back)) old new before after =
-    (back.items ≡ requests) × OneIsPending (node new) requests × AwaitsAll node turned requests old turns new × (after ≡ before)
-WaitsAll node turned refused requests turns (Err (NoMemory back)) old new before after = (back.items ≡ requests) × GivesUpAll node turned refused requests T.OutOfMemory turns old new × (after ≡ before)
-WaitsAll node turned refused requests turns (Err (GaveUp back)) old new before after = (back.items ≡ requests) × GivesUpAll node turned refused requests T.GaveUp turns old new × (after ≡ before)
+    (back.items ≡ requests) × AreKept (node new) requests × OneIsPending (node new) requests × AwaitsAll node turned requests old turns new × (after ≡ before)
+WaitsAll node turned refused requests turns (Err (NoMemory back)) old new before after = (back.items ≡ requests) × AreKept (node new) requests × GivesUpAll node turned refused requests T.OutOfMemory turns old new × (after ≡ before)
+WaitsAll node turned refused requests turns (Err (GaveUp back)) old new before after = (back.items ≡ requests) × AreKept (node new) requests × GivesUpAll node turned refused requests T.GaveUp turns old new × (after ≡ before)
 WaitsAll node turned refused requests turns (Err (LetGo back)) old new before after = (back.items ≡ requests) × (list_any (has_let_go (node old)) requests ≡ true) × (new ≡ old) × (after ≡ before)
 
 -- BLOCKING CALLS

@@ -78,11 +78,11 @@ impl<H: Host> Desk<H> {
         alloc: Global,
         comm: &Comm,
         tag: i128,
-        ranks: &[i128],
+        ranks: Numbers,
         turns: u64,
         ops: &Ops,
     ) -> Result<Finished, CallError>
-        ensures { DeskCallsGathered (H.goes_by self.old.host (⟦<Ops as Listing>⟧.operations ops.now)) H.node H.turned H.turn_refused comm.now.name tag ranks.now turns result self.old self.new }
+        ensures { DeskCallsGathered (H.goes_by self.old.host (⟦<Ops as Listing>⟧.operations ops.now)) H.node H.turned H.turn_refused comm.now.name tag ranks turns result self.old self.new }
     {
         match self.open_gathering(alloc, comm, tag, ranks) {
             Err(refusal) => Err(CallError::Refused(refusal)),
@@ -100,10 +100,10 @@ impl<H: Host> Desk<H> {
         alloc: Global,
         comm: &Comm,
         tag: i128,
-        ranks: &[i128],
+        ranks: Numbers,
         ops: &Ops,
     ) -> Result<Request, PostError>
-        ensures asks { DeskAsksGathered (H.goes_by self.old.host (⟦<Ops as Listing>⟧.operations ops.now)) H.node H.turned comm.now.name tag ranks.now result self.old self.new }
+        ensures asks { DeskAsksGathered (H.goes_by self.old.host (⟦<Ops as Listing>⟧.operations ops.now)) H.node H.turned comm.now.name tag ranks result self.old self.new }
         ensures no_turn { H.turned self.old.host 0 self.new.host }
     {
         match self.open_gathering(alloc, comm, tag, ranks) {

@@ -20,14 +20,16 @@ use indexmap::IndexSet;
 use join_core::{Exact, OutOfMemory};
 use mpx_name::Name;
 use mpx_node::Finished;
-use mpx_num::{Listing, Ops};
+use mpx_num::{Listing, Numbers, Ops};
 use mpx_post::{Draft, PostError};
 use std::alloc::{AllocFailed, Global};
 
 /// The user's calls over a host, and the requests that are open, in order of posting.
 ///
 /// A call by its name in MPI posts what the member gives, as the member's next call on the communicator. `items` are numbers of the
-/// type `ty`, of `2int` two for each item, and `ops` are the job's own operations. What members get stands in rank order.
+/// type `ty`, of `2int` two for each item, and `ops` are the job's own operations. What members get stands in rank order. The ranks,
+/// tags and counts that a member gives are whole numbers, `i128` and in lists [`Numbers`]: one that is out of range is a refusal. Those that
+/// it is told are in range, a rank or a size a `u8`.
 ///
 /// A call that blocks then waits for its result: it looks once before the first turn of the host and once after each, and `turns`
 /// is how many turns the host makes at most. It answers the result, which is a fault where the members' posts don't fit together,
@@ -98,13 +100,17 @@ impl<H: Host> Desk<H> {
         alloc: Global,
         comm: &Comm,
         tag: i128,
-        ranks: &[i128],
+        ranks: Numbers,
     ) -> Result<OpenedGathering, PostError>
-        ensures opens { Opens comm.now.name (gathers_on (H.node self.old.host) comm.now.name tag ranks.now) (gathering_in result) (H.node self.old.host) (H.node self.new.host) }
+        ensures opens { Opens comm.now.name (gathers_on (H.node self.old.host) comm.now.name tag ranks) (gathering_in result) (H.node self.old.host) (H.node self.new.host) }
         ensures no_turn { H.turned self.old.host 0 self.new.host }
         ensures requests { self.new.requests.keys ≡ self.old.requests.keys }
     {
-        match self.host.open_gathering(alloc, &comm.name, tag, ranks) {
+        let opened = self
+            .host
+            .open_gathering(alloc, &comm.name, tag, ranks.as_slice());
+        drop(ranks);
+        match opened {
             Ok(name) => Ok(OpenedGathering { name }),
             Err(refusal) => Err(refusal),
         }
@@ -180,8 +186,9 @@ impl<H: Host> Desk<H> {
         }
     }
 
-    /// Whether all of these are done (`MPI_TESTALL`, MPI 4.1 section 3.7.5): `Done` closes all and gives their results, in the order
-    /// of the requests; `NotYet`, `LetGo` and an `Err`, for want of memory, close none and hand them back. It makes no turn.
+    /// Whether all of these are done (`MPI_TESTALL`, MPI 4.1 section 3.7.5): `LetGo` where the result of one was let go, whatever the
+    /// others are. Else `Done` closes all and gives their results, in the order of the requests; `NotYet` where one isn't done; an `Err`
+    /// for want of memory, for what is at hand. All but `Done` close none and hand them back. It makes no turn.
     pub fn testall(
         &mut self,
         alloc: Global,
@@ -259,7 +266,8 @@ impl<H: Host> Desk<H> {
 
     /// Waits for all their results (`MPI_WAITALL`, MPI 4.1 section 3.7.5), in the order of the requests, while the host makes at most
     /// `turns` turns: it looks once before the first and once after each, and makes no turn after the look that finds them all. All
-    /// are closed, or none is. An `Err` hands them back, as that of [`Desk::wait`] does.
+    /// are closed, or none is. An `Err` hands them back, as that of [`Desk::wait`] does: `LetGo`, at once, where the result of one was let
+    /// go, whatever the others are, and else one of the others.
     pub fn waitall(
         &mut self,
         alloc: Global,

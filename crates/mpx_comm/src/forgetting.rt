@@ -1,7 +1,7 @@
 //! Results that a desk lets go.
 ghost use Rattle.std.specs.Prelude.{◌≡◌};
 ghost use Rattle.std.specs.List.{list_any};
-ghost use Rattle.mpx_comm.specs.Forgetting.{AreUntouched, HostForgets, WaitsAndForgets, least_call};
+ghost use Rattle.mpx_comm.specs.Forgetting.{AreUntouched, HostForgets, IsLeastCall, WaitsAndForgets};
 ghost use Rattle.mpx_comm.specs.Requests.{has_let_go};
 
 use crate::answers::{TurnError, WaitError};
@@ -91,9 +91,9 @@ pub fn one_was_let_go<H: Host>(host: &H, requests: &[Request]) -> bool
     false
 }
 
-// The least call of the context among the requests, but at most this number.
+// The least of this number and of the calls of the context that the requests are for.
 fn least_open(most: u32, name: &Name, requests: &[Request]) -> u32
-    ensures { result ≡ least_call most name.now requests.now }
+    ensures { IsLeastCall most name.now requests.now result }
 {
     let mut least = most;
     for request in requests {

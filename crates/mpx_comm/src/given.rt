@@ -44,33 +44,33 @@ pub fn numbers_of(finished: &Finished) -> Result<&[i128], Fault>
     }
 }
 
-/// The same numbers as integers of a type, in their order. It takes the result, which no exit of its caller has to drop.
-pub fn integers_of<T: Integer>(alloc: Global, finished: Finished) -> Result<Vec<T>, GivenError>
-    ensures value { IfOk result (λ list. numbers_given finished.outcome ≡ Ok (map T.value list.items)) }
-    ensures err { IfErr result (λ why. IsWhyNone T.ty (numbers_given finished.outcome) why) }
+/// The same numbers as integers of a type, in their order.
+///
+/// # Errors
+/// The fault, where the posts of the call don't fit together; else `OutOfRange`, where a number is none of the type, or `OutOfMemory`, after
+/// which it may be asked for once more.
+pub fn integers_of<T: Integer>(alloc: Global, finished: &Finished) -> Result<Vec<T>, GivenError>
+    ensures value { IfOk result (λ list. numbers_given finished.now.outcome ≡ Ok (map T.value list.items)) }
+    ensures err { IfErr result (λ why. IsWhyNone T.ty (numbers_given finished.now.outcome) why) }
 {
-    let made = match numbers_of(&finished) {
+    match numbers_of(finished) {
         Ok(numbers) => match integers_in(alloc, numbers) {
             Ok(list) => Ok(list),
             Err(IntegersError::OutOfRange) => Err(GivenError::OutOfRange),
             Err(IntegersError::OutOfMemory) => Err(GivenError::OutOfMemory),
         },
         Err(fault) => Err(GivenError::Fault(fault)),
-    };
-    drop(finished);
-    made
+    }
 }
 
 /// The one number that a call gave this rank, as an integer of a type: none where it gives none or more, where it doesn't fit, or where
-/// the posts are at fault. It takes the result too.
-pub fn integer_of<T: Integer>(finished: Finished) -> Option<T>
-    ensures some { IfSome result (λ x. numbers_given finished.outcome ≡ Ok (T.value x ∷ [])) }
-    ensures none { IfNone result (IsNotOne T.ty (numbers_given finished.outcome)) }
+/// the posts are at fault.
+pub fn integer_of<T: Integer>(finished: &Finished) -> Option<T>
+    ensures some { IfSome result (λ x. numbers_given finished.now.outcome ≡ Ok (T.value x ∷ [])) }
+    ensures none { IfNone result (IsNotOne T.ty (numbers_given finished.now.outcome)) }
 {
-    let made = match numbers_of(&finished) {
+    match numbers_of(finished) {
         Ok(numbers) => integer_in(numbers),
         Err(_) => None,
-    };
-    drop(finished);
-    made
+    }
 }

@@ -19,8 +19,12 @@ ghost use Rattle.mpx_comm.specs.Keeps.{NodeHolds, NodeKeeps};
 ghost use Rattle.mpx_comm.specs.Later.{Later};
 ghost use Rattle.mpx_comm.specs.Requests.{HasPosted, Tests, result_of, next_call};
 
-/// Posts, tests, waits and turns, in any number and order, keep what was posted and stored; so do gatherings that are opened,
-/// harvests, and boards that come, also where memory was wanting to take one whole.
+/// Posts, tests, turns, and waits that let nothing go, in any number and order, keep what was posted and stored; so do gatherings that
+/// are opened, harvests, and boards that come, also where memory was wanting to take one whole. Only [`Desk::forget`] and
+/// [`Desk::wait_and_forget`] let results go: [`results_stay_until_they_are_let_go`].
+///
+/// [`Desk::forget`]: crate::Desk::forget
+/// [`Desk::wait_and_forget`]: crate::Desk::wait_and_forget
 pub fn calls_keep_posts_and_results()
     ensures later { (old now : NodeView) → Later old now → NodeKeeps old now }
     ensures posts { (ops : List Operation) (old now : NodeView) (name : Name) (draft : Draft)
@@ -40,8 +44,8 @@ pub fn results_say_what_was_posted()
         → HasPosted ops name draft old posted → NodeKeeps posted now → result_of now (next_call old name) ≡ Some finished → finished.mine ≡ given_by draft }
 {}
 
-/// What a test of a request answers is what the node stores of its call from then on, whatever is posted and done. So a
-/// request that is handed in again gets the same answer.
+/// What a test of a request answers is what the node stores of its call from then on, as long as no result is let go. So a request that is
+/// handed in again gets the same answer.
 pub fn answers_are_stored_results()
     ensures stored { (tested now : NodeView) (request : Request) (finished : Finished) (before after : List Request)
         → Tests request (Ok (Done finished)) tested before after → NodeKeeps tested now → result_of now request ≡ Some finished }
@@ -50,11 +54,13 @@ pub fn answers_are_stored_results()
 {}
 
 /// With results that are let go too: what was stored is stored, or its own process has let it go, for good. A request that is handed in
-/// again gets the same answer or none, and a result at the place of a draft's post still says that post. It is so of posts, tests, waits
-/// and turns, of gatherings, harvests and boards that come, and of results that are let go.
+/// again gets the same answer or none, and a result at the place of a draft's post still says that post. It is so of posts, blocking
+/// calls, whatever these answer, tests, waits and turns, of gatherings, harvests and boards that come, and of results that are let go.
 pub fn results_stay_until_they_are_let_go()
     ensures later { (old now : NodeView) → Later old now → NodeHolds old now }
     ensures posts { (old : NodeView) (name : Name) (given : Given) → NodeHolds old (with_post name given old) }
+    ensures calls { (ops : List Operation) (old now : NodeView) (name : Name) (draft : Draft)
+        → HasPosted ops name draft old now → NodeHolds old now }
     ensures gatherings { (old now : NodeView) (parent : Name) (tag : ℤ) (ranks : List ℤ) (answer : Result Name PostError)
         → Opens parent (gathers_on old parent tag ranks) answer old now → NodeHolds old now }
     ensures harvests { (ops : List Operation) (old now : NodeView) (name : Name) (answer : Result Harvest OutOfMemory)

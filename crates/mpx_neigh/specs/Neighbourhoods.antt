@@ -1,6 +1,7 @@
 -- What neighbourhood exchanges give (MPI 4.1, section 8.6).
-use Rattle.std.specs.Prelude.{ℕ, List, ℤ, length, Option, Some, None}
+use Rattle.std.specs.Prelude.{ℕ, List, ℤ, length, Option}
 use Rattle.std.specs.List.{flat_map}
+use Rattle.std.specs.Option.{option_map_or}
 use Rattle.mpx_birth.specs.declared.edges.Neighbour.{Neighbour}
 use Rattle.mpx_birth.specs.Births.{upto}
 use Rattle.mpx_birth.specs.Topologies.{TopologyView, sources_at}
@@ -44,8 +45,7 @@ neigh_of Alltoallv topology row rank = blocks_met topology row rank
 
 -- what it gives the member; nothing where there are no edges
 abbrev pub neigh_given : Neighbourhood → Option TopologyView → RowView → ℕ → Value
-neigh_given exchange None row rank = Nothing
-neigh_given exchange (Some topology) row rank = as_items row (neigh_of exchange topology row rank)
+neigh_given exchange topology row rank = option_map_or (λ (edges : TopologyView). as_items row (neigh_of exchange edges row rank)) topology Nothing
 
 -- what a fine row of this kind gives the member with this rank: other kinds than neighbourhood exchanges give nothing here
 abbrev pub neigh_value : Kind → Option TopologyView → RowView → ℕ → Value

@@ -1,9 +1,9 @@
 -- What a node says that it has, and what others may lack of its board.
-use Rattle.std.specs.Prelude.{◌≡◌, ◌≤◌, ℕ, List, All, map}
+use Rattle.std.specs.Prelude.{◌≡◌, ◌≤◌, ◌+◌, ℕ, List, All, map}
 use Rattle.mpx_name.specs.Name.{Name}
 use Rattle.mpx_board.specs.declared.acks.Raised.{Raised}
 use Rattle.mpx_board.specs.declared.board.Board.{Board}
-use Rattle.mpx_board.specs.Boards.{Look, join_all}
+use Rattle.mpx_board.specs.Boards.{Front, Look, join_all, only}
 use Rattle.mpx_board.specs.Looks.{look, parts_of}
 use Rattle.mpx_board.specs.Raised.{Raises}
 use Rattle.mpx_format.specs.Encoding.{length_told}
@@ -12,7 +12,7 @@ use Rattle.mpx_delta.specs.Facts.{OnlyFactsOf}
 use Rattle.mpx_delta.specs.Pieces.{NoNeighboursFit}
 use Rattle.mpx_delta.specs.Lacking.{AreSpelled}
 use Rattle.mpx_delta.specs.Digests.{common_on, without}
-use Rattle.mpx_node.specs.Nodes.{NodeView, acknowledge}
+use Rattle.mpx_node.specs.Nodes.{NodeView, acknowledge, front_on}
 
 -- it says that it has what the digest of its board says, and nothing else is new
 pub record SaysWhatItHas (old new : NodeView) : Type 0 where
@@ -20,6 +20,10 @@ pub record SaysWhatItHas (old new : NodeView) : Type 0 where
   pub digest : IsDigest numbers old.board
   pub learnt : new ≡ acknowledge numbers old
   pub own : (name : Name) (p : ℕ) → numbers name p ≤ new.board.acks new.me name p
+
+-- the fact that it has harvested one more call
+abbrev pub front_fact : Name → NodeView → Look
+front_fact name node = only (Front name node.me (front_on node name + 1))
 
 -- its board without the posts that all processes say that they have
 abbrev pub lacking_on : NodeView → Look

@@ -1,5 +1,5 @@
 -- One process, and its steps.
-use Rattle.std.specs.Prelude.{◌≡◌, ℕ, ◌+◌, ◌-◌, ◌&&◌, ◌||◌, Bool, true, false, cond, nat_lt, nat_le, List, [], ◌∷◌, ◌++◌, length, map, Option, Some, None, is_some, option_and_then, Result, Ok, Err, ℤ}
+use Rattle.std.specs.Prelude.{◌≡◌, ℕ, ◌+◌, ◌-◌, ◌&&◌, ◌||◌, Bool, true, false, cond, nat_lt, nat_le, List, [], ◌∷◌, ◌++◌, length, map, Option, Some, None, is_some, option_and_then, unwrap_or, Result, Ok, Err, ℤ}
 use Rattle.std.specs.List.{list_any}
 use Rattle.std.specs.Option.{option_map, option_map_or}
 use Rattle.join_core.specs.Flat.{known}
@@ -41,12 +41,10 @@ pub record NodeView : Type 0 where
 -- READING A NODE
 
 abbrev pub posted_by : Option OpenedView → ℕ
-posted_by None = 0
-posted_by (Some o) = o.posted
+posted_by opened = option_map_or (λ (o : OpenedView). o.posted) opened 0
 
 abbrev pub results_by : Option OpenedView → List (Option Finished)
-results_by None = []
-results_by (Some o) = o.results
+results_by opened = option_map_or (λ (o : OpenedView). o.results) opened []
 
 abbrev pub freed_by : Option OpenedView → Bool
 freed_by None = false
@@ -141,8 +139,7 @@ module _ (ops : List Operation) where
   result_of board name me k = option_and_then (λ mine. option_map (λ outcome. record { mine = mine; outcome = outcome }) (outcome_on board name me k)) (told ((board.contexts name).posts k me))
 
   abbrev pub next_of : Option OpenedView → Look → Name → ℕ → Option Finished
-  next_of None board name me = None
-  next_of (Some o) board name me = cond (nat_lt (length o.results) o.posted) (result_of board name me (length o.results)) None
+  next_of opened board name me = option_and_then (λ (o : OpenedView). cond (nat_lt (length o.results) o.posted) (result_of board name me (length o.results)) None) opened
 
   -- the next result on a context, where the next call is posted here
   abbrev pub next_result : NodeView → Name → Option Finished
@@ -155,8 +152,7 @@ has_next node name = is_some (next_result [] node name)
 -- HARVESTS
 
 abbrev pub or_none : {A : Type 0} → Option (List A) → List A
-or_none None = []
-or_none (Some xs) = xs
+or_none xs = unwrap_or xs []
 
 -- the communicators that a call makes, by their names and births, where the board has its row
 abbrev pub children_on : List Operation → Look → Name → (call : ℕ) → List (Name × BirthView)
@@ -171,8 +167,7 @@ abbrev pub is_new_to : (me : ℕ) → List (Name × BirthView) → Name → Bool
 is_new_to me made name = list_any (λ (x : Name × BirthView). same_name name x.0 && has x.1.members me) made
 
 abbrev pub or_new : Option OpenedView → OpenedView
-or_new None = fresh
-or_new (Some o) = o
+or_new opened = unwrap_or opened fresh
 
 -- it opens contexts; what is opened stays as it is
 abbrev pub opens : (Name → Bool) → NodeView → NodeView
@@ -182,13 +177,9 @@ opens new node = record node { opened = λ name. cond (new name) (Some (or_new (
 abbrev pub stores_on : Name → Finished → NodeView → NodeView
 stores_on name finished node = does_on name (λ o. record o { results = o.results ++ Some finished ∷ [] }) node
 
--- the fact that it has harvested one more call
-abbrev pub front_fact : Name → NodeView → Look
-front_fact name node = only (Front name node.me (front_on node name + 1))
-
 -- what it tells of a call that is done, as one part: its own front raised, and the births of what the call made
 abbrev pub harvest_part : Name → List (Name × BirthView) → NodeView → Look
-harvest_part name made node = join_all (front_fact name node ∷ births_of made)
+harvest_part name made node = join_all (only (Front name node.me (front_on node name + 1)) ∷ births_of made)
 
 -- the next call is done: its result is stored, its part joined, and what it made is opened where the process is a member
 abbrev pub add_result : Name → Finished → List (Name × BirthView) → NodeView → NodeView

@@ -144,10 +144,9 @@ asked_of_reduction reduction row given = Same (count_of given) (count_of (first_
 
 -- on each edge from the member as many items are awaited at its other end as are sent (MPI 4.1 section 8.6)
 abbrev pub asked_on_edges : Neighbourhood → Option TopologyView → RowView → ℕ → Given → Asked
-asked_on_edges exchange None row rank given = Any
-asked_on_edges exchange (Some topology) row rank given =
-    let destinations = destinations_at topology rank in
-    SameAtEach (length destinations) (sent_on exchange given) (λ place. awaited_on exchange (post_at row (rank_at destinations place)) (taken_at topology rank place))
+asked_on_edges exchange topology row rank given = option_map_or (λ (edges : TopologyView).
+    let destinations = destinations_at edges rank in
+    SameAtEach (length destinations) (sent_on exchange given) (λ place. awaited_on exchange (post_at row (rank_at destinations place)) (taken_at edges rank place))) topology Any
 
 -- what its kind asks of the amounts of the member's post
 abbrev pub asked_of : Option TopologyView → Kind → RowView → (rank : ℕ) → Given → Asked

@@ -28,10 +28,10 @@ lets_or_holds w q n below p name k r = at_cases q (lets_results_go n below) w.ea
 
 module _ {A : Type 0} (forget : ℕ → Name → ℕ → A) where
   first_forgets : (hs : List A) (p q : ℕ) (name n : Name) (k below : ℕ) → p ≡ q → name ≡ n → k < below → HasForgotten (forget p name) (forget q n below ∷ hs) k
-  first_forgets hs p q name n k below same also l = record { below = below; within = l; place = 0; there = λ i. Some (forget (sym same i) (sym also i) below) }
+  first_forgets hs p q name n k below same also l = (below, l, 0, λ i. Some (forget (sym same i) (sym also i) below))
 
 later_forgets : {A : Type 0} (forget : ℕ → A) (h : A) (hs : List A) (k : ℕ) → HasForgotten forget hs k → HasForgotten forget (h ∷ hs) k
-later_forgets forget h hs k f = record { below = f.below; within = f.within; place = suc f.place; there = f.there }
+later_forgets forget h hs k f = (f.0, f.1.0, suc f.1.1.0, f.1.1.1)
 
 -- what happens leaves a result, or it lets it go
 held_happens : (w : WorldView) (h : Happening) (hs : List Happening) (p : ℕ) (name : Name) (k : ℕ) (r : Finished) → Holds w p name k r → Holds (happens w h) p name k r ⊎ HasForgotten (Forgets p name) (h ∷ hs) k

@@ -11,11 +11,8 @@ abbrev pub IsHeldOrGone : NodeView → Name → (call : ℕ) → Finished → Ty
 IsHeldOrGone node name k r = (result_on node name k ≡ Some r) ⊎ (k < forgotten_on node name)
 
 -- one of these is that the results below a number were let go, this call's among them
-pub record HasForgotten {A : Type 0} (forget : ℕ → A) (happened : List A) (k : ℕ) : Type 0 where
-  pub below : ℕ
-  pub within : k < below
-  pub place : ℕ
-  pub there : slice_get happened place ≡ Some (forget below)
+abbrev pub HasForgotten : {A : Type 0} → (forget : ℕ → A) → (happened : List A) → (k : ℕ) → Type 0
+HasForgotten forget happened k = (below : ℕ) × (k < below) × (place : ℕ) × (slice_get happened place ≡ Some (forget below))
 
 -- what lets no results go
 abbrev pub LetsNothingGo : Happening → Type 0

@@ -45,7 +45,7 @@ fn begin<W: Write>(
 // The sum, where it is known.
 fn sum_at(alloc: Global, desk: &mut Desk<Node>, ops: &Ops) -> Option<i64> {
     match desk.testany(alloc, ops).ok()? {
-        Some((_request, finished)) => integer_of(finished),
+        Some((_request, finished)) => integer_of(&finished),
         None => None,
     }
 }

@@ -222,7 +222,9 @@ fn make(
         NewCommunicator::Dup => desk.dup(alloc, comm, 0, ops),
         NewCommunicator::Split => desk.split(alloc, comm, Some(3), -1, 0, ops),
         NewCommunicator::Create => desk.create(alloc, comm, Numbers::one(0), 0, ops),
-        NewCommunicator::CreateGroup => desk.create_group(alloc, comm, 9, &[0], 0, ops),
+        NewCommunicator::CreateGroup => {
+            desk.create_group(alloc, comm, 9, Numbers::one(0), 0, ops)
+        }
         NewCommunicator::DistGraph => of_edges(alloc, desk, comm, ops),
         NewCommunicator::DistGraphAdjacent => of_neighbours(alloc, desk, comm, ops),
     }
@@ -255,7 +257,7 @@ fn start_call(
         Kind::Exchange(kind) => start_exchange(alloc, desk, comm, kind, ops),
         Kind::Reduction(kind) => start_reduction(alloc, desk, comm, kind, ops),
         Kind::Neighbourhood(kind) => start_along_edges(alloc, desk, comm, kind, ops),
-        _ => desk.start_create_group(alloc, comm, 5, &[0], ops),
+        _ => desk.start_create_group(alloc, comm, 5, Numbers::one(0), ops),
     }
 }
 
@@ -266,7 +268,7 @@ fn start_gathered(
     comm: &Comm,
     ops: &Ops,
 ) -> Result<Request, PostError> {
-    let gathering = desk.open_gathering(alloc, comm, 4, &[0])?;
+    let gathering = desk.open_gathering(alloc, comm, 4, Numbers::one(0))?;
     let request = match draft(alloc, &just(kinds::CREATE_GROUP)) {
         Ok(draft) => desk.post_gathered(alloc, &gathering, draft, ops),
         Err(_) => Err(PostError::OutOfMemory),

@@ -118,7 +118,7 @@ fn may_not(alloc: Global, member: &mut Member, why: PostError, ops: &Ops) -> boo
     let items = Numbers::one(2);
     let desk = &mut member.desk;
     let posted = desk.iallreduce(alloc, &member.comm, Op::Sum, Ty::I64, items, ops);
-    let opened = desk.open_gathering(alloc, &member.comm, 9, &[0]);
+    let opened = desk.open_gathering(alloc, &member.comm, 9, Numbers::one(0));
     posted.err() == Some(why) && opened.err() == Some(why)
 }
 

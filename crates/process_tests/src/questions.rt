@@ -11,12 +11,13 @@ use std::alloc::Global;
 fn gives_list(alloc: Global, answer: Result<Finished, CallError>) -> bool {
     match answer {
         Ok(finished) => {
-            let list = integers_of::<i64>(alloc, finished);
+            let list = integers_of::<i64>(alloc, &finished);
             let is_so = match &list {
                 Ok(list) => list.as_slice() == [7].as_slice(),
                 Err(_) => false,
             };
             drop(list);
+            drop(finished);
             is_so
         }
         Err(refused) => {
@@ -29,7 +30,7 @@ fn gives_list(alloc: Global, answer: Result<Finished, CallError>) -> bool {
 // Whether it gave it alone.
 fn gives_one(answer: Result<Finished, CallError>) -> bool {
     match answer {
-        Ok(finished) => integer_of::<u8>(finished) == Some(7),
+        Ok(finished) => integer_of::<u8>(&finished) == Some(7),
         Err(refused) => {
             drop(refused);
             false

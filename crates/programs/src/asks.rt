@@ -2,7 +2,7 @@
 use crate::TURNS;
 use crate::flight::post;
 use mpx_comm::{Comm, Desk, Host, Request};
-use mpx_num::{Op, Ops};
+use mpx_num::{Numbers, Op, Ops};
 use mpx_ranks::Program;
 use std::alloc::Global;
 
@@ -43,10 +43,12 @@ fn start_group<H: Host>(
     ops: &Ops,
 ) -> Option<Request> {
     let rank = i128::from(world.rank());
-    if rank < 2 {
-        return desk.start_create_group(alloc, world, 7, &[0, 1], ops).ok();
-    }
-    desk.start_create_group(alloc, world, 7, &[rank], ops).ok()
+    let ranks = if rank < 2 {
+        Numbers::from_slice(alloc, &[0u8, 1]).ok()?
+    } else {
+        Numbers::one(rank)
+    };
+    desk.start_create_group(alloc, world, 7, ranks, ops).ok()
 }
 
 // How many calls were done when none of two was left.

@@ -49,7 +49,7 @@ pub fn post<H: Host>(
 fn polled<H: Host>(alloc: Global, desk: &mut Desk<H>, pieces: &mut u64, ops: &Ops) -> Option<i32> {
     for _ in 0..TURNS {
         if let Some((_request, finished)) = desk.testany(alloc, ops).ok()? {
-            return integer_of(finished);
+            return integer_of(&finished);
         }
         *pieces = pieces.wrapping_add(1);
         desk.turn(alloc, 1).ok()?;
@@ -60,7 +60,7 @@ fn polled<H: Host>(alloc: Global, desk: &mut Desk<H>, pieces: &mut u64, ops: &Op
 // The number of the next open call that is done.
 fn next_done<H: Host>(alloc: Global, desk: &mut Desk<H>, ops: &Ops) -> Option<i32> {
     match desk.waitany(alloc, TURNS, ops).ok()? {
-        Some((_request, finished)) => integer_of(finished),
+        Some((_request, finished)) => integer_of(&finished),
         None => None,
     }
 }

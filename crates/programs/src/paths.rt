@@ -82,7 +82,7 @@ fn nearest<H: Host>(
 ) -> Option<u32> {
     let mine = Numbers::one(i128::from(distance));
     let heard = desk.neighbor_allgather(alloc, graph, Ty::U32, 1, mine, TURNS, ops);
-    let heard: Vec<u32> = integers_of(alloc, heard.ok()?).ok()?;
+    let heard: Vec<u32> = integers_of(alloc, &heard.ok()?).ok()?;
     let mut near = FAR;
     for (distance, source) in heard.iter().zip(desk.sources(graph).ok()?) {
         near = near.min(distance.saturating_add(source.weight));
@@ -100,5 +100,5 @@ fn all<H: Host>(
 ) -> Option<bool> {
     let mine = Numbers::one(i128::from(mine));
     let all = desk.allreduce(alloc, graph, Op::Land, Ty::U8, mine, TURNS, ops);
-    Some(integer_of::<u8>(all.ok()?)? == 1)
+    Some(integer_of::<u8>(&all.ok()?)? == 1)
 }

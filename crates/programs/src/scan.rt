@@ -19,7 +19,7 @@ impl Program for Scan {
     ) -> Option<String> {
         let mine = Numbers::one(matrix_of(world.rank()));
         let product = desk.scan(alloc, world, Op::Own(0), Ty::U64, mine, TURNS, ops);
-        told(alloc, integer_of(product.ok()?)?)
+        told(alloc, integer_of(&product.ok()?)?)
     }
 
     fn gives_up(&self, answer: &Option<String>) -> bool {

@@ -142,7 +142,8 @@ fn group_of_two<H: Host>(
     if world.rank() > 1 {
         return Ok(None);
     }
-    let made = desk.create_group(alloc, world, 9, &[1, 0], TURNS, ops)?;
+    let ranks = Numbers::from_slice(alloc, &[1u8, 0])?;
+    let made = desk.create_group(alloc, world, 9, ranks, TURNS, ops)?;
     place_in(alloc, made)
 }
 

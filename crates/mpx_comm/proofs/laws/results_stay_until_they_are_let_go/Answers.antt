@@ -29,6 +29,9 @@ returns-clause-stopped c old now part h = holds old now (later_stops part old no
 pub returns-clause-posts : goal.returns-clause-posts
 returns-clause-posts c old name given = holds_posted old name given
 
+pub returns-clause-calls : goal.returns-clause-calls
+returns-clause-calls c ops old now name draft h = record { stored = λ n k f e. inl (h.stored n k f e); gone = λ n k g. h.let_go n k ∙ g; own = h.kept }
+
 pub returns-clause-forgets : goal.returns-clause-forgets
 returns-clause-forgets c old name below = record { stored = stored_forgets name below old; gone = gone_forgets name below old; own = own_kept name below old }
 

@@ -1,4 +1,4 @@
-use Rattle.mpx_comm.proofs.Posting.{kept_tested, posted_all_closed, posted_later}
+use Rattle.mpx_comm.proofs.Posting.{kept_later, kept_tested, posted_all_closed, posted_later}
 use Rattle.std.proofs.Common.{ap, ◌∙◌, refl, subst, sym}
 use Rattle.std.specs.List.{list_any}
 use Rattle.mpx_comm.specs.Requests.{ArePosted, has_let_go}
@@ -17,10 +17,26 @@ pub returns-in-Ok-None-clause-waits : goal.returns-in-Ok-None-clause-waits
 returns-in-Ok-None-clause-waits g c =
     let found = rw c.in-Ok-None.field-0-is at c.in-Ok-None.ensures.found in
     let found_by = rw c.deref-2.ensures.value at found in
-    (refl, found_by.0, found_by.1, refl)
+    let kept = kept_tested (g.H.Host.node c.args.self.now.host) c.args.requests.items
+    (ap (λ rs. list_any (has_let_go (g.H.Host.node c.args.self.now.host)) rs) (sym c.deref.ensures.value) ∙ sym c.one_was_let_go.ensures ∙ c.if-one_was_let_go.false) in
+    (refl, kept_later (g.H.Host.node c.args.self.now.host) (g.H.Host.node c.await_all.new.host) c.args.requests.items c.await_all.ensures.later kept, found_by.0, found_by.1, refl)
 
 pub await_all-requires : goal.await_all-requires
 await_all-requires g c = record {
   kept = kept_tested (g.H.Host.node c.args.self.now.host) c.deref-2.result.now
       (ap (λ rs. list_any (has_let_go (g.H.Host.node c.args.self.now.host)) rs) (c.deref-2.ensures.value ∙ sym c.deref.ensures.value) ∙ sym c.one_was_let_go.ensures ∙ c.if-one_was_let_go.false);
 }
+
+pub returns-in-Err-OutOfMemory-clause-waits : goal.returns-in-Err-OutOfMemory-clause-waits
+returns-in-Err-OutOfMemory-clause-waits g c =
+    let gave_up = rw c.in-Err-OutOfMemory.field-0-is at c.in-Err-OutOfMemory.ensures.gave_up in
+    let kept = kept_tested (g.H.Host.node c.args.self.now.host) c.args.requests.items
+    (ap (λ rs. list_any (has_let_go (g.H.Host.node c.args.self.now.host)) rs) (sym c.deref.ensures.value) ∙ sym c.one_was_let_go.ensures ∙ c.if-one_was_let_go.false) in
+    (refl, kept_later (g.H.Host.node c.args.self.now.host) (g.H.Host.node c.await_all.new.host) c.args.requests.items c.await_all.ensures.later kept, rw c.deref-2.ensures.value at gave_up, refl)
+
+pub returns-in-Err-GaveUp-clause-waits : goal.returns-in-Err-GaveUp-clause-waits
+returns-in-Err-GaveUp-clause-waits g c =
+    let gave_up = rw c.in-Err-GaveUp.field-0-is at c.in-Err-GaveUp.ensures.gave_up in
+    let kept = kept_tested (g.H.Host.node c.args.self.now.host) c.args.requests.items
+    (ap (λ rs. list_any (has_let_go (g.H.Host.node c.args.self.now.host)) rs) (sym c.deref.ensures.value) ∙ sym c.one_was_let_go.ensures ∙ c.if-one_was_let_go.false) in
+    (refl, kept_later (g.H.Host.node c.args.self.now.host) (g.H.Host.node c.await_all.new.host) c.args.requests.items c.await_all.ensures.later kept, rw c.deref-2.ensures.value at gave_up, refl)
