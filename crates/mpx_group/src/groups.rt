@@ -267,7 +267,8 @@ fn lacking(alloc: Global, members: &[Proc], others: &[Proc]) -> Result<Vec<Proc>
         .collect(alloc)
 }
 
-fn all_in(members: &[Proc], others: &[Proc]) -> bool
+/// Whether each of these processes is among the others.
+pub fn all_in(members: &[Proc], others: &[Proc]) -> bool
     ensures { result ≡ list_all (λ p. has others.now p) members.now }
 {
     members.iter().all(|member| others.contains(member))

@@ -12,7 +12,7 @@ mod ranks;
 mod triplets;
 
 pub use errors::GroupError;
-pub use groups::Group;
+pub use groups::{Group, all_in};
 pub use processes::Proc;
 pub use ranks::{Comparison, Rank};
 pub use triplets::Triplet;

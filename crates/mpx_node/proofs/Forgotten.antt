@@ -1,5 +1,5 @@
 -- What a process keeps that lets results go.
-use Rattle.std.proofs.Common.{◌≡◌, ℕ, zero, suc, ◌<◌, Bool, true, false, cond, List, [], length, Option, Some, None, refl, sym, ap, ◌∙◌, inl, inr, subst}
+use Rattle.std.proofs.Common.{◌≡◌, ℕ, zero, suc, ◌-◌, ◌<◌, ◌≤◌, Bool, true, false, cond, List, [], length, Option, Some, None, refl, sym, ap, ◌∙◌, inl, inr, subst}
 use Rattle.std.specs.Prelude.{◌⊎◌, is_some}
 use Rattle.std.specs.Option.{option_map}
 use Rattle.mpx_name.specs.Name.{Name, same_name}
@@ -9,7 +9,7 @@ use Rattle.mpx_node.specs.Nodes.{NodeView, OpenedView, freed_by, freed_on, front
 use Rattle.mpx_node.specs.Stored.{count_gone, let_go, stored_at}
 use Rattle.mpx_node.specs.Forgetting.{forgets, forgotten_on}
 use Rattle.mpx_node.specs.Opened.{lets_go}
-use Rattle.mpx_node.proofs.Gone.{gone_lets, length_lets, stored_before, stored_or_gone}
+use Rattle.mpx_node.proofs.Gone.{gone_lets, last_stays, length_lets, stays_from, stored_before, stored_or_gone}
 
 let_go_none : {A : Type 0} (below : ℕ) → let_go {A = A} below [] ≡ []
 let_go_none zero = refl
@@ -48,6 +48,14 @@ module _ (below : ℕ) where
   gone_by_test true xs k l = gone_lets below xs k l
   gone_by_test false xs k l = l
 
+  last_by_test : (b : Bool) (xs : List (Option Finished)) → stored_at (cond b (let_go below xs) xs) (length (cond b (let_go below xs) xs) - 1) ≡ stored_at xs (length xs - 1)
+  last_by_test true xs = last_stays below xs
+  last_by_test false xs = refl
+
+  from_by_test : (b : Bool) (xs : List (Option Finished)) (k : ℕ) → below ≤ k → stored_at (cond b (let_go below xs) xs) k ≡ stored_at xs k
+  from_by_test true xs k l = stays_from below xs k l
+  from_by_test false xs k l = refl
+
   or_gone_by_test : (b : Bool) (xs : List (Option Finished)) (k : ℕ) (x : Finished) → stored_at xs k ≡ Some x → (stored_at (cond b (let_go below xs) xs) k ≡ Some x) ⊎ ((b ≡ true) × (k < below) × (k < count_gone (cond b (let_go below xs) xs)))
   or_gone_by_test true xs k x e = elim (stored_or_gone below xs k x e) [
     | inl there ↦ inl there
@@ -84,6 +92,17 @@ module _ (name : Name) (below : ℕ) (node : NodeView) where
       → (result_on (forgets name below node) n k ≡ Some x) ⊎ ((same_name n name ≡ true) × (k < below) × (k < forgotten_on (forgets name below node) n))
   result_or_forgotten n k x e =
       subst (λ xs. (stored_at xs k ≡ Some x) ⊎ ((same_name n name ≡ true) × (k < below) × (k < count_gone xs))) (sym (results_forgotten n)) (or_gone_by_test below (same_name n name) (results_on node n) k x e)
+
+  -- the newest result stays
+  pub newest_forgotten : (n : Name) → result_on (forgets name below node) n (front_on (forgets name below node) n - 1) ≡ result_on node n (front_on node n - 1)
+  newest_forgotten n = ap (λ xs. stored_at xs (length xs - 1)) (results_forgotten n) ∙ last_by_test below (same_name n name) (results_on node n)
+
+  -- and each from this call on
+  pub rest_forgotten : (n : Name) (k : ℕ) → below ≤ k → result_on (forgets name below node) n k ≡ result_on node n k
+  rest_forgotten n k l = ap (λ xs. stored_at xs k) (results_forgotten n) ∙ from_by_test below (same_name n name) (results_on node n) k l
+
+  pub nothing_elsewhere : (n : Name) → same_name n name ≡ false → (forgets name below node).opened n ≡ node.opened n
+  nothing_elsewhere n other = ap (λ b. cond b (option_map (lets_go below) (node.opened n)) (node.opened n)) other
 
   -- on a context that isn't opened nothing is let go
   pub forgets_nothing : node.opened name ≡ None → node ≡ forgets name below node

@@ -177,6 +177,14 @@ module _ {A : Type 0} where
       let last : length (o ∷ p ∷ xs) - 1 ≡ suc (length (p ∷ xs) - 1) = omega arith in
       ap (stored_at (let_go (suc n) (o ∷ p ∷ xs))) first ∙ last_stays n (p ∷ xs) ∙ sym (ap (stored_at (o ∷ p ∷ xs)) last)
 
+  -- and so does each at this place or behind it
+  pub stays_from : (n : ℕ) (xs : List (Option A)) (k : ℕ) → n ≤ k → stored_at (let_go n xs) k ≡ stored_at xs k
+  stays_from zero xs k l = refl
+  stays_from (suc n) [] k l = refl
+  stays_from (suc n) (o ∷ []) k l = refl
+  stays_from (suc n) (o ∷ p ∷ xs) zero l = absurd (omega (arith, l))
+  stays_from (suc n) (o ∷ p ∷ xs) (suc k) l = stays_from n (p ∷ xs) k (omega (arith, l))
+
   pub stored_within : (xs : List (Option A)) (k : ℕ) (x : A) → stored_at xs k ≡ Some x → k < length xs
   stored_within [] k x e = cc e
   stored_within (o ∷ xs) zero x e = omega arith

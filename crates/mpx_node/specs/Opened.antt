@@ -21,7 +21,7 @@ opened_by m name = option_map opened_of (get name_cmp m name)
 abbrev pub stored_by : Name → Finished → (Name → Option OpenedView) → Name → Option OpenedView
 stored_by name finished opened q = cond (same_name q name) (option_map (λ (o : OpenedView). record o { results = o.results ++ Some finished ∷ [] }) (opened q)) (opened q)
 
--- a call is posted there whose result isn't stored
+-- a call is posted there that isn't harvested
 abbrev pub HasUnfinished : (Name → Option OpenedView) → Name → Type 0
 HasUnfinished opened name = length (results_by (opened name)) < posted_by (opened name)
 

@@ -13,8 +13,8 @@ impl Node {
     ghost use Rattle.mpx_node.specs.Shown.{node_of};
 
     /// Harvests on a context, call by call, until this one is harvested or the next one can't be, and tells whether this one is. Its result
-    /// is then [`Node::result`]'s. Where it was harvested before, nothing is. An `Err` is want of memory: what was harvested before it
-    /// stays so.
+    /// is then [`Node::result`]'s, unless it was let go ([`Node::forget`]). Where it was harvested before, nothing is. An `Err` is want of
+    /// memory: what was harvested before it stays so.
     pub fn harvest_to(
         &mut self,
         alloc: Global,

@@ -2,7 +2,7 @@
 ghost use Rattle.std.specs.Prelude.{◌≡◌, ◌∷◌, [], length, map, IfOk, IfSome, IfNone};
 ghost use Rattle.std.specs.Result.{IsErrOf};
 ghost use Rattle.std.specs.List.{Any};
-ghost use Rattle.mpx_num.specs.Types.{IsOutOfRange};
+ghost use Rattle.mpx_num.specs.Types.{IsInRange, IsOutOfRange};
 
 use crate::numbers::Numbers;
 use std::alloc::{AllocError, Global};
@@ -11,7 +11,7 @@ use std::alloc::{AllocError, Global};
 pub trait Integer: Copy {
     ghost use Rattle.std.specs.Prelude.{◌≡◌, ℤ, IfSome, IfNone};
     ghost use Rattle.mpx_num.specs.declared.types.Ty.{Ty};
-    ghost use Rattle.mpx_num.specs.Types.{IsOutOfRange};
+    ghost use Rattle.mpx_num.specs.Types.{IsInRange, IsOutOfRange};
 
     // The whole number that a value is.
     ghost value: { Self → ℤ };
@@ -19,13 +19,15 @@ pub trait Integer: Copy {
     // The predefined type.
     ghost ty: { Ty };
 
-    /// The number that it is.
+    /// The number that it is. It is in the type's range.
     fn number(self) -> i128
-        ensures { result ≡ value self };
+        ensures value { result ≡ value self }
+        ensures in_range { IsInRange ty (value self) };
 
     /// The number as an integer of this type, where it is in the type's range.
     fn of(number: i128) -> Option<Self>
         ensures some { IfSome result (λ x. value x ≡ number) }
+        ensures in_range { IfSome result (λ _. IsInRange ty number) }
         ensures none { IfNone result (IsOutOfRange ty number) };
 }
 
@@ -205,6 +207,7 @@ pub fn integers_in<T: Integer>(alloc: Global, numbers: &[i128]) -> Result<Vec<T>
 /// The one number of a list as an integer of a type. None is where the list has none or more, or its number is out of range.
 pub fn integer_in<T: Integer>(numbers: &[i128]) -> Option<T>
     ensures some { IfSome result (λ x. numbers.now ≡ T.value x ∷ []) }
+    ensures in_range { IfSome result (λ x. IsInRange T.ty (T.value x)) }
     ensures none { IfNone result (length numbers.now ≡ 1 → Any (IsOutOfRange T.ty) numbers.now) }
 {
     if numbers.len() != 1 {
