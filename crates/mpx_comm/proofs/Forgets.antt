@@ -32,9 +32,6 @@ last_there : (rs : List Request) (r : Request) → slice_get (rs ++ r ∷ []) (l
 last_there [] r = refl
 last_there (x ∷ rs) r = last_there rs r
 
-pub least_none : (most : ℕ) (name : Name) → IsLeastCall most name [] most
-least_none most name = record { within = omega arith; low = λ i r e n. cc e; met = inl refl }
-
 -- one request more, for a lesser call of the context
 pub least_less : (most : ℕ) (name : Name) (rs : List Request) (least : ℕ) (r : Request) → IsLeastCall most name rs least → r.name ≡ name → r.call < least → IsLeastCall most name (rs ++ r ∷ []) r.call
 least_less most name rs least r h same less = record { within = (let l = h.within in omega (arith, l, less)); low = λ i q e n. by_place q n (get_either rs r i q e); met = inr (length rs, r, last_there rs r, same, refl) } where
@@ -52,13 +49,6 @@ least_same most name rs least r h above = record { within = h.within; low = λ i
   met : (least ≡ most) ⊎ ((i : ℕ) × (q : Request) × (slice_get rs i ≡ Some q) × (q.name ≡ name) × (least ≡ q.call)) → (least ≡ most) ⊎ ((i : ℕ) × (q : Request) × (slice_get (rs ++ r ∷ []) i ≡ Some q) × (q.name ≡ name) × (least ≡ q.call))
   met (inl e) = inl e
   met (inr (i, q, e, n, call)) = inr (i, q, there_still rs (r ∷ []) i q e, n, call)
-
--- a request that isn't of the context, or for a lesser call, by the test
-pub above_by : (name : Name) (least : ℕ) (r : Request) → (same_name r.name name && nat_lt r.call least) ≡ false → r.name ≡ name → least ≤ r.call
-above_by name least r no same =
-    let is : same_name r.name name ≡ true = subst (λ n. same_name r.name n ≡ true) same (name_equality.reflexive r.name) in
-    let not_less : nat_lt r.call least ≡ false = sym (ap (λ b. b && nat_lt r.call least) is) ∙ no in
-    grind (arith, nat_tests)
 
 pub least_at : (m most : ℕ) (name : Name) (qs rs : List Request) (least : ℕ) → m ≡ most → qs ≡ rs → IsLeastCall m name qs least → IsLeastCall most name rs least
 least_at m most name qs rs least same equal h = subst (λ xs. IsLeastCall most name xs least) equal (subst (λ n. IsLeastCall n name qs least) same h)

@@ -1,9 +1,8 @@
 //! Questions about a communicator, which are answered by what the host's process knows.
 ghost use Rattle.std.specs.Prelude.{◌≡◌, ◌≤◌, ◌++◌, ◌∷◌, [], IfOk, OnOk, Ok, cond, length, map};
-ghost use Rattle.std.specs.List.{list_all};
 ghost use Rattle.mpx_birth.specs.Topologies.{destinations_at, sources_at};
 ghost use Rattle.mpx_board.specs.Looks.{look};
-ghost use Rattle.mpx_group.specs.Group.{IsGroup, comparison_of, has};
+ghost use Rattle.mpx_group.specs.Group.{IsGroup, comparison_of};
 ghost use Rattle.mpx_group.specs.Translation.{translated};
 ghost use Rattle.mpx_comm.specs.Asking.{Answers, awaited_on, comparison_on, lacking_in, lacks_post, members_on, read, relation_of, topology_on, translation_on};
 ghost use Rattle.mpx_comm.specs.declared.asking.AskError.TheVariants.{OutOfMemory};
@@ -14,7 +13,7 @@ use crate::host::Host;
 use crate::request::Request;
 use mpx_birth::{Neighbour, Topology};
 use mpx_board::Board;
-use mpx_group::{Group, Proc, Rank};
+use mpx_group::{Group, Proc, Rank, all_in};
 use mpx_name::Name;
 use std::alloc::Global;
 use thiserror::Error;
@@ -175,12 +174,6 @@ fn related(one: &[Proc], other: &[Proc]) -> Relation
     } else {
         Relation::Unequal
     }
-}
-
-fn all_in(members: &[Proc], others: &[Proc]) -> bool
-    ensures { result ≡ list_all (λ p. has others.now p) members.now }
-{
-    members.iter().all(|member| others.contains(member))
 }
 
 // The ranks of these processes among others.
