@@ -41,7 +41,7 @@ pub fn waits_keep_what_was_had<H: Host>()
     ensures waits { (a b : H) (request : Request) (turns : ℕ) (answer : Result Finished (WaitError Request)) (before after : List Request)
         → WaitsAndForgets H.node H.turned H.turn_refused request turns answer a b before after
         → (name : Name) (call : ℕ) (finished : Finished) → H.has_had a name call finished → H.has_had b name call finished }
-    ensures calls { (ops : List Operation) (a b : H) (at : Name) (draft : Draft) (turns : ℕ) (answer : Result Finished CallError) (before after : List Request)
-        → Calls ops H.node H.turned H.turn_refused at draft turns answer a b before after
+    ensures calls { (ops : List Operation) (a b : H) (on : Name) (draft : Draft) (turns : ℕ) (answer : Result Finished CallError) (before after : List Request)
+        → Calls ops H.node H.turned H.turn_refused on draft turns answer a b before after
         → (name : Name) (call : ℕ) (finished : Finished) → H.has_had a name call finished → H.has_had b name call finished }
 {}

@@ -14,6 +14,6 @@ returns-clause-waits g c a b request turns answer before after w name call finis
     (λ x y n t. g.met.H.Host.had_later x y n name call finished t) (λ x y why t. g.met.H.Host.had_refused x y why name call finished t) request turns answer a b before after w
 
 pub returns-clause-calls : goal.returns-clause-calls
-returns-clause-calls g c ops a b at draft turns answer before after w name call finished =
+returns-clause-calls g c ops a b on draft turns answer before after w name call finished =
     had_calls g.H.Host.node g.H.Host.turned g.H.Host.turn_refused (λ h. g.H.Host.has_had h name call finished)
-    (λ x y n t. g.met.H.Host.had_later x y n name call finished t) (λ x y why t. g.met.H.Host.had_refused x y why name call finished t) ops at draft turns answer a b before after w
+    (λ x y n t. g.met.H.Host.had_later x y n name call finished t) (λ x y why t. g.met.H.Host.had_refused x y why name call finished t) ops on draft turns answer a b before after w
