@@ -42,6 +42,7 @@ pub enum Why {
 }
 
 /// What each call of a rank is given beside its own words.
+#[derive(Clone, Copy)]
 pub struct Around<'a> {
     pub alloc: Global,
     pub world: &'a Comm,
