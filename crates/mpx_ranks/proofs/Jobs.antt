@@ -155,7 +155,7 @@ module _ {K P R A : Type 0} (gives : P → Gives A) (program : P) (operations : 
         let w = mapped_at answer_of worked rank (Some answer) here in
         let port : PortView = w.0.port in
         let there : slice_get (map port_of worked) rank ≡ Some port = map_at port_of worked rank w.0 w.1.0 in
-        let seat : IsSeated table setup rank port = seated_at rank port there in
+        let seat : IsSeated table setup rank port = (worked_at rank w.0 w.1.0).sits in
         let gave : HasAnswered (gives program) setup rank answer port.journal = subst (λ o. IfSome o (λ a. HasAnswered (gives program) setup rank a port.journal)) w.1.1 (worked_at rank w.0 w.1.0).gave in
         let is : node_in port ≡ node = same_Some (node_in port) node (sym (map_at node_in (map port_of worked) rank port there) ∙ ap (λ ns. slice_get ns rank) (sym nodes_are) ∙ f) in
         let last : node_in port ≡ node_at setup rank port.journal = λ k. node_at (seat.1.0 k) (seat.1.1 k) port.journal in
