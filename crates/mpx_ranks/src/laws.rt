@@ -17,8 +17,8 @@ ghost use Rattle.mpx_world.specs.Worlds.{WorldView};
 use mpx_comm::Host;
 
 /// Each result that a process of a job has in the end is the standard's value of one whole row of the posts that the ranks made, beside its own
-/// post of that call; and two results of one call are of one row. Of the results that a rank had and let go the first says the clause `ran` of
-/// [`ranks`](crate::ranks) (`Answers`, `values`); two values of one call are of one row.
+/// post of that call; and two results of one call are of one row. A result that a rank let go is such a value too, by the clause `ran` of
+/// [`ranks`](crate::ranks) (`Answers`: `values`), and two values of one call are of one row.
 pub fn one_row_for_all()
     ensures values { (operations : List Operation) (ranks size : ℕ) (nodes : List NodeView) (one : AreOfOneHistory operations ranks size nodes)
         (p : ℕ) (node : NodeView) (name : Name) (call : ℕ) (finished : Finished) → slice_get nodes p ≡ Some node

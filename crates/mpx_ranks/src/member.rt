@@ -28,9 +28,9 @@ use std::sync::ledger::Ledger;
 use std::sync::{OnceToken, Wait};
 
 /// A port on a bus that is lent, with the job's own operations, what the threads tell each other, and the right to wait. It has what shows
-/// that all threads have come, so there is none before that, and no desk over one. A turn takes
-/// a frame out of the queue and puts one in, drops posts that every member has harvested, and rests, longer while it hears nothing new.
-/// Once all are to stop it makes none any more, and has seen why.
+/// that all threads have come, so there is none before that, and no desk over one. A turn takes a frame out of the queue and puts one in,
+/// drops posts that every member has harvested, and rests, longer while it hears nothing new. Once all are to stop it makes none any more,
+/// and has seen why.
 #[derive(Drop)]
 pub(crate) struct Member<'a, L: Seat, O: Folds, K: Ledger, R: Wait> {
     pub(crate) rt: &'a R,
