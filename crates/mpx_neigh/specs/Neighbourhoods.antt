@@ -1,5 +1,5 @@
 -- What neighbourhood exchanges give (MPI 4.1, section 8.6).
-use Rattle.std.specs.Prelude.{ℕ, List, ℤ, length, Option}
+use Rattle.std.specs.Prelude.{ℕ, List, ℤ, length, Option, Some}
 use Rattle.std.specs.List.{flat_map}
 use Rattle.std.specs.Option.{option_map_or}
 use Rattle.mpx_birth.specs.declared.edges.Neighbour.{Neighbour}
