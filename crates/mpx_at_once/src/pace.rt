@@ -7,6 +7,12 @@ use std::time::Duration;
 // After so many turns in a row that brought nothing new a thread sleeps.
 const BUSY: u32 = 5;
 
+// So often a thread that waits lets the others have their turn before it sleeps: to be woken takes longer than most turns.
+const YIELDS: u32 = 20;
+
+// So long it sleeps at a time.
+const SECOND: u64 = 1_000_000;
+
 /// Threads that sleep until another wakes all of them: how often all were woken, and how many sleep.
 #[derive(Drop)]
 pub struct Sleepers {
@@ -34,6 +40,23 @@ impl Sleepers {
         if self.asleep.load(Ordering::SeqCst) != 0 {
             self.wakes.wake_all();
         }
+    }
+
+    /// Waits until they are woken more often than this.
+    pub fn wait<R: Wait>(&self, rt: &R, wakes: u64) {
+        for _ in 0..YIELDS {
+            if self.wakes() != wakes {
+                return;
+            }
+            yield_now();
+        }
+        for _ in rt.forever() {
+            if self.wakes() != wakes {
+                return;
+            }
+            self.sleep(rt, wakes, SECOND);
+        }
+        unreachable!()
     }
 
     /// Sleeps for so many microseconds at most. It ends once all are woken, and at once where they were woken more often than this.
