@@ -1,4 +1,4 @@
-//! How threads that work in turns rest while nothing is new, and wake each other: of none of it anything is claimed.
+//! How threads that work in turns rest while nothing is new, and wake each other. Nothing is claimed of that.
 use std::sync::Wait;
 use std::sync::atomic::{AtomicU64, Ordering};
 use std::thread::yield_now;
@@ -59,8 +59,8 @@ impl Sleepers {
         unreachable!()
     }
 
-    /// Sleeps for so many microseconds at most. It ends once all are woken, and at once where they were woken more often than this.
-    pub fn sleep<R: Wait>(&self, rt: &R, wakes: u64, micros: u64) {
+    // Sleeps for so many microseconds at most. It ends once all are woken, and at once where they were woken more often than this.
+    fn sleep<R: Wait>(&self, rt: &R, wakes: u64, micros: u64) {
         let Ok(seen) = u32::try_from(wakes & 0xffff_ffff) else {
             return;
         };
