@@ -1,23 +1,23 @@
-//! What the program does with the words of a call, over any streams.
-ghost use Rattle.std.specs.Prelude.{◌≡◌, IfErr, IfOk, Ok, false, map, string_bytes, true};
+//! What the program does with what a call asks for, over any streams.
+ghost use Rattle.std.specs.Prelude.{◌≡◌, IfErr, IfOk, Ok, false, string_bytes, true};
 ghost use Rattle.clap.specs.Words.{kind_of};
 ghost use Rattle.mpx_script.specs.Reading.{reading};
 ghost use Rattle.mpx_run.specs.Founded.{IsFounded};
 ghost use Rattle.mpx_run.specs.Reports.{IsPrinted};
 ghost use Rattle.mpx_run.specs.Texts.{ComesTo, IsRefusedFor, is_in_threads};
 ghost use Rattle.mpx_program.specs.Explained.{IsFound};
-ghost use Rattle.mpx_program.specs.Jobs.{AnswersText, DoesJob, DoesJobWith, Exits, IsRefused, Tells, ask_for_threads};
+ghost use Rattle.mpx_program.specs.Jobs.{AnswersText, DoesJobWith, Exits, IsRefused, Tells};
 ghost use Rattle.mpx_program.specs.Strict.{IsStrict};
 
-use crate::explaining::explained;
+use crate::explaining::{explained, more_of};
 use crate::prepared::{Prepared, prepare};
 use crate::status::{refusal_status, status_of, write_refusal, write_said};
 use mpx_num::{Listing, Ops};
 use mpx_run::{
-    End, Observer, OpenGate, Printed, RunError, WriteFault, is_in_threads, print_job,
-    print_job_in_threads, write_printed,
+    End, Observer, OpenGate, Printed, RunError, WriteFault, print_job, print_job_in_threads,
+    write_printed,
 };
-use mpx_words::{Invocation, call_of, invocation_in};
+use mpx_words::Invocation;
 use std::alloc::Global;
 use std::io::{Read, Write};
 use std::sync::Wait;
@@ -31,76 +31,12 @@ pub struct Exit {
     pub told: Result<(), WriteFault>,
 }
 
-/// Whether the words ask for a run in threads. Every other call waits for nobody: who has such words calls [`run_job_in_threads`], and with
-/// all others [`run_job`].
-pub fn ask_for_threads(words: &[String]) -> bool
-    ensures { result ≡ ask_for_threads (map string_bytes words.now) }
-{
-    match invocation_in(words) {
-        Some(call) => is_in_threads(&call.job),
-        None => false,
-    }
-}
-
-/// Does the job that the words ask for: reads the script from `reader`, once, writes what it comes to to `out`, and tells `err`
-/// what is to be said. Where the words ask for none, `err` is told why, and nothing is read or written besides. Where they ask for a run,
-/// `observer` looks on: it is the caller who shows a run as it goes. It waits for nobody, so it is proved to return.
+/// Does what a call asks for: reads the script from `reader`, once, writes what it comes to to `out`, and tells `err` what is to be said. Where
+/// it asks for a run, `observer` looks on: it is the caller who shows a run as it goes. It waits for nobody, so it is proved to return.
 ///
 /// Who asks what is printed, and with which status, reads `prints` alone. On which nodes a run stands, and how many turns were
 /// made by the seed and the loss, says `founded`.
 pub fn run_job<T: Threads + Sync, R: Read, W: Write, E: Write>(
-    rt: &T,
-    alloc: Global,
-    words: &[String],
-    reader: &mut R,
-    out: &mut W,
-    err: &mut E,
-    observer: &mut dyn Observer,
-    ops: &Ops,
-) -> Exit
-    requires alone { ask_for_threads (map string_bytes words.now) ≡ false }
-    ensures prints { DoesJob IsPrinted (⟦<Ops as Listing>⟧.operations ops.now) (map string_bytes words.now) (R.remaining reader.old) (R.remaining reader.new) (W.contents out.old) (W.contents out.new) result.status (Tells (E.contents err.old) (E.contents err.new) result.told) }
-    ensures founded { DoesJob IsFounded (⟦<Ops as Listing>⟧.operations ops.now) (map string_bytes words.now) (R.remaining reader.old) (R.remaining reader.new) (W.contents out.old) (W.contents out.new) result.status (Tells (E.contents err.old) (E.contents err.new) result.told) }
-{
-    match call_of(alloc, words) {
-        Ok(call) => do_call(rt, alloc, &call, reader, out, err, observer, ops),
-        Err(refusal) => refuse(&refusal, err),
-    }
-}
-
-/// The same of words that ask for a run in threads, which may wait for them. On which ports it stands says `founded`.
-pub fn run_job_in_threads<T: Threads + Wait + Sync, R: Read, W: Write, E: Write>(
-    rt: &T,
-    alloc: Global,
-    words: &[String],
-    reader: &mut R,
-    out: &mut W,
-    err: &mut E,
-    observer: &mut dyn Observer,
-    ops: &Ops,
-) -> Exit
-    requires threads { ask_for_threads (map string_bytes words.now) ≡ true }
-    ensures prints { DoesJob IsPrinted (⟦<Ops as Listing>⟧.operations ops.now) (map string_bytes words.now) (R.remaining reader.old) (R.remaining reader.new) (W.contents out.old) (W.contents out.new) result.status (Tells (E.contents err.old) (E.contents err.new) result.told) }
-    ensures founded { DoesJob IsFounded (⟦<Ops as Listing>⟧.operations ops.now) (map string_bytes words.now) (R.remaining reader.old) (R.remaining reader.new) (W.contents out.old) (W.contents out.new) result.status (Tells (E.contents err.old) (E.contents err.new) result.told) }
-{
-    match call_of(alloc, words) {
-        Ok(call) => do_call_in_threads(rt, alloc, &call, reader, out, err, observer, ops),
-        Err(refusal) => refuse(&refusal, err),
-    }
-}
-
-/// Tells why the words ask for no job.
-pub fn refuse<E: Write>(refusal: &clap::Error, err: &mut E) -> Exit
-    ensures { IsRefused (kind_of refusal.now) result.status (Tells (E.contents err.old) (E.contents err.new) result.told) }
-{
-    Exit {
-        status: refusal_status(refusal),
-        told: write_refusal(refusal, err),
-    }
-}
-
-// Does what a call asks for.
-fn do_call<T: Threads + Sync, R: Read, W: Write, E: Write>(
     rt: &T,
     alloc: Global,
     call: &Invocation,
@@ -111,7 +47,8 @@ fn do_call<T: Threads + Sync, R: Read, W: Write, E: Write>(
     ops: &Ops,
 ) -> Exit
     requires alone { is_in_threads call.now.job ≡ false }
-    ensures { DoesJobWith IsFounded (⟦<Ops as Listing>⟧.operations ops.now) call.now (R.remaining reader.old) (R.remaining reader.new) (W.contents out.old) (W.contents out.new) result.status (Tells (E.contents err.old) (E.contents err.new) result.told) }
+    ensures prints { DoesJobWith IsPrinted (⟦<Ops as Listing>⟧.operations ops.now) call.now (R.remaining reader.old) (R.remaining reader.new) (W.contents out.old) (W.contents out.new) result.status (Tells (E.contents err.old) (E.contents err.new) result.told) }
+    ensures founded { DoesJobWith IsFounded (⟦<Ops as Listing>⟧.operations ops.now) call.now (R.remaining reader.old) (R.remaining reader.new) (W.contents out.old) (W.contents out.new) result.status (Tells (E.contents err.old) (E.contents err.new) result.told) }
 {
     match prepare(alloc, call, reader, ops) {
         Ok(prepared) => {
@@ -128,8 +65,8 @@ fn do_call<T: Threads + Sync, R: Read, W: Write, E: Write>(
     }
 }
 
-// The same of a run in threads.
-fn do_call_in_threads<T: Threads + Wait + Sync, R: Read, W: Write, E: Write>(
+/// The same of a call that asks for a run in threads, which may wait for them. On which ports it stands says `founded`.
+pub fn run_job_in_threads<T: Threads + Wait + Sync, R: Read, W: Write, E: Write>(
     rt: &T,
     alloc: Global,
     call: &Invocation,
@@ -140,7 +77,8 @@ fn do_call_in_threads<T: Threads + Wait + Sync, R: Read, W: Write, E: Write>(
     ops: &Ops,
 ) -> Exit
     requires threads { is_in_threads call.now.job ≡ true }
-    ensures { DoesJobWith IsFounded (⟦<Ops as Listing>⟧.operations ops.now) call.now (R.remaining reader.old) (R.remaining reader.new) (W.contents out.old) (W.contents out.new) result.status (Tells (E.contents err.old) (E.contents err.new) result.told) }
+    ensures prints { DoesJobWith IsPrinted (⟦<Ops as Listing>⟧.operations ops.now) call.now (R.remaining reader.old) (R.remaining reader.new) (W.contents out.old) (W.contents out.new) result.status (Tells (E.contents err.old) (E.contents err.new) result.told) }
+    ensures founded { DoesJobWith IsFounded (⟦<Ops as Listing>⟧.operations ops.now) call.now (R.remaining reader.old) (R.remaining reader.new) (W.contents out.old) (W.contents out.new) result.status (Tells (E.contents err.old) (E.contents err.new) result.told) }
 {
     match prepare(alloc, call, reader, ops) {
         Ok(prepared) => {
@@ -158,6 +96,16 @@ fn do_call_in_threads<T: Threads + Wait + Sync, R: Read, W: Write, E: Write>(
     }
 }
 
+/// Tells why the words ask for no job.
+pub fn refuse<E: Write>(refusal: &clap::Error, err: &mut E) -> Exit
+    ensures { IsRefused (kind_of refusal.now) result.status (Tells (E.contents err.old) (E.contents err.new) result.told) }
+{
+    Exit {
+        status: refusal_status(refusal),
+        told: write_refusal(refusal, err),
+    }
+}
+
 // Writes what a job came to with a script, and tells what is to be said.
 fn answer<W: Write, E: Write>(
     alloc: Global,
@@ -170,7 +118,7 @@ fn answer<W: Write, E: Write>(
 ) -> Exit
     requires read { reading (⟦<Ops as Listing>⟧.operations ops.now) prepared.now.text.items ≡ Ok prepared.now.script }
     requires strict { IsStrict (⟦<Ops as Listing>⟧.operations ops.now) call.now prepared.now.text.items prepared.now.complains }
-    requires found { IsFound (⟦<Ops as Listing>⟧.operations ops.now) call.now.job.command prepared.now.script prepared.now.found }
+    requires found { call.now.flags.explain ≡ true → IsFound (⟦<Ops as Listing>⟧.operations ops.now) call.now.job.command prepared.now.script prepared.now.found }
     requires comes { IfOk printed (λ p. ComesTo IsFounded (⟦<Ops as Listing>⟧.operations ops.now) call.now.job.command call.now.job.options prepared.now.script p.end (string_bytes p.text)) }
     requires refused { IfErr printed (λ e. IsRefusedFor call.now.job prepared.now.script e) }
     ensures { AnswersText IsFounded (⟦<Ops as Listing>⟧.operations ops.now) call.now prepared.now.text.items (W.contents out.old) (W.contents out.new) result.status (Tells (E.contents err.old) (E.contents err.new) result.told) }
@@ -179,13 +127,13 @@ fn answer<W: Write, E: Write>(
         Ok(printed) => {
             let Printed { text, end, left } = printed;
             let answer = write_printed(text.as_bytes(), end, out);
-            let more = explained(alloc, call, prepared, &answer, Some(&left));
-            exit_of(&answer, prepared.complains, call.flags.explain, &more, err)
+            let told = explained(alloc, call, prepared, &answer, &left);
+            let explains = call.flags.explain;
+            exit_of(&answer, prepared.complains, explains, more_of(&told), err)
         }
         Err(error) => {
             let answer = Err(error);
-            let more = explained(alloc, call, prepared, &answer, None);
-            exit_of(&answer, prepared.complains, call.flags.explain, &more, err)
+            exit_of(&answer, prepared.complains, call.flags.explain, &[], err)
         }
     }
 }

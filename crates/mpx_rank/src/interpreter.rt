@@ -11,6 +11,7 @@ ghost use Rattle.mpx_meaning.specs.Standing.{awaited, has_statements, looked_up}
 use crate::asking::answer;
 use crate::carrier::{Carrier, Heard};
 use crate::origins::push_origins;
+use crate::posting_words::words_of;
 use crate::waiting::{are_done, close_all};
 use join_core::OutOfMemory;
 use mpx_group::Proc;
@@ -37,7 +38,8 @@ pub struct Interpreter<'a, C: Carrier> {
     requests: BTreeMap<Word, C::Call>,
     todo: &'a [Statement],
     waits: Option<Wait<'a, C::Call>>,
-    lines: Vec<String>,
+    /// They are taken from here at the end.
+    pub lines: Vec<String>,
     origins: Vec<Origin>,
 }
 
@@ -226,7 +228,8 @@ impl<'a, C: Carrier> Interpreter<'a, C> {
         requires may { MayTry (C.terms (⟦<Ops as Listing>⟧.operations ops.now)) (rank_of C.place self.old) carrier.old }
         ensures { IfOk result (Moves (C.terms (⟦<Ops as Listing>⟧.operations ops.now)) (rank_of C.place self.old) carrier.old (rank_of C.place self.new) carrier.new) }
     {
-        let on = communicator(&self.bound, posting.on());
+        let words = words_of(posting);
+        let on = communicator(&self.bound, words.on);
         let call = match carrier.post(alloc, self.me, on, posting, ops) {
             Ok(Some(call)) => call,
             Ok(None) => return Ok(false),
@@ -236,10 +239,10 @@ impl<'a, C: Carrier> Interpreter<'a, C> {
             }
         };
         self.todo = rest;
-        match posting.request() {
+        match words.request {
             Some(word) => bind(alloc, &mut self.requests, Some(word), call)?,
             None => {
-                let target = posting.target();
+                let target = words.target;
                 self.waits = Some(Wait { call, target });
             }
         }
@@ -265,7 +268,7 @@ impl<'a, C: Carrier> Interpreter<'a, C> {
         self.lines.push(text)?;
         push_origins(&mut self.origins, 0, self.todo, 1)?;
         self.todo = rest;
-        bind(alloc, &mut self.bound, posting.target(), None)?;
+        bind(alloc, &mut self.bound, words_of(posting).target, None)?;
         Ok(())
     }
 

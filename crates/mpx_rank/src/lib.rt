@@ -12,6 +12,7 @@ mod carrier;
 mod interpreter;
 mod origins;
 mod picking;
+mod posting_words;
 mod waiting;
 
 pub use answered::Answered;

@@ -2,12 +2,11 @@
 ghost use Rattle.std.specs.Prelude.{◌≡◌, IfErr, IfOk, IfSome};
 
 use crate::start::{AllCame, Place, Start};
-use mpx_at_once::Stop;
+use mpx_at_once::{Sleepers, Stop};
 use std::sync::atomic::{AtomicU64, Ordering};
 use std::sync::ledger::Ledger;
 use std::sync::{OnceLock, OnceToken, Wait};
 use std::thread::yield_now;
-use std::time::Duration;
 
 /// Why all threads of a job are to stop.
 #[derive(Clone, Copy, Drop, PartialEq, Eq)]
@@ -19,14 +18,13 @@ pub(crate) enum Halt {
 }
 
 /// How many ranks there are, how many of them have returned, and why all are to stop, where they are. The first reason is kept.
-/// Those that hear nothing new sleep here, until there is something to hear.
+/// Those that hear nothing new sleep until there is something to hear.
 #[derive(Drop)]
 pub(crate) struct Crew {
     ranks: u64,
     returned: AtomicU64,
     pub(crate) halt: OnceLock<Halt>,
-    wakes: AtomicU64,
-    asleep: AtomicU64,
+    pub(crate) sleepers: Sleepers,
 }
 
 impl Crew {
@@ -36,33 +34,8 @@ impl Crew {
             ranks: u64::from(ranks),
             returned: AtomicU64::new(0),
             halt: OnceLock::new(),
-            wakes: AtomicU64::new(0),
-            asleep: AtomicU64::new(0),
+            sleepers: Sleepers::new(),
         }
-    }
-
-    /// How often all were woken.
-    pub(crate) fn wakes(&self) -> u64 {
-        self.wakes.load(Ordering::SeqCst)
-    }
-
-    /// Wakes all that sleep.
-    pub(crate) fn wake(&self) {
-        self.wakes.fetch_add(1, Ordering::SeqCst);
-        if self.asleep.load(Ordering::SeqCst) != 0 {
-            self.wakes.wake_all();
-        }
-    }
-
-    /// Sleeps for so many microseconds at most. It ends once all are woken, and at once where they were woken more often than this.
-    pub(crate) fn sleep<R: Wait>(&self, rt: &R, wakes: u64, micros: u64) {
-        let Ok(seen) = u32::try_from(wakes & 0xffff_ffff) else {
-            return;
-        };
-        self.asleep.fetch_add(1, Ordering::SeqCst);
-        self.wakes
-            .park_timeout(rt, seen, Duration::from_micros(micros));
-        self.asleep.fetch_sub(1, Ordering::SeqCst);
     }
 
     /// Waits until all threads have come, this one with its place, and answers what shows that. Or it answers a token where a thread was
@@ -106,7 +79,7 @@ impl Crew {
             let _first = self.halt.try_set(Halt::GaveUp);
         }
         self.returned.fetch_add(1, Ordering::SeqCst);
-        self.wake();
+        self.sleepers.wake();
     }
 
     /// Why all are to stop, where they are.
@@ -125,6 +98,6 @@ impl Crew {
 impl Stop for Crew {
     fn stop(&self) {
         let _first = self.halt.try_set(Halt::Refused);
-        self.wake();
+        self.sleepers.wake();
     }
 }

@@ -1,22 +1,15 @@
 //! How a member rests while it hears nothing new.
-use crate::crew::Crew;
 use join_core::Pair;
 use join_nest::Lift;
+use mpx_at_once::{Pace, Sleepers};
 use mpx_board::{Board, Entry, Lifted, is_told};
 use std::sync::Wait;
-use std::thread::yield_now;
 
-// After so many turns without news a member sleeps.
-const BUSY: u32 = 5;
-
-/// What a member has heard, for how many turns it has heard nothing new, how often it saw all woken, and whether its last post is still
-/// to wake them.
+/// What a member has heard, how it rests, and whether its last post is still to wake the others.
 #[derive(Drop)]
 pub(crate) struct News {
-    me: u8,
     heard: u64,
-    idle: u32,
-    wakes: u64,
+    pace: Pace,
     has_posted: bool,
 }
 
@@ -24,10 +17,8 @@ impl News {
     /// Before the first turn of this process.
     pub(crate) fn new(me: u8) -> News {
         News {
-            me,
             heard: 0,
-            idle: 0,
-            wakes: 0,
+            pace: Pace::new(me),
             has_posted: false,
         }
     }
@@ -35,48 +26,24 @@ impl News {
     /// A turn was made, and this is the board then.
     pub(crate) fn note(&mut self, board: &Board) {
         let heard = count_of(board);
-        if heard != self.heard {
-            self.heard = heard;
-            self.idle = 0;
-        } else {
-            self.idle = self.idle.saturating_add(1);
-        }
+        self.pace.note(heard != self.heard);
+        self.heard = heard;
     }
 
     /// The member has posted, so that there is something to send.
     pub(crate) fn has_posted(&mut self) {
-        self.idle = 0;
+        self.pace.note(true);
         self.has_posted = true;
     }
 
-    /// Lets the other threads have their turn, and wakes them behind a post. Behind turns that brought nothing new it sleeps, longer each
-    /// time, up to a millisecond or until another wakes it.
-    pub(crate) fn rest<R: Wait>(&mut self, rt: &R, crew: &Crew) {
+    /// Rests behind a turn, and wakes the others where that sent a post.
+    pub(crate) fn rest<R: Wait>(&mut self, rt: &R, sleepers: &Sleepers) {
         if self.has_posted {
             self.has_posted = false;
-            crew.wake();
+            sleepers.wake();
         }
-        let wakes = crew.wakes();
-        if wakes != self.wakes {
-            self.wakes = wakes;
-            self.idle = self.idle.min(BUSY);
-        }
-        if self.idle < BUSY {
-            yield_now();
-        } else {
-            crew.sleep(rt, wakes, micros(self.idle, self.me));
-        }
+        self.pace.rest(rt, sleepers);
     }
-}
-
-// How long a member sleeps behind so many turns: between half of a power of two and that. It differs by turn and process: members that
-// take their turns in one order for long take their own frames out of the queue alone.
-fn micros(idle: u32, me: u8) -> u64 {
-    let most = 1u64 << idle.min(10);
-    let turn = idle.wrapping_mul(0x9e37_79b1);
-    let process = u32::from(me).wrapping_mul(0x85eb_ca6b);
-    let part = u64::from(turn.wrapping_add(process) >> 28);
-    (most / 2).saturating_add((most / 32).saturating_mul(part))
 }
 
 // How much a board tells: it grows with each post, front and birth, also where posts are dropped.

@@ -17,7 +17,6 @@ use join_core::OutOfMemory;
 use mpx_meaning::Report;
 use mpx_node::Node;
 use mpx_num::{Listing, Ops};
-use mpx_rank::push_where;
 use mpx_script::Script;
 use mpx_statement::Options;
 use std::alloc::Global;
@@ -110,7 +109,9 @@ fn waiting_of(alloc: Global, processes: &[Process<'_>], ranks: u8) -> Result<Vec
 {
     let mut waiting = Vec::new(alloc);
     for p in 0..ranks {
-        push_where(&mut waiting, p, processes[p as usize].is_waiting())?;
+        if processes[p as usize].is_waiting() {
+            waiting.push(p)?;
+        }
     }
     Ok(waiting)
 }

@@ -73,17 +73,19 @@ fn make_turns<L: PortLock, G: Gate, R: Wait>(
     requires queue { table_of bench.now.bus.now ≡ L.table }
     ensures { IfOk result (λ end. end ≡ GossipEnd.GaveUp → GivesUpWithin (G.gives_up bench.now.gate.now) me bench.now.turns) }
 {
-    let mut calm = Calm::new(port.fingerprint(rt));
+    let mut calm = Calm::new(me, port.fingerprint(rt));
     for nth in 0..bench.turns {
         if bench.watch.is_over(bench.ranks) {
             return Ok(GossipEnd::Over);
         }
-        match turn(rt, alloc, bench, me, port, signal, nth, ops)? {
+        match turn(rt, alloc, bench, me, port, nth, ops)? {
             Pass::Go => {}
             Pass::GiveUp => return Ok(GossipEnd::GaveUp),
         }
-        calm.note(bench.watch, me, port.fingerprint(rt));
-        calm.rest(rt, signal, me);
+        if calm.note(bench.watch, me, port.fingerprint(rt)) {
+            signal.tell();
+        }
+        calm.rest(rt, bench.watch);
     }
     Ok(GossipEnd::Over)
 }
@@ -95,7 +97,6 @@ fn turn<L: PortLock, G: Gate, R: Wait>(
     bench: &Bench<'_, G>,
     me: Proc,
     port: &SharedPort<L>,
-    signal: &Signal,
     nth: u32,
     ops: &Ops,
 ) -> Result<Pass, OutOfMemory>
@@ -107,7 +108,6 @@ fn turn<L: PortLock, G: Gate, R: Wait>(
         return Ok(Pass::GiveUp);
     };
     let pulled = take_out(rt, alloc, bench.bus, port, leave, nth, ops);
-    signal.tell();
     match pulled {
         Pull::OutOfMemory(_) => return Err(OutOfMemory),
         Pull::Empty => {}

@@ -6,6 +6,7 @@
 //! Where all of them have told the number that stands now, and the same fingerprint, all boards say the same. So no frame under way says
 //! anything new, and no rank has a result that it hasn't seen.
 use join_core::OutOfMemory;
+use mpx_at_once::Sleepers;
 use mpx_group::Proc;
 use std::alloc::Global;
 use std::sync::Wait;
@@ -20,7 +21,7 @@ const ENDED: u64 = u64::MAX;
 const EACH_MILLIS: u64 = 200;
 
 /// What all threads see: how many calls were begun, how many ranks have ended and how many processes have worked, whether the run is to
-/// stop, and what each process tells of itself. The caller's thread sleeps on `caller`.
+/// stop, and what each process tells of itself. The caller's thread sleeps on `caller`, gossips that hear nothing new among `sleepers`.
 #[derive(Drop)]
 pub(crate) struct Watch {
     begun: AtomicU64,
@@ -29,6 +30,7 @@ pub(crate) struct Watch {
     caller: Parker,
     stopped: AtomicBool,
     news: AtomicU64,
+    pub(crate) sleepers: Sleepers,
     processes: Vec<Quiet>,
 }
 
@@ -74,6 +76,7 @@ impl Watch {
             caller: Parker::new(),
             stopped: AtomicBool::new(false),
             news: AtomicU64::new(1),
+            sleepers: Sleepers::new(),
             processes: told,
         })
     }
@@ -83,9 +86,10 @@ impl Watch {
         self.news.load(Ordering::SeqCst)
     }
 
-    /// Something has changed a port.
+    /// Something has changed a port: all gossips that sleep are woken.
     pub(crate) fn tell_news(&self) {
         self.news.fetch_add(1, Ordering::SeqCst);
+        self.sleepers.wake();
     }
 
     /// The rank of this process had read this number when it looked and found nothing.
@@ -113,6 +117,7 @@ impl Watch {
     pub(crate) fn rank_ends(&self, me: Proc) {
         self.has_looked(me, ENDED);
         self.ended.fetch_add(1, Ordering::SeqCst);
+        self.sleepers.wake();
     }
 
     /// A rank has come to a call.
@@ -156,6 +161,7 @@ impl Watch {
     /// The run is to stop: memory was wanting, the gate gave up, or nobody can hear anything new.
     pub(crate) fn stop(&self) {
         self.stopped.store(true, Ordering::SeqCst);
+        self.sleepers.wake();
     }
 
     /// Whether nobody needs any gossip more: so many ranks have ended, or the run is to stop.
@@ -164,51 +170,43 @@ impl Watch {
     }
 }
 
-/// What the two threads of one process tell each other: the gossip, that there may be something new, and that there will be nothing
-/// more; the rank, that it has posted.
+/// What the gossip of a process tells its rank: that there may be something new, and that there will be nothing more.
 #[derive(Drop)]
 pub(crate) struct Signal {
-    rank: Parker,
-    gossip: Parker,
+    rank: Sleepers,
     ended: AtomicBool,
 }
 
 impl Signal {
     pub(crate) fn new() -> Signal {
         Signal {
-            rank: Parker::new(),
-            gossip: Parker::new(),
+            rank: Sleepers::new(),
             ended: AtomicBool::new(false),
         }
     }
 
     /// There may be something new.
     pub(crate) fn tell(&self) {
-        self.rank.unpark();
+        self.rank.wake();
     }
 
     /// There is nothing more to come.
     pub(crate) fn end(&self) {
         self.ended.store(true, Ordering::SeqCst);
-        self.rank.unpark();
+        self.rank.wake();
     }
 
     pub(crate) fn has_ended(&self) -> bool {
         self.ended.load(Ordering::SeqCst)
     }
 
-    /// Sleeps until there may be something new. Only while the gossip hasn't ended will it be woken.
-    pub(crate) fn park<R: Wait>(&self, rt: &R) {
-        self.rank.park(rt);
+    /// How often the rank was told.
+    pub(crate) fn told(&self) -> u64 {
+        self.rank.wakes()
     }
 
-    /// The rank has posted.
-    pub(crate) fn hurry(&self) {
-        self.gossip.unpark();
-    }
-
-    /// The gossip sleeps so long, or until the rank posts.
-    pub(crate) fn wait<R: Wait>(&self, rt: &R, micros: u64) {
-        self.gossip.park_timeout(rt, Duration::from_micros(micros));
+    /// Waits until the rank is told more often than this. Only while the gossip hasn't ended will it be told.
+    pub(crate) fn wait<R: Wait>(&self, rt: &R, told: u64) {
+        self.rank.wait(rt, told);
     }
 }

@@ -1,10 +1,22 @@
-use Rattle.std.proofs.Common.{inl}
-use Rattle.mpx_program.proofs.Answering.{does_printed}
+use Rattle.std.proofs.Common.{refl}
+use Rattle.mpx_program.proofs.Answering.{does_nothing, does_printed, does_text}
 use Rattle.mpx_program.proofs.job.run_job.Goals as goal
 
+pub returns-in-Ok-clause-founded : goal.returns-in-Ok-clause-founded
+returns-in-Ok-clause-founded g c =
+    let p = c.in-Ok.prepared in
+    does_text _ c.args.call.now (g.R.Read.remaining c.args.reader.now) (g.R.Read.remaining c.prepare.new.reader) (g.W.Write.contents c.args.out.now) (g.W.Write.contents c.answer.new.out) p.text.items p.text.items c.answer.result.status _ c.in-Ok.ensures.ok.input refl c.answer.ensures
+
 pub returns-in-Ok-clause-prints : goal.returns-in-Ok-clause-prints
-returns-in-Ok-clause-prints g c = inl (record {
-  call = c.in-Ok.call;
-  asks = c.in-Ok.ensures.ok;
-  does = does_printed _ c.in-Ok.call (g.R.Read.remaining c.args.reader.now) (g.R.Read.remaining c.do_call.new.reader) (g.W.Write.contents c.args.out.now) (g.W.Write.contents c.do_call.new.out) c.do_call.result.status _ c.do_call.ensures;
-})
+returns-in-Ok-clause-prints g c =
+    let p = c.in-Ok.prepared in
+    does_printed _ c.args.call.now (g.R.Read.remaining c.args.reader.now) (g.R.Read.remaining c.prepare.new.reader) (g.W.Write.contents c.args.out.now) (g.W.Write.contents c.answer.new.out) c.answer.result.status _
+    (does_text _ c.args.call.now (g.R.Read.remaining c.args.reader.now) (g.R.Read.remaining c.prepare.new.reader) (g.W.Write.contents c.args.out.now) (g.W.Write.contents c.answer.new.out) p.text.items p.text.items c.answer.result.status _ c.in-Ok.ensures.ok.input refl c.answer.ensures)
+
+pub returns-in-Err-clause-founded : goal.returns-in-Err-clause-founded
+returns-in-Err-clause-founded g c = does_nothing _ c.args.call.now (g.R.Read.remaining c.args.reader.now) (g.R.Read.remaining c.prepare.new.reader) (g.W.Write.contents c.args.out.now) c.in-Err.failed.error _ c.exit_of.result.status _ c.in-Err.ensures.err c.exit_of.ensures
+
+pub returns-in-Err-clause-prints : goal.returns-in-Err-clause-prints
+returns-in-Err-clause-prints g c =
+    does_printed _ c.args.call.now (g.R.Read.remaining c.args.reader.now) (g.R.Read.remaining c.prepare.new.reader) (g.W.Write.contents c.args.out.now) (g.W.Write.contents c.args.out.now) c.exit_of.result.status _
+    (does_nothing _ c.args.call.now (g.R.Read.remaining c.args.reader.now) (g.R.Read.remaining c.prepare.new.reader) (g.W.Write.contents c.args.out.now) c.in-Err.failed.error _ c.exit_of.result.status _ c.in-Err.ensures.err c.exit_of.ensures)

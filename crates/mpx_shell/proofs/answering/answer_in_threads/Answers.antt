@@ -2,13 +2,13 @@ use Rattle.std.proofs.Common.{inl}
 use Rattle.mpx_shell.proofs.answering.answer_in_threads.Goals as goal
 
 pub returns-clause-prints : goal.returns-clause-prints
-returns-clause-prints g c = inl (record {
+returns-clause-prints g c = λ words asks. inl (record {
   operations = _;
-  does = c.run_job_in_threads.ensures.prints;
+  does = inl (record { call = c.args.call.now; asks = asks; does = c.run_job_in_threads.ensures.prints });
 })
 
 pub returns-clause-founded : goal.returns-clause-founded
-returns-clause-founded g c = inl (record {
+returns-clause-founded g c = λ words asks. inl (record {
   operations = _;
-  does = c.run_job_in_threads.ensures.founded;
+  does = inl (record { call = c.args.call.now; asks = asks; does = c.run_job_in_threads.ensures.founded });
 })
