@@ -1,7 +1,7 @@
 -- Ranks that wait, one after the other, and calls of which their boards lack posts.
-use Rattle.std.proofs.Common.{◌≡◌, ◌<◌, ◌≤◌, ℕ, suc, ◌+◌, ◌==◌, Bool, true, false, cond, List, ◌++◌, Option, Some, None, length, map, nat_eq, arith, ap, subst, sym, ◌∙◌}
+use Rattle.std.proofs.Common.{◌≡◌, ◌<◌, ◌≤◌, ℕ, suc, ◌+◌, ◌==◌, Bool, true, false, cond, List, ◌++◌, Option, Some, None, Result, Ok, Err, length, map, nat_eq, arith, ap, subst, sym, ◌∙◌}
 use Rattle.std.specs.List.{All, list_any}
-use Rattle.std.specs.Prelude.{IsSomeAnd}
+use Rattle.std.specs.Prelude.{IsSomeAnd, OnOk}
 use Rattle.std.proofs.lemmas.Bool.Decides.{nat_tests}
 use Rattle.mpx_name.specs.Name.{Name}
 use Rattle.mpx_node.specs.Nodes.{NodeView, front_on}
@@ -11,7 +11,7 @@ use Rattle.mpx_eval.specs.declared.missing.MissingMember.{MissingMember}
 use Rattle.mpx_explain.specs.declared.ended.EndedRun.{EndedRun}
 use Rattle.mpx_statement.specs.declared.statement.Statement.{Statement}
 use Rattle.mpx_explain.specs.declared.ends.RunEnd.{RunEnd}
-use Rattle.mpx_explain.specs.RunEnds.{AreLacked, ComesFirst, IsLacking, IsThere, LacksPosts, TellsRun, first_untold, lacked_by, lines_in, process_of, refused_in, statements_in, waiting_there, waiting_upto, waits_at, where_of}
+use Rattle.mpx_explain.specs.RunEnds.{AreLacked, ComesFirst, IsLacking, IsRunTold, IsThere, LacksPosts, TellsRun, first_untold, lacked_by, lines_in, process_of, refused_in, run_text, statements_in, waiting_there, waiting_upto, waits_at, where_of}
 
 -- a rank that waits does so where it stands, and one that doesn't, nowhere
 
@@ -59,3 +59,8 @@ lacks_of run rank node c name call missing none own unharvested lacked is_none n
       some = subst (λ (xs : List MissingMember). 0 < length xs) (sym same_missing) (some_left (length missing) none is_none not_none);
       missing = same_missing ∙ lacked ∙ ap (λ (x : Name). lacked_by run node x call) (sym same_name) ∙ ap (λ (x : ℕ). lacked_by run node c.name x) (sym same_call);
     })
+
+-- the lines of what was found tell of the run
+pub tells_end : {E : Type 0} (text : List ℕ) (run : EndedRun) (end : RunEnd) (old new : List ℕ) (pushed : Result (Unit {0}) E) → TellsRun run end → OnOk pushed (new ≡ old ++ run_text text run end) → OnOk pushed (IsRunTold text run old new)
+tells_end text run end old new (Ok done) tells told = record { end = end; tells = tells; told = told }
+tells_end text run end old new (Err e) tells told = tt

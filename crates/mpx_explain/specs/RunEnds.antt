@@ -171,5 +171,12 @@ served_text text place = start_text place.0 (line_at (lines_given place.0 text) 
 -- where ranks wait, a line for each call; then those that come first; then the ranks whose boards lack no post
 abbrev pub run_text : (text : List ℕ) → EndedRun → RunEnd → List ℕ
 run_text text run end =
-    (waiting_told text run.script.now.statements (map waiting_view end.waiting.items) ++ flat_map (earlier_text text (map (place_of text) (map waiting_view end.waiting.items))) end.earlier.items)
+    waiting_told text run.script.now.statements (map waiting_view end.waiting.items)
+    ++ flat_map (earlier_text text (map (place_of text) (map waiting_view end.waiting.items))) end.earlier.items
     ++ flat_map (served_text text) end.served.items
+
+-- these lines are told of a run behind others
+pub record IsRunTold (text : List ℕ) (run : EndedRun) (old new : List ℕ) : Type 0 where
+  pub end : RunEnd
+  pub tells : TellsRun run end
+  pub told : new ≡ old ++ run_text text run end

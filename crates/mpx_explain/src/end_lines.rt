@@ -1,20 +1,52 @@
-//! The lines of ranks that wait at the end of a run for more than posts of the call at which they wait.
+//! The lines that tell where ranks wait at the end of a run.
 ghost use Rattle.std.specs.Prelude.{◌≡◌, ◌++◌, OnOk, map};
 ghost use Rattle.std.specs.List.{flat_map};
 ghost use Rattle.mpx_eval.specs.Found.{missing_view, waiting_view};
 ghost use Rattle.mpx_waiting.specs.ToldLines.{place_of};
-ghost use Rattle.mpx_explain.specs.RunEnds.{earlier_text, first_text, line_words, number_words, served_text};
+ghost use Rattle.mpx_explain.specs.RunEnds.{IsRunTold, earlier_text, first_text, line_words, number_words, run_text, served_text};
 
-use crate::ends::EarlierCall;
+use crate::ended::EndedRun;
+use crate::ends::{EarlierCall, RunEnd, run_end};
 use join_core::OutOfMemory;
 use mpx_eval::{MissingCall, WaitingRank};
 use mpx_script::{statement_lines, words_of_line};
-use mpx_waiting::{line_at, places_of, push_members, push_start};
+use mpx_waiting::{line_at, places_of, push_members, push_start, push_waiting};
 use std::alloc::Global;
 
-/// Adds a line for each of these calls: an earlier one comes first, and whose posts of it the board lacks. The ranks that wait are these.
-/// An `Err` is want of memory, and leaves the lines so far.
-pub fn explain_earlier(
+/// Adds where ranks wait at the end of a run: a line for each call of which a rank's board lacks posts, at most a hundred; one for each earlier
+/// call that comes first; and one for each rank whose board lacks no post. An `Err` is want of memory, and leaves the lines so far.
+pub fn explain_run(
+    alloc: Global,
+    text: &[u8],
+    run: &EndedRun<'_>,
+    told: &mut Vec<u8>,
+) -> Result<(), OutOfMemory>
+    ensures { OnOk result (IsRunTold text.now run.now told.old.items told.new.items) }
+{
+    let end = run_end(alloc, run)?;
+    let pushed = push_end(alloc, text, run, &end, told);
+    drop(end);
+    pushed
+}
+
+// Adds the lines of what was found.
+fn push_end(
+    alloc: Global,
+    text: &[u8],
+    run: &EndedRun<'_>,
+    end: &RunEnd,
+    told: &mut Vec<u8>,
+) -> Result<(), OutOfMemory>
+    ensures { OnOk result (told.new.items ≡ told.old.items ++ run_text text.now run.now end.now) }
+{
+    let waiting = end.waiting.as_slice();
+    push_waiting(alloc, text, run.script, waiting, told)?;
+    push_earlier(alloc, text, end.earlier.as_slice(), waiting, told)?;
+    push_served(alloc, text, end.served.as_slice(), told)
+}
+
+// Adds a line for each of these calls: an earlier one comes first, and whose posts of it the board lacks. The ranks that wait are these.
+fn push_earlier(
     alloc: Global,
     text: &[u8],
     earlier: &[EarlierCall],
@@ -99,9 +131,8 @@ fn push_number(alloc: Global, line: u32, call: u32, told: &mut Vec<u8>) -> Resul
     Ok(())
 }
 
-/// Adds a line for each of these ranks and the places of their statements: the board lacks no post. An `Err` is want of memory, and leaves the
-/// lines so far.
-pub fn explain_served(
+// Adds a line for each of these ranks and the places of their statements: the board lacks no post.
+fn push_served(
     alloc: Global,
     text: &[u8],
     served: &[(u8, usize)],
@@ -110,12 +141,12 @@ pub fn explain_served(
     ensures { OnOk result (told.new.items ≡ told.old.items ++ flat_map (served_text text.now) served.now) }
 {
     for place in served {
-        push_served(alloc, text, *place, told)?;
+        push_served_rank(alloc, text, *place, told)?;
     }
     Ok(())
 }
 
-fn push_served(
+fn push_served_rank(
     alloc: Global,
     text: &[u8],
     place: (u8, usize),

@@ -38,7 +38,7 @@ pub struct EarlierCall {
 }
 
 /// Where ranks wait at the end of a run, in rank order.
-pub fn run_end(alloc: Global, run: &EndedRun<'_>) -> Result<RunEnd, OutOfMemory>
+pub(crate) fn run_end(alloc: Global, run: &EndedRun<'_>) -> Result<RunEnd, OutOfMemory>
     ensures { IfOk result (λ end. TellsRun run.now end) }
 {
     let mut end = RunEnd {

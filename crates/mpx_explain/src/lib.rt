@@ -3,8 +3,8 @@
 //! [`word_to_blame`] finds the word of a refused line that is to blame. [`explain_refusals`] tells each refused line of a script, and which
 //! word is missing, one too many or wrong. [`explain_calls`] tells each call that was refused or is a fault, with its line and what its
 //! statement gives, and [`explain_unheard`] each fault that no line tells: `specs/Findings.antt` says which. [`explain_results`] tells each
-//! result that is past its signed type. [`run_end`] finds where ranks wait in a run that ended early (`specs/RunEnds.antt`), and
-//! [`explain_earlier`] and [`explain_served`] tell what no line of a wait does.
+//! result that is past its signed type. [`explain_run`] tells where ranks wait in a run that ended early, by what
+//! is left of it (an [`EndedRun`]): `specs/RunEnds.antt`.
 #![tactic(auto)]
 
 mod amounts;
@@ -36,8 +36,8 @@ mod walk;
 
 pub use blame::{Blamed, word_to_blame};
 pub use calls::{explain_calls, explain_unheard};
-pub use end_lines::{explain_earlier, explain_served};
+pub use end_lines::explain_run;
 pub use ended::EndedRun;
-pub use ends::{EarlierCall, RunEnd, run_end};
+pub use ends::{EarlierCall, RunEnd};
 pub use lines::explain_refusals;
 pub use overflows::explain_results;

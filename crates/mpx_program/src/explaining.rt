@@ -13,8 +13,7 @@ use crate::reason::push_reason;
 use join_core::OutOfMemory;
 use mpx_eval::{Complaint, Findings};
 use mpx_explain::{
-    EndedRun, explain_calls, explain_earlier, explain_refusals, explain_results, explain_served,
-    explain_unheard, run_end,
+    EndedRun, explain_calls, explain_refusals, explain_results, explain_run, explain_unheard,
 };
 use mpx_node::Node;
 use mpx_num::Ops;
@@ -218,10 +217,7 @@ fn push_run_end(
         lines: &lines,
         nodes: &nodes,
     };
-    let end = run_end(alloc, &run)?;
-    push_waiting(alloc, text, script, end.waiting.as_slice(), told)?;
-    explain_earlier(alloc, text, &end.earlier, &end.waiting, told)?;
-    explain_served(alloc, text, end.served.as_slice(), told)
+    explain_run(alloc, text, &run, told)
 }
 
 // How many lines each rank has at the end of a run.
