@@ -1,6 +1,6 @@
 use Rattle.std.proofs.Common.{arith, map}
 use Rattle.mpx_explain.specs.RunEnds.{where_of}
-use Rattle.mpx_explain.proofs.Ends.{tells_run, upto_more}
+use Rattle.mpx_explain.proofs.FoundEnds.{tells_run, upto_more}
 use Rattle.mpx_explain.proofs.ends.run_end.Goals as goal
 
 pub loop-rank-preserved : goal.loop-rank-preserved

@@ -1,6 +1,6 @@
 use Rattle.std.proofs.Common.{arith}
 use Rattle.mpx_node.specs.Shown.{node_of}
-use Rattle.mpx_explain.proofs.Ends.{lacks_of}
+use Rattle.mpx_explain.proofs.FoundEnds.{lacks_of}
 use Rattle.mpx_explain.proofs.lacking.lacking_call.Goals as goal
 
 pub returns : goal.returns
