@@ -1,3 +1,2 @@
-pub mod FoundEnds
 pub mod Summing
 pub mod Telling
