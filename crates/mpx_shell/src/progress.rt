@@ -33,9 +33,7 @@ impl<'a, C: Clock, S: Write + IsTerminal> HowFar<'a, C, S> {
     }
 
     /// Gives the writer back.
-    pub(crate) fn into_writer(self) -> S
-        ensures { result ≡ self.out }
-    {
+    pub(crate) fn into_writer(self) -> S {
         self.out
     }
 

@@ -39,9 +39,7 @@ impl<'a, C: Clock, S: Write + IsTerminal> Seen<'a, C, S> {
     }
 
     /// Gives the writer back.
-    pub fn into_writer(self) -> S
-        ensures { result ≡ shown_on self }
-    {
+    pub fn into_writer(self) -> S {
         match self {
             Seen::Lines(trace) => trace.into_writer(),
             Seen::Rows(table) => table.into_writer(),
