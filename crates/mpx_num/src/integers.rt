@@ -1,7 +1,7 @@
 //! The integers of a program: numbers are made of them, and read as them.
 ghost use Rattle.std.specs.Prelude.{◌≡◌, ◌∷◌, [], length, map, IfOk, IfSome, IfNone};
 ghost use Rattle.std.specs.Result.{IsErrOf};
-ghost use Rattle.std.specs.List.{Any};
+ghost use Rattle.std.specs.List.{All, Any};
 ghost use Rattle.mpx_num.specs.Types.{IsInRange, IsOutOfRange};
 
 use crate::numbers::Numbers;
@@ -173,9 +173,10 @@ pub enum IntegersError {
 }
 
 impl Numbers {
-    /// The integers as numbers, in their order.
+    /// The integers as numbers, in their order. Each is in the range of their type.
     pub fn from_slice<T: Integer>(alloc: Global, list: &[T]) -> Result<Self, AllocError>
-        ensures { IfOk result (λ numbers. numbers ≡ map T.value list.now) }
+        ensures value { IfOk result (λ numbers. numbers ≡ map T.value list.now) }
+        ensures in_range { IfOk result (All (IsInRange T.ty)) }
     {
         let mut numbers = Vec::new(alloc);
         for x in list {
@@ -188,6 +189,7 @@ impl Numbers {
 /// The numbers as integers of a type, in their order.
 pub fn integers_in<T: Integer>(alloc: Global, numbers: &[i128]) -> Result<Vec<T>, IntegersError>
     ensures value { IfOk result (λ list. map T.value list.items ≡ numbers.now) }
+    ensures in_range { IfOk result (λ _. All (IsInRange T.ty) numbers.now) }
     ensures out_of_range { IsErrOf result IntegersError.OutOfRange → Any (IsOutOfRange T.ty) numbers.now }
 {
     let mut list = Vec::new(alloc);
