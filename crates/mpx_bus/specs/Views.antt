@@ -1,5 +1,6 @@
 -- What passes know, before and after each kind of step.
 use Rattle.std.specs.Prelude.{ℕ, List, [], ◌∷◌, ◌++◌, true, false}
+use Rattle.atomic_table.specs.Seated.{TableId}
 use Rattle.mpx_bus.specs.declared.act.Act.{Act}
 use Rattle.mpx_bus.specs.declared.act.Act.TheVariants as A
 use Rattle.mpx_bus.specs.declared.act.Setup.{Setup}
@@ -8,6 +9,10 @@ use Rattle.mpx_bus.specs.declared.act.View.{View}
 
 abbrev pub no_setup : Setup
 no_setup = record { ranks = 0; size = 0; operations = []; planned = false; plan = [] }
+
+-- no queue
+abbrev pub no_table : TableId
+no_table = record { words = 0; slots = 0; views_name = 0; atom = 0; block = 0; offset = 0; slot_names = [] }
 
 -- the first pass, which makes the others
 abbrev pub maker : View

@@ -13,10 +13,6 @@ use Rattle.mpx_comm.specs.Requests.{result_of}
 use Rattle.mpx_comm.proofs.Harvesting.{harvested_then, pending_now, still_pending}
 use Rattle.mpx_comm.proofs.Steps.{later_more}
 
--- of none
-pub picks_none : (ops : List Operation) (a b : NodeView) → PicksDone ops a b [] []
-picks_none ops a b = refl
-
 -- what was picked is so after further harvests
 pub picks_later : (ops : List Operation) (a b c : NodeView) (rs : List Request) (done : List (Request × Finished)) → PicksDone ops a b rs done → ComesByHarvests ops b c → PicksDone ops a c rs done
 picks_later ops a b c [] done p more = p

@@ -233,19 +233,6 @@ there_in (o ∷ xs) (suc k) x e = there_in xs k x e
 pub there_kept : (node : NodeView) (name : Name) (call : ℕ) (finished : Finished) → Some finished ≡ result_at node name call → false ≡ is_let_go node name call
 there_kept node name call finished e = there_in (results_on node name) call finished e
 
-next_test : (k n : ℕ) → nat_lt (suc k) (suc n) ≡ nat_lt k n
-next_test k n = grind (arith, nat_tests)
-
--- what has no result was let go just where it is harvested
-empty_behind : (xs : List (Option Finished)) (k : ℕ) → None ≡ stored_at xs k → nat_lt k (length xs) ≡ is_empty (slice_get xs k)
-empty_behind [] k e = grind (arith, nat_tests)
-empty_behind (Some x ∷ xs) zero e = cc e
-empty_behind (None ∷ xs) zero e = grind (arith, nat_tests)
-empty_behind (o ∷ xs) (suc k) e = next_test k (length xs) ∙ empty_behind xs k e
-
-pub gone_behind : (node : NodeView) (name : Name) (call : ℕ) → None ≡ result_at node name call → nat_lt call (front_on node name) ≡ is_let_go node name call
-gone_behind node name call e = empty_behind (results_on node name) call e
-
 module _ (ops : List Operation) (old : NodeView) (name : Name) (finished : Finished) (is : next_result ops old name ≡ Some finished) where
   abbrev after : Name → Bool → Option OpenedView
   after n b = cond b (option_map (with_result finished) (old.opened n)) (old.opened n)

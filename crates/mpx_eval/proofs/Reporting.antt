@@ -1,5 +1,5 @@
 -- The start of the ranks, and what they report at the end.
-use Rattle.std.proofs.Common.{◌≡◌, ℕ, zero, suc, ◌+◌, ◌<◌, Bool, cond, List, [], ◌∷◌, ◌++◌, length, map, Option, Some, None, refl, sym, ap, ◌∙◌, subst, arith, length-append}
+use Rattle.std.proofs.Common.{◌≡◌, ℕ, zero, suc, ◌+◌, ◌<◌, List, [], ◌∷◌, ◌++◌, length, map, Option, Some, None, refl, sym, ap, ◌∙◌, subst, arith, length-append}
 use Rattle.std.specs.Prelude.{◌||◌, is_some, slice_get, slice_index_or, unwrap_or}
 use Rattle.std.specs.Option.{option_map}
 use Rattle.std.proofs.lemmas.List.{length-map}
@@ -12,6 +12,7 @@ use Rattle.mpx_meaning.specs.Ranks.{doing}
 use Rattle.mpx_meaning.specs.Evaluation.{IsReached, start_state}
 use Rattle.mpx_meaning.specs.Reports.{is_left, lines_in, which}
 use Rattle.mpx_meaning.proofs.Ends.{start_quiet}
+use Rattle.mpx_meaning.proofs.Reports.{which_same}
 use Rattle.mpx_eval.specs.Evaluated.{IsEvaluated}
 use Rattle.mpx_meaning.specs.Standing.{WaitView, has_statements, todo_of}
 use Rattle.mpx_eval.specs.Places.{TableRank}
@@ -70,10 +71,6 @@ left_waits : (w : Option WaitView) (rest : List Statement) → is_left (todo_of 
 left_waits (Some w) rest = refl
 left_waits None [] = refl
 left_waits None (x ∷ rest) = refl
-
-pub which_same : (f g : ℕ → Bool) (n : ℕ) → ((p : ℕ) → p < n → f p ≡ g p) → which f n ≡ which g n
-which_same f g zero h = refl
-which_same f g (suc n) h = λ i. which_same f g n (λ p l. h p (omega (arith, l))) i ++ cond (h n (omega arith) i) (n ∷ []) []
 
 module _ (ops : List Operation) (script : ScriptView) (rs : List TableRank) (t : Table) (e : AreAtEnd ops script.statements script.ranks rs t) where
   pub there : (p : ℕ) → p < script.ranks → (r : TableRank) × (slice_get rs p ≡ Some r)

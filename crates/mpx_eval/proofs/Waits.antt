@@ -40,7 +40,8 @@ use Rattle.mpx_eval.specs.Rounds.{AreAtEnd, is_waiting_at}
 use Rattle.mpx_eval.specs.Tables.{Table, answer_on}
 use Rattle.mpx_eval.specs.Waiting.{Asked, MissingCallView, WaitingView, asked, asked_by, asked_of, asked_then, calls_of, is_unknown, missing_call, missing_of, missing_to, waiting_in_full, waits_at}
 use Rattle.mpx_eval.proofs.Outcomes.{given_there, results_same}
-use Rattle.mpx_eval.proofs.Reporting.{there, waits_same, which_same, at_index}
+use Rattle.mpx_eval.proofs.Reporting.{there, waits_same, at_index}
+use Rattle.mpx_meaning.proofs.Reports.{which_same}
 
 -- WHAT THE NEXT MOVE ASKS FOR
 

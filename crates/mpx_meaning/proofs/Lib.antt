@@ -4,6 +4,7 @@ pub mod Steps
 pub mod Ways
 pub mod Ahead
 pub mod Ends
+pub mod Reports
 mod Spaced
 pub mod Checked
 pub mod Passing

@@ -6,21 +6,18 @@ use Rattle.std.specs.Io.KnownBytes.{Keeps}
 use Rattle.mpx_num.specs.declared.own.Operation.{Operation}
 use Rattle.mpx_threads.specs.Gates.{nowhere}
 use Rattle.mpx_statement.specs.declared.job.Job.{Job}
-use Rattle.mpx_script.specs.Answer.{AnswersReading}
 use Rattle.mpx_script.specs.Reading.{reading}
 use Rattle.mpx_script.specs.ScriptView.{ScriptView}
-use Rattle.mpx_script.specs.declared.faults.ReadScriptError.{ReadScriptError}
-use Rattle.mpx_script.specs.declared.faults.ReadScriptError.TheVariants as S
-use Rattle.mpx_run.specs.Texts.{ComesTo, IsRefusedFor, IsWritten, Prints, PrintsUngated, RunsUngated, TakesInput, TakesPart, script_told, told}
+use Rattle.mpx_run.specs.Texts.{ComesTo, IsWritten, Prints, PrintsUngated, RunsUngated, TakesInput, TakesPart, told}
 use Rattle.mpx_run.specs.declared.streams.ReadFault.{ReadFault}
 use Rattle.mpx_run.specs.declared.streams.ReadFault.TheVariants as F
 use Rattle.mpx_run.specs.declared.end.End.{End}
 use Rattle.mpx_run.specs.declared.texts.RunError.{RunError}
-use Rattle.mpx_run.specs.declared.texts.RunError.TheVariants.{GateGaveUp, Memory}
+use Rattle.mpx_run.specs.declared.texts.RunError.TheVariants.{GateGaveUp}
 use Rattle.mpx_run.specs.Founded.{IsFounded}
 use Rattle.mpx_run.specs.Reports.{IsPrinted}
 use Rattle.mpx_run.proofs.Less.{runs_printed}
-use Rattle.mpx_run.proofs.Pieces.{gated_prints, prints_ungated, refused_prints, runs_ungated, written_prints}
+use Rattle.mpx_run.proofs.Pieces.{gated_prints, prints_ungated, runs_ungated, written_prints}
 use Rattle.mpx_program.proofs.Telling.{found_tells}
 use Rattle.mpx_program.specs.Explained.{HasTold, IsFound}
 use Rattle.mpx_program.specs.Jobs.{AnswersText, DoesJobWith, Exits, ExplainsOn, FailsBefore, StrictBy, StrictOn, TellsRead}
@@ -40,15 +37,6 @@ fails_unread ops job there left (F.Reader reason) why part is = λ old. subst (�
 -- and so does a text that gives none
 pub fails_text : (ops : List Operation) (job : Job) (there left : Option (List ℕ)) (text now : List ℕ) (why : RunError) → TakesInput there left text → now ≡ text → ((old : Option (List ℕ)) → PrintsUngated IsFounded ops job now old old (Err why)) → FailsBefore ops job there left why
 fails_text ops job there left text now why taken same fails = λ old. runs_ungated IsFounded ops job there left old old text (Err why) taken (subst (λ xs. PrintsUngated IsFounded ops job xs old old (Err why)) same (fails old))
-
--- a text that is refused prints nothing
-pub refuses_text : (ops : List Operation) (job : Job) (text : List ℕ) (refused : ReadScriptError) (why : RunError) → AnswersReading (Err refused) (reading ops text) → why ≡ script_told refused → (old : Option (List ℕ)) → PrintsUngated IsFounded ops job text old old (Err why)
-refuses_text ops job text S.OutOfMemory why read is old = subst (λ e. PrintsUngated IsFounded ops job text old old (Err e)) (sym is) (kept old)
-refuses_text ops job text (S.Refused refusal) why read is old = subst (λ e. PrintsUngated IsFounded ops job text old old (Err e)) (sym is) (read, kept old)
-
--- nor does one for which memory is wanting
-pub starves_text : (ops : List Operation) (job : Job) (text : List ℕ) (why : RunError) → why ≡ Memory → (old : Option (List ℕ)) → PrintsUngated IsFounded ops job text old old (Err why)
-starves_text ops job text why is old = subst (λ e. PrintsUngated IsFounded ops job text old old (Err e)) (sym is) (kept old)
 
 -- then nothing is done
 pub does_nothing : (ops : List Operation) (call : Invocation) (there left old : Option (List ℕ)) (why : RunError) (more : List ℕ) (code : ℕ) (Says : List ℕ → Type 0) → FailsBefore ops call.job there left why → Exits (Err why) false call.flags.explain more code Says → DoesJobWith IsFounded ops call there left old old code Says
@@ -96,9 +84,6 @@ module _ (ops : List Operation) (call : Invocation) (text : List ℕ) (script : 
 
   pub answers_written : (out : List ℕ) (end : End) (answer : Result End RunError) → ComesTo IsFounded ops call.job.command call.job.options script end out → IsWritten old new out end answer → Told answer → Exits answer complains call.flags.explain more code Says → AnswersText IsFounded ops call text old new code Says
   answers_written out end answer comes written = answers answer (written_prints IsFounded ops call.job text script old new out end answer read comes written)
-
-  pub answers_refused : (why : RunError) → new ≡ old → IsRefusedFor call.job script why → Told (Err why) → Exits (Err why) complains call.flags.explain more code Says → AnswersText IsFounded ops call text old new code Says
-  answers_refused why same refused told exits = answers (Err why) (subst (λ n. PrintsUngated IsFounded ops call.job text old n (Err why)) (sym same) (refused_prints IsFounded ops call.job text script old why read refused)) told exits
 
 -- what is done with a text is done with what the reader gives
 pub does_text : (ops : List Operation) (call : Invocation) (there left old new : Option (List ℕ)) (text now : List ℕ) (code : ℕ) (Says : List ℕ → Type 0) → TakesInput there left text → now ≡ text → AnswersText IsFounded ops call now old new code Says

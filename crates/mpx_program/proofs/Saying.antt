@@ -1,5 +1,5 @@
 -- What is said, in two parts.
-use Rattle.std.proofs.Common.{◌≡◌, refl, ap, sym, ◌∙◌, ℕ, zero, suc, List, [], ◌∷◌, ◌++◌, take, Option, Some, None, Result, Ok, Err, append_assoc, append-nil, subst}
+use Rattle.std.proofs.Common.{◌≡◌, refl, ap, sym, ◌∙◌, ℕ, zero, suc, List, [], ◌∷◌, ◌++◌, take, Option, Some, None, Result, Ok, Err, append_assoc, subst}
 use Rattle.std.specs.Prelude.{OnErr, OnOk}
 use Rattle.std.specs.Io.KnownBytes.{Appends}
 use Rattle.mpx_run.specs.declared.streams.WriteFault.{WriteFault}
@@ -29,8 +29,3 @@ tells_first a c xs ys n f = let b = begins n xs ys in (b.0, subst (Appends a c) 
 pub tells_both : (a b c : Option (List ℕ)) (xs ys : List ℕ) (told : Result (Unit {0}) WriteFault) → Appends a b xs → OnOk told (Appends b c ys) → OnErr told ((n : ℕ) × Appends b c (take n ys)) → Tells a c told (xs ++ ys)
 tells_both a b c xs ys (Ok done) f whole first = both a b c xs ys f whole
 tells_both a b c xs ys (Err fault) f whole first = let g = goes_on first.0 xs ys in (g.0, subst (Appends a c) (sym g.1) (both a b c xs (take first.0 ys) f first.1))
-
--- nothing is out
-pub tells_nothing : (a : Option (List ℕ)) (xs : List ℕ) → (n : ℕ) × Appends a a (take n xs)
-tells_nothing None xs = (0, tt)
-tells_nothing (Some us) xs = (0, sym (append-nil us))

@@ -12,7 +12,7 @@ use Rattle.mpx_explain.specs.Findings.{AreTold}
 use Rattle.mpx_run.specs.declared.end.End.{End}
 use Rattle.mpx_run.specs.declared.texts.RunError.{RunError}
 use Rattle.mpx_waiting.specs.ToldLines.{waiting_told}
-use Rattle.mpx_program.specs.Explained.{AreCalls, IsBehind, IsFound, IsHeaded, HasTold, TellsEarly, TellsEvaluation, TellsMore}
+use Rattle.mpx_program.specs.Explained.{AreCalls, IsBehind, IsFound, IsHeaded, HasTold, TellsEarly, TellsMore}
 use Rattle.mpx_program.specs.declared.found.Found.{Found}
 use Rattle.mpx_program.specs.declared.found.Found.TheVariants as F
 
@@ -22,14 +22,6 @@ module _ (ops : List Operation) (script : ScriptView) (text : List ℕ) (waiting
       → AreCalls text script.statements (complaints_in script.statements script.ranks f.end) (unheard_in ops script.statements script.ranks f.end) old new
   calls_of_end old new calls = subst (λ cs. AreCalls text script.statements cs (unheard_in ops script.statements script.ranks f.end) old new) f.complaints_are
       (subst (λ us. AreCalls text script.statements complaints us old new) f.unheard_are calls)
-
-  pub evaluation_tells : (more : List ℕ) → AreCalls text script.statements complaints unheard (waiting_told text script.statements waiting) more → TellsEvaluation ops script text more
-  evaluation_tells more calls = record {
-    end = f.end;
-    evaluation = f.evaluation;
-    calls = subst (λ ws. AreCalls text script.statements (complaints_in script.statements script.ranks f.end) (unheard_in ops script.statements script.ranks f.end) (waiting_told text script.statements ws) more) f.waiting_are
-        (calls_of_end (waiting_told text script.statements waiting) more calls);
-  }
 
   pub early_tells : (here waits lines more : List ℕ) → IsBehind here (waiting_told text script.statements waiting) waits → AreCalls text script.statements complaints unheard [] lines → IsHeaded waits lines more
       → TellsEarly ops script text more

@@ -17,10 +17,6 @@ use Rattle.mpx_comm.specs.Later.{Later}
 use Rattle.mpx_name.specs.Name.{Name}
 use Rattle.mpx_node.specs.Nodes.{NodeView}
 
--- no queue
-abbrev pub no_table : TableId
-no_table = record { words = 0; slots = 0; views_name = 0; atom = 0; block = 0; offset = 0; slot_names = [] }
-
 -- so many processes, of which the first are the ranks, with these operations of the job's own, and no plan of what they post
 abbrev pub setup_of : List Operation → (ranks size : ℕ) → Setup
 setup_of operations ranks size = record { ranks = ranks; size = size; operations = operations; planned = false; plan = [] }

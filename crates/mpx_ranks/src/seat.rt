@@ -15,8 +15,7 @@ pub(crate) trait Seat {
 }
 
 impl Seat for Brand {
-    ghost use Rattle.mpx_bus.specs.Views.{no_setup};
-    ghost use Rattle.mpx_ranks.specs.Members.{no_table};
+    ghost use Rattle.mpx_bus.specs.Views.{no_setup, no_table};
 
     ghost table = { no_table };
 

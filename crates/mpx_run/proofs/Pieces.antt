@@ -1,6 +1,6 @@
 -- What is read and written, piece by piece.
 use Rattle.std.proofs.Common.{◌≡◌, refl, ℕ, ◌+◌, ◌-◌, ◌≤◌, List, [], ◌++◌, length, take, drop, Option, Some, None, sym, ap, ◌∙◌, ◌<◌, arith, subst, Ok}
-use Rattle.std.specs.Prelude.{◌≢◌, IfSome, min, Result, Err, OnErr}
+use Rattle.std.specs.Prelude.{◌≢◌, IfSome, min, Result, Err}
 use Rattle.std.specs.Io.KnownBytes.{Appends, Keeps, Consumes, IsAtEnd}
 use Rattle.std.proofs.lemmas.List.{append-nil, append_assoc, take_all, length-drop, length-append, length-take, length-take-le, take-append-le}
 use Rattle.std.proofs.Math.Nat.{min-le_left, min-le_right, le-min}
@@ -11,9 +11,8 @@ use Rattle.mpx_statement.specs.declared.job.Job.{Job}
 use Rattle.mpx_script.specs.Reading.{reading}
 use Rattle.mpx_script.specs.ScriptView.{ScriptView}
 use Rattle.mpx_script.specs.Words.{bytes_limit}
-use Rattle.mpx_threads.specs.Gates.{nowhere}
 use Rattle.mpx_threads.specs.declared.gate.BusStep.{BusStep}
-use Rattle.mpx_run.specs.Texts.{ComesTo, IsEndedFor, IsRefusedFor, IsWritten, OfRuns, Prints, PrintsUngated, Runs, RunsUngated, TakesInput, TakesPart}
+use Rattle.mpx_run.specs.Texts.{ComesTo, IsWritten, OfRuns, Prints, PrintsUngated, Runs, RunsUngated, TakesInput, TakesPart}
 use Rattle.mpx_run.specs.declared.texts.RunError.{RunError}
 use Rattle.mpx_run.specs.declared.texts.RunError.TheVariants as E
 
@@ -109,10 +108,6 @@ within_rest bytes m n l h =
 pub stops : (a b c : Option (List ℕ)) (xs buf : List ℕ) (count : ℕ) → Consumes a b xs → Consumes b c (take count buf) → count ≡ 0 → Consumes a c xs
 stops a b c xs buf count f g e = consumes_more a b c xs [] xs f (subst (λ m. Consumes b c (take m buf)) e g) (sym (append-nil xs))
 
-pub on_err : {T E P : Type 0} (r : Result T E) → P → OnErr r P
-on_err (Ok x) p = tt
-on_err (Err e) p = p
-
 -- nothing more is taken
 pub consumes_keeps : (a b c : Option (List ℕ)) (xs : List ℕ) → Consumes a b xs → Keeps b c → Consumes a c xs
 consumes_keeps None b c xs f k = tt
@@ -160,37 +155,6 @@ prints_ungated Is ops gives_up job text old new (Err (E.Write reason)) other p =
 prints_ungated Is ops gives_up job text old new (Err E.GateGaveUp) other p = absurd (other refl)
 
 -- ANSWERS
-
-kept : (o : Option (List ℕ)) → Keeps o o
-kept None = tt
-kept (Some xs) = refl
-
--- a job that comes to nothing with a script writes nothing
-pub refused_prints : (Is : OfRuns) (ops : List Operation) (job : Job) (text : List ℕ) (script : ScriptView) (old : Option (List ℕ)) (why : RunError) → reading ops text ≡ Ok script → IsRefusedFor job script why → PrintsUngated Is ops job text old old (Err why)
-refused_prints Is ops job text script old (E.Script refusal) read r = absurd r
-refused_prints Is ops job text script old E.TooManyProcesses read r = ((script, read, r.0, r.1), kept old)
-refused_prints Is ops job text script old E.Memory read r = kept old
-refused_prints Is ops job text script old (E.Read reason) read r = absurd r
-refused_prints Is ops job text script old (E.Write reason) read r = absurd r
-refused_prints Is ops job text script old E.GateGaveUp read r = absurd r
-
--- the same where a gate may end it
-pub ended_prints : (Is : OfRuns) (ops : List Operation) (gives_up : ℕ → BusStep → ℕ → Type 0) (job : Job) (text : List ℕ) (script : ScriptView) (old : Option (List ℕ)) (why : RunError) → reading ops text ≡ Ok script → IsEndedFor gives_up job script why → Prints Is ops gives_up job text old old (Err why)
-ended_prints Is ops gives_up job text script old (E.Script refusal) read r = absurd r
-ended_prints Is ops gives_up job text script old E.TooManyProcesses read r = ((script, read, r.0, r.1), kept old)
-ended_prints Is ops gives_up job text script old E.Memory read r = kept old
-ended_prints Is ops gives_up job text script old (E.Read reason) read r = absurd r
-ended_prints Is ops gives_up job text script old (E.Write reason) read r = absurd r
-ended_prints Is ops gives_up job text script old E.GateGaveUp read r = (record { script = script; read = read; gated = r.0; at = r.1 }, kept old)
-
--- where the gate gives up nowhere the job is refused as every job is
-pub ended_nowhere : (job : Job) (script : ScriptView) (why : RunError) → IsEndedFor nowhere job script why → IsRefusedFor job script why
-ended_nowhere job script (E.Script refusal) r = r
-ended_nowhere job script E.TooManyProcesses r = r
-ended_nowhere job script E.Memory r = r
-ended_nowhere job script (E.Read reason) r = r
-ended_nowhere job script (E.Write reason) r = r
-ended_nowhere job script E.GateGaveUp r = absurd r.1.1.1.1.1.1
 
 -- what a job comes to is written
 pub written_prints : (Is : OfRuns) (ops : List Operation) (job : Job) (text : List ℕ) (script : ScriptView) (old new : Option (List ℕ)) (out : List ℕ) (end : End) (answer : Result End RunError) → reading ops text ≡ Ok script → ComesTo Is ops job.command job.options script end out

@@ -18,10 +18,6 @@ use Rattle.mpx_bus.specs.Rule.{Stood, planned_posts}
 use Rattle.mpx_bus.specs.Ports.{PortView, PortGoesOn, KeepsPlan, node_in}
 pub use Rattle.mpx_ticket.specs.Tickets.{made_in}
 
--- no queue
-abbrev pub no_table : TableId
-no_table = record { words = 0; slots = 0; views_name = 0; atom = 0; block = 0; offset = 0; slot_names = [] }
-
 -- the port of this process at this queue: what it did, it did in a world that can be reached, and where there is a plan, its
 -- posts begin it
 pub record IsLawful (table : TableId) (setup : Setup) (me : ℕ) (port : PortView) : Type 0 where

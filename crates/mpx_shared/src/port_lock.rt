@@ -27,8 +27,7 @@ pub trait PortLock: Ledger {
 
 impl PortLock for Brand {
     ghost use Rattle.std.specs.Prelude.{[]};
-    ghost use Rattle.mpx_bus.specs.Views.{no_setup};
-    ghost use Rattle.mpx_shared.specs.LawfulPorts.{no_table};
+    ghost use Rattle.mpx_bus.specs.Views.{no_setup, no_table};
 
     ghost all = { 1 };
 

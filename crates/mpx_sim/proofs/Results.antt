@@ -19,7 +19,8 @@ use Rattle.mpx_system.specs.Runs.{AreAll, IsRun, Begin, AreWhole}
 use Rattle.mpx_system.specs.Systems.{System, IsOfHappenings, start_system}
 use Rattle.mpx_system.proofs.Happenings.{of_happenings}
 use Rattle.mpx_system.proofs.Coupling.{tells_results}
-use Rattle.mpx_system.proofs.Results.{length_taken, mapped_at, nothing_left, prefix_map, some_at, taken_at, which_has, which_same}
+use Rattle.mpx_system.proofs.Results.{length_taken, mapped_at, nothing_left, prefix_map, some_at, taken_at, which_has}
+use Rattle.mpx_meaning.proofs.Reports.{which_same}
 use Rattle.mpx_system.proofs.Settled.{stuck_ends}
 use Rattle.mpx_sim.specs.Ends.{RestsBy, nodes_of}
 use Rattle.mpx_sim.specs.Draws.{IsLater, ScheduleView, generator}

@@ -45,10 +45,6 @@ pub all_behind : {A B : Type 0} (f : A → B) (P : B → Type 0) (xs : List A) �
 all_behind f P [] h = All-nil (λ x. P (f x))
 all_behind f P (x ∷ xs) h = All-cons (λ y. P (f y)) x xs (All-head P (f x) (map f xs) h) (all_behind f P xs (All-tail P (f x) (map f xs) h))
 
--- what is so of each part is so of each frame that shows it
-pub all_same : {A B C : Type 0} (f : A → C) (g : B → C) (P : C → Type 0) (xs : List A) (ys : List B) → map f xs ≡ map g ys → All (λ y. P (g y)) ys → All (λ x. P (f x)) xs
-all_same f g P xs ys e h = all_behind f P xs (subst (All P) (sym e) (All-map P g ys h))
-
 -- FRAMES GO OUT
 
 pub out_append : (s : ScheduleView) (xs ys : List FrameView) → those_out s (xs ++ ys) ≡ those_out s xs ++ those_out (drawn_for xs s) ys

@@ -1,7 +1,6 @@
 -- What processes do side by side, as steps of a run, one process after the other.
 use Rattle.std.proofs.Common.{◌≡◌, ℕ, zero, suc, ◌+◌, ◌<◌, ◌≤◌, Bool, true, false, List, [], ◌∷◌, ◌++◌, length, map, set, get_or, Option, Some, None, refl, sym, ap, ◌∙◌, subst, arith, ◌⊎◌, inl, inr}
 use Rattle.std.specs.Prelude.{◌&&◌, IfSome, nat_eq, slice_get, if◌then◌else◌}
-use Rattle.std.specs.List.{All}
 use Rattle.std.specs.Option.{option_map}
 use Rattle.std.specs.Fork.{ChangesAt, ChangesEach}
 use Rattle.std.proofs.lemmas.Option.{slice_get-get_or, slice_get-map, slice_get_within, same_Some}
@@ -42,10 +41,6 @@ one_by_one P R step (x ∷ xs) (y ∷ ys) e each h =
 pub changed_at : {F T : Type 0} (g : Shared F (ℕ × (MutBor T × Unit {0})) (Unit {0} × (MutBor T × Unit {0}))) (f : F) (old new : List T) → ChangesEach g f old new → (place : ℕ) (p q : T) → slice_get old place ≡ Some p → slice_get new place ≡ Some q → ChangesAt g f place p q
 changed_at g f old new changes place p q e n =
     subst (λ y. ChangesAt g f place p y) (read_at new place p q n) (subst (λ x. ChangesAt g f place x (get_or new place p)) (read_at old place p p e) (changes place p (slice_get_within old place p e)).1)
-
--- what all elements of a list that was moved are
-pub all_held : {V A : Type 0} (items : V → List A) (P : A → Type 0) (v w : V) → w ≡ v → All P (items v) → All P (items w)
-all_held items P v w e h = subst (λ x. All P (items x)) (sym e) h
 
 -- FRAMES COME
 

@@ -25,23 +25,11 @@ pub tries_gathered : (ops : List Operation) (parent : Name) (draft : Draft) (x :
 tries_gathered ops parent draft (Ok g) name old mid answer new h t = subst (λ m. Tries (tried_post (gathering_name parent g) (checked_on ops m (gathering_name parent g) draft) m) answer new) h.1 (subst (λ n. Tries (tried_post n (checked_on ops mid n draft) mid) answer new) h.0 t)
 tries_gathered ops parent draft (Err refusal) name old mid answer new h t = cc h.0
 
-abbrev told_again : Result Name PostError → Result (Name × ℕ) PostError
-told_again (Ok name) = Ok (name, 0)
-told_again (Err e) = Err e
-
-refused_gathering : (ops : List Operation) (parent : Name) (draft : Draft) (x : Result GatheringView PostError) (e : PostError) (old new : NodeView) → Opens parent x (Err e) old new → Tries (tried_gathered ops parent draft x old) (Err e) new
-refused_gathering ops parent draft (Ok g) e old new h = λ other. absurd (other h.0)
-refused_gathering ops parent draft (Err refusal) e old new h = λ other. (sym (ap told_again h.0), h.1)
-
 -- on the context of a statement it is tried, or the context is refused
 pub tries_there : (ops : List Operation) (draft : Draft) (asked : Option Gathers) (on name : Name) (old mid : NodeView) (answer : Result (Name × ℕ) PostError) (new : NodeView) → IsContext on asked (Ok name) old mid
     → Tries (tried_post name (checked_on ops mid name draft) mid) answer new → Tries (tried_in ops draft asked on old) answer new
 tries_there ops draft None on name old mid answer new is t = subst (λ m. Tries (tried_post on (checked_on ops m on draft) m) answer new) is.1 (subst (λ n. Tries (tried_post n (checked_on ops mid n draft) mid) answer new) is.0 t)
 tries_there ops draft (Some asked) on name old mid answer new is t = tries_gathered ops on draft (gathers_on old on asked.tag asked.ranks) name old mid answer new is t
-
-pub refused_there : (ops : List Operation) (draft : Draft) (asked : Option Gathers) (on : Name) (e : PostError) (old new : NodeView) → IsContext on asked (Err e) old new → Tries (tried_in ops draft asked on old) (Err e) new
-refused_there ops draft None on e old new is = λ other. absurd (other is)
-refused_there ops draft (Some asked) on e old new is = refused_gathering ops on draft (gathers_on old on asked.tag asked.ranks) e old new is
 
 -- what a statement that posts comes to, where its draft is posted on its context
 pub tries_call : (ops : List Operation) (posting : Posting) (o : Option Name) (on : Name) → o ≡ Some on → (draft : Draft) → draft ≡ draft_of posting → (name : Name) (old mid : NodeView) (result : Result ℕ PostError) (new : NodeView) → IsContext on (gathers_of posting) (Ok name) old mid

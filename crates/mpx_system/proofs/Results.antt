@@ -61,10 +61,6 @@ mapped_at f xs p y e = mapped_some f (slice_get xs p) y (sym (slice_get-map f xs
 
 -- WHO WAITS
 
-pub which_same : (f g : ℕ → Bool) (n : ℕ) → ((p : ℕ) → p < n → f p ≡ g p) → which f n ≡ which g n
-which_same f g zero h = refl
-which_same f g (suc n) h = λ i. which_same f g n (λ p l. h p (omega (arith, l))) i ++ cond (h n (omega arith) i) (n ∷ []) []
-
 -- each number that passes the test is there
 pub which_has : (test : ℕ → Bool) (n p : ℕ) → p < n → test p ≡ true → (place : ℕ) × (slice_get (which test n) place ≡ Some p)
 which_has test zero p l e = absurd (omega (arith, l))

@@ -21,7 +21,8 @@ use Rattle.mpx_meaning.proofs.Ends.{start_quiet}
 use Rattle.mpx_meaning.proofs.Going.{goes-adds, goes-whole}
 use Rattle.mpx_meaning.proofs.Steps.{step_ends}
 use Rattle.mpx_system.specs.Runs.{AreAll, AreWhole, Begin}
-use Rattle.mpx_system.proofs.Results.{length_taken, mapped_at, nothing_left, prefix_map, some_at, taken_at, which_has, which_same}
+use Rattle.mpx_system.proofs.Results.{length_taken, mapped_at, nothing_left, prefix_map, some_at, taken_at, which_has}
+use Rattle.mpx_meaning.proofs.Reports.{which_same}
 use Rattle.mpx_threads.specs.declared.worker.Worked.{Worked}
 use Rattle.mpx_threads.specs.Plans.{setup_by}
 use Rattle.mpx_threads.specs.Rest.{AreAtRest, AreWaitedFor, HaveBoardInCommon, HaveComeToRest, Lacks, LacksOne}

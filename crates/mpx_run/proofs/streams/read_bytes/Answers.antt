@@ -1,5 +1,6 @@
 use Rattle.std.proofs.Common.{◌++◌, take, drop, arith, refl}
-use Rattle.mpx_run.proofs.Pieces.{consumes_keeps, consumes_more, has_room, more_read, on_err, read_full, read_more, read_stops, same_piece, stops, within_limit}
+use Rattle.join_core.specs.laws.Cases.{on_err}
+use Rattle.mpx_run.proofs.Pieces.{consumes_keeps, consumes_more, has_room, more_read, read_full, read_more, read_stops, same_piece, stops, within_limit}
 use Rattle.mpx_run.proofs.streams.read_bytes.Goals as goal
 
 pub returns-clause-input : goal.returns-clause-input
