@@ -81,7 +81,10 @@ fn is_right(alloc: Global, answer: &Option<Finished>, node: &Node) -> bool {
 }
 
 // Three ranks remember. Each answer is the standard's value of their first call, though it was let go.
-fn ran<R: Threads + Wait + Sync>(rt: &R, alloc: Global) -> Result<Ran<Option<Finished>>, RanksError>
+fn three_ranks<R: Threads + Wait + Sync>(
+    rt: &R,
+    alloc: Global,
+) -> Result<Ran<Option<Finished>>, RanksError>
     ensures { IfOk result (λ ran. AreValues 3 ran.answers.items (map node_of ran.nodes.items)) }
 {
     let ops = Ops::none(alloc);
@@ -91,7 +94,7 @@ fn ran<R: Threads + Wait + Sync>(rt: &R, alloc: Global) -> Result<Ran<Option<Fin
 
 // How many of the three are right.
 fn count_right<R: Threads + Wait + Sync>(rt: &R, alloc: Global) -> Result<usize, RanksError> {
-    let ran = ran(rt, alloc)?;
+    let ran = three_ranks(rt, alloc)?;
     let mut count: usize = 0;
     for (answer, node) in ran.answers.iter().zip(ran.nodes.iter()) {
         if is_right(alloc, answer, node) {

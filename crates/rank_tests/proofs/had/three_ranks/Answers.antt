@@ -3,7 +3,7 @@ use Rattle.mpx_node.specs.Shown.{node_of}
 use Rattle.mpx_num.specs.declared.own.Operation.{Operation}
 use Rattle.mpx_ranks.specs.Ranks.{HaveRun}
 use Rattle.rank_tests.proofs.Values.{gives_next, values_of}
-use Rattle.rank_tests.proofs.had.ran.Goals as goal
+use Rattle.rank_tests.proofs.had.three_ranks.Goals as goal
 
 pub returns : goal.returns
 returns g c =
