@@ -1,3 +1,4 @@
 mod Answering
+mod Lists
 mod Telling
 mod Saying

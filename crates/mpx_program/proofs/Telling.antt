@@ -1,5 +1,6 @@
 -- What is told of what was found in a script.
-use Rattle.std.proofs.Common.{ℕ, List, [], Result, Ok, Err, IfOk, inl, inr, subst}
+use Rattle.std.proofs.Common.{◌≡◌, ℕ, List, [], Bool, true, Result, Ok, Err, IfOk, inl, inr, subst, sym}
+use Rattle.std.specs.Prelude.{◌⊎◌, IfErr}
 use Rattle.mpx_num.specs.declared.own.Operation.{Operation}
 use Rattle.mpx_statement.specs.declared.job.Command.{Command}
 use Rattle.mpx_statement.specs.declared.job.Command.TheVariants.{Run, Eval, Check}
@@ -12,7 +13,7 @@ use Rattle.mpx_explain.specs.Findings.{AreTold}
 use Rattle.mpx_run.specs.declared.end.End.{End}
 use Rattle.mpx_run.specs.declared.texts.RunError.{RunError}
 use Rattle.mpx_waiting.specs.ToldLines.{waiting_told}
-use Rattle.mpx_program.specs.Explained.{AreCalls, IsBehind, IsFound, IsHeaded, HasTold, TellsEarly, TellsMore}
+use Rattle.mpx_program.specs.Explained.{AreCalls, IsBehind, IsFound, IsHeaded, HasTold, TellsEarly, TellsEvaluation, TellsOf, unexplained}
 use Rattle.mpx_program.specs.declared.found.Found.{Found}
 use Rattle.mpx_program.specs.declared.found.Found.TheVariants as F
 
@@ -38,12 +39,20 @@ module _ (ops : List Operation) (script : ScriptView) (text : List ℕ) (waiting
 
 -- what is told by what was found is of the script's evaluation, whatever the command
 pub found_tells : (ops : List Operation) (command : Command) (script : ScriptView) (text : List ℕ) (found : Found) (answer : Result End RunError) (more : List ℕ) → IsFound ops command script found → HasTold script text found answer more
-    → IfOk answer (λ end. TellsMore ops command script text end more)
+    → IfOk answer (λ end. TellsOf ops command script text end more)
 found_tells ops command script text found (Err error) more is told = tt
-found_tells ops command script text F.Nothing (Ok end) more is told = inl told
-found_tells ops Check script text (F.Certain found) (Ok end) more is told = inr (subst (λ cs. AreTold text cs [] more) is told)
+found_tells ops command script text F.Nothing (Ok end) more is told = absurd is
+found_tells ops command script text F.Wanting (Ok end) more is told = absurd told
+found_tells ops Check script text (F.Certain found) (Ok end) more is told = subst (λ cs. AreTold text cs [] more) is told
 found_tells ops Run script text (F.Certain found) (Ok end) more is told = absurd is
 found_tells ops Eval script text (F.Certain found) (Ok end) more is told = absurd is
 found_tells ops Check script text (F.InEvaluation found) (Ok end) more is told = absurd is
-found_tells ops Run script text (F.InEvaluation found) (Ok end) more is told = inr (told ops is)
-found_tells ops Eval script text (F.InEvaluation found) (Ok end) more is told = inr (told ops is)
+found_tells ops Run script text (F.InEvaluation found) (Ok end) more is told = told ops is
+found_tells ops Eval script text (F.InEvaluation found) (Ok end) more is told = told ops is
+
+-- what is told is told, and so is that memory was wanting for it
+pub told_or_wanting : {V E : Type 0} (told : Result V E) (items : V → List ℕ) (script : ScriptView) (text : List ℕ) (found : Found) (answer : Result End RunError) (explains : Bool) (more : List ℕ)
+    → (explains ≡ true → IfOk told (λ v. HasTold script text found answer (items v))) → IfOk told (λ v. more ≡ items v) → IfErr told (λ e. more ≡ unexplained)
+    → explains ≡ true → (more ≡ unexplained) ⊎ HasTold script text found answer more
+told_or_wanting (Ok v) items script text found answer explains more tells is wanting on = inr (subst (HasTold script text found answer) (sym is) (tells on))
+told_or_wanting (Err e) items script text found answer explains more tells is wanting on = inl wanting
