@@ -10,7 +10,8 @@ It checks that each crate stands in a room, and on crates above it in crates.txt
 that the picture and the table are what it would write. Where a crate comes or goes, --write is enough.
 
 Of the way, which crates are entered is what --seen says (29 November 2026, 50ce7a5e): the program of bench/look keeps each function apart. Of join_core a
-run without a frame enters only what drops its values. That each step back is a call is seen too; that there are no others was read in the sources."""
+run without a frame enters only what drops its values. That each step back is a call is seen too; that there are no others was read in the sources, call
+by call of those that are seen between crates."""
 import html
 import pathlib
 import re
@@ -27,20 +28,21 @@ BEGIN, END = "<!-- bench/house.py writes this table -->\n", "<!-- until here -->
 ENTERED = """gossipmpi mpx_shell mpx_words mpx_affine mpx_num mpx_program mpx_run mpx_script mpx_statement mpx_kind mpx_post mpx_sim mpx_node
 mpx_board mpx_birth mpx_name mpx_group mpx_format join_nest join_core mpx_rank mpx_value mpx_match mpx_fold mpx_meaning""".split()
 FRAMED = "mpx_delta mpx_digest mpx_encode mpx_rope mpx_wire mpx_decode".split()
-# Where control comes back into a crate that it had left: from, to, and the function that is called; of `print` the run returns to it. What reads, compares,
-# copies or prints a number or a name by the crates of room 2 isn't counted.
+# The steps back: from, to, and the function that is called. Each hands on a script, a statement, a draft, a post, a row, a result or a text into a crate
+# that control had left. Passed over, of what is seen: look-ups, copies, what a call makes, frames, messages, who looks on, and what is made before the
+# first turn; of crates of room 2 all but `apply`.
 BACK = [
-    ("mpx_program", "mpx_words", "call_of"),
+    ("mpx_program", "mpx_run", "print_job"),
     ("mpx_rank", "mpx_sim", "post"),
     ("mpx_sim", "mpx_statement", "draft"),
     ("mpx_node", "mpx_post", "check_call"),
     ("mpx_sim", "mpx_node", "harvest_to"),
     ("mpx_node", "mpx_board", "row"),
     ("mpx_fold", "mpx_num", "apply"),
+    ("mpx_sim", "mpx_rank", "go_on"),
     ("mpx_rank", "mpx_sim", "hear"),
     ("mpx_sim", "mpx_node", "result"),
-    ("mpx_sim", "mpx_rank", "push_where"),
-    ("mpx_sim", "mpx_run", "print"),
+    ("mpx_program", "mpx_run", "write_printed"),
 ]
 
 
@@ -83,7 +85,7 @@ def first_line(crate):
 def table(found):
     """The rooms with their crates, and the steps back."""
     rows = [f"| {at} {name}: {what} | {' '.join(f'[{crate}](../crates/{crate}/README.md)' for crate in crates)} |" for at, (name, what, crates) in enumerate(found, 1)]
-    steps = [f"| {at} | `{start}` | `{goal}`, `{name}`{', to which the run returns' if name == 'print' else ''} |" for at, (start, goal, name) in enumerate(BACK, 1)]
+    steps = [f"| {at} | `{start}` | `{goal}`, `{name}` |" for at, (start, goal, name) in enumerate(BACK, 1)]
     return "\n".join(["| Room | Crates |", "|---|---|", *rows, "", "| Step back | From | Into, by |", "|---|---|---|", *steps]) + "\n"
 
 
@@ -182,7 +184,7 @@ def differs():
         yield from (f"{crate} is entered by {ranks} ranks, and isn't told" for crate in sorted(entered - told))
         yield from (f"{crate} is told, and isn't entered by {ranks} ranks" for crate in sorted(told - entered))
     for start, goal, name in BACK:
-        if name != "print" and not any(above.startswith(f"{start}::") and re.match(rf"{goal}::.*\b{name}\b", below) for above, below in calls):
+        if not any(above.startswith(f"{start}::") and re.match(rf"{goal}::.*\b{name}\b", below) for above, below in calls):
             yield f"{start} doesn't call {name} of {goal}"
 
 

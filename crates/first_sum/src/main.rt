@@ -1,19 +1,37 @@
 //! The program `first_sum`: four ranks, each in a thread of its own, add their numbers, split, and gather.
 #![tactic(auto)]
 
-use mpx_comm::{Comm, Desk, Host, integer_of, integers_of};
+use join_core::OutOfMemory;
+use mpx_comm::{CallError, Comm, Desk, GivenError, Host, integer_of, integers_of};
 use mpx_num::{Numbers, Op, Ops, Ty};
 use mpx_ranks::{Program, RanksError, ranks};
-use std::alloc::Global;
+use std::alloc::{AllocError, Global};
 use std::process::ExitCode;
+use thiserror::Error;
 
 // So many turns a call waits at most.
 const TURNS: u64 = 1_000_000;
 
+/// Why a rank gives up: each error of its calls comes here by `?`.
+#[derive(Debug, Drop, Error)]
+pub enum Why {
+    #[error("{0}")]
+    Call(#[from] CallError),
+    #[error("{0}")]
+    Given(#[from] GivenError),
+    #[error("{0}")]
+    Memory(#[from] OutOfMemory),
+    #[error("out of memory")]
+    Alloc(#[from(alloc)] AllocError),
+    /// A call gave no number, or no communicator.
+    #[error("no answer")]
+    NoAnswer,
+}
+
 struct FirstSum;
 
 impl Program for FirstSum {
-    type Answer = Option<String>;
+    type Answer = Result<String, Why>;
 
     fn run<H: Host>(
         &self,
@@ -21,16 +39,16 @@ impl Program for FirstSum {
         desk: &mut Desk<H>,
         world: &Comm,
         ops: &Ops,
-    ) -> Option<String> {
+    ) -> Result<String, Why> {
         let mine = i128::from(world.rank()) + 1;
         let sum = sum_of(alloc, desk, world, mine, ops)?;
         let half = half_of(alloc, desk, world, mine % 2, ops)?;
         let all = gathered(alloc, desk, &half, mine, ops)?;
-        format!(in alloc; "{sum}, {} of {}, {all:?}", half.rank(), half.size()).ok()
+        Ok(format!(in alloc; "{sum}, {} of {}, {all:?}", half.rank(), half.size())?)
     }
 
-    fn gives_up(&self, answer: &Option<String>) -> bool {
-        answer.is_none()
+    fn gives_up(&self, answer: &Result<String, Why>) -> bool {
+        answer.is_err()
     }
 }
 
@@ -41,10 +59,10 @@ fn sum_of<H: Host>(
     world: &Comm,
     mine: i128,
     ops: &Ops,
-) -> Option<i64> {
+) -> Result<i64, Why> {
     let mine = Numbers::one(mine);
-    let sum = desk.allreduce(alloc, world, Op::Sum, Ty::I64, mine, TURNS, ops);
-    integer_of(&sum.ok()?)
+    let sum = desk.allreduce(alloc, world, Op::Sum, Ty::I64, mine, TURNS, ops)?;
+    integer_of(&sum).ok_or(Why::NoAnswer)
 }
 
 // The communicator of all ranks that give this colour.
@@ -54,11 +72,11 @@ fn half_of<H: Host>(
     world: &Comm,
     colour: i128,
     ops: &Ops,
-) -> Option<Comm> {
-    let split = desk.split(alloc, world, Some(colour), 0, TURNS, ops).ok()?;
+) -> Result<Comm, Why> {
+    let split = desk.split(alloc, world, Some(colour), 0, TURNS, ops)?;
     let half = Comm::of(alloc, &split);
     drop(split);
-    half.ok()?
+    half?.ok_or(Why::NoAnswer)
 }
 
 // What the ranks of the communicator give, at its rank 0; nothing at the others.
@@ -68,21 +86,25 @@ fn gathered<H: Host>(
     half: &Comm,
     mine: i128,
     ops: &Ops,
-) -> Option<Vec<i64>> {
+) -> Result<Vec<i64>, Why> {
     let mine = Numbers::one(mine);
-    let all = desk.gather(alloc, half, 0, Ty::I64, mine, TURNS, ops);
-    integers_of(alloc, &all.ok()?).ok()
+    let all = desk.gather(alloc, half, 0, Ty::I64, mine, TURNS, ops)?;
+    Ok(integers_of(alloc, &all)?)
 }
 
 fn main(rt: HostRuntime) -> Result<ExitCode, RanksError> {
     let ops = Ops::none(rt.alloc());
     let ran = ranks(&rt, rt.alloc(), 4, 0, &FirstSum, &ops)?;
     for (rank, answer) in ran.answers.iter().enumerate() {
-        let Some(text) = answer else {
-            let _told = eprintln!(rt; "rank {rank} gave up");
-            return Ok(ExitCode::FAILURE);
-        };
-        let _printed = println!(rt; "rank {rank}: {text}");
+        match answer {
+            Ok(text) => {
+                let _printed = println!(rt; "rank {rank}: {text}");
+            }
+            Err(why) => {
+                let _told = eprintln!(rt; "rank {rank} gave up: {why}");
+                return Ok(ExitCode::FAILURE);
+            }
+        }
     }
     Ok(ExitCode::SUCCESS)
 }

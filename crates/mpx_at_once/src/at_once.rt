@@ -25,6 +25,10 @@ pub enum AtOnceError {
 }
 
 impl From<OutOfMemory> for AtOnceError {
+    ghost use Rattle.mpx_at_once.specs.declared.at_once.AtOnceError.TheVariants.{OutOfMemory};
+
+    ghost from_gives = { λ _ e. e ≡ OutOfMemory };
+
     fn from(_e: OutOfMemory) -> AtOnceError {
         AtOnceError::OutOfMemory
     }

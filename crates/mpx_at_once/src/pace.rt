@@ -1,4 +1,4 @@
-//! How threads that work in turns rest while nothing is new, and wake each other: of none of it anything is claimed.
+//! How threads that work in turns rest while nothing is new, and wake each other. Nothing is claimed of that.
 use std::sync::Wait;
 use std::sync::atomic::{AtomicU64, Ordering};
 use std::thread::yield_now;
@@ -6,6 +6,12 @@ use std::time::Duration;
 
 // After so many turns in a row that brought nothing new a thread sleeps.
 const BUSY: u32 = 5;
+
+// So often a thread that waits lets the others have their turn before it sleeps: to be woken takes longer than most turns.
+const YIELDS: u32 = 20;
+
+// So long it sleeps at a time.
+const SECOND: u64 = 1_000_000;
 
 /// Threads that sleep until another wakes all of them: how often all were woken, and how many sleep.
 #[derive(Drop)]
@@ -36,8 +42,25 @@ impl Sleepers {
         }
     }
 
-    /// Sleeps for so many microseconds at most. It ends once all are woken, and at once where they were woken more often than this.
-    pub fn sleep<R: Wait>(&self, rt: &R, wakes: u64, micros: u64) {
+    /// Waits until they are woken more often than this.
+    pub fn wait<R: Wait>(&self, rt: &R, wakes: u64) {
+        for _ in 0..YIELDS {
+            if self.wakes() != wakes {
+                return;
+            }
+            yield_now();
+        }
+        for _ in rt.forever() {
+            if self.wakes() != wakes {
+                return;
+            }
+            self.sleep(rt, wakes, SECOND);
+        }
+        unreachable!()
+    }
+
+    // Sleeps for so many microseconds at most. It ends once all are woken, and at once where they were woken more often than this.
+    fn sleep<R: Wait>(&self, rt: &R, wakes: u64, micros: u64) {
         let Ok(seen) = u32::try_from(wakes & 0xffff_ffff) else {
             return;
         };

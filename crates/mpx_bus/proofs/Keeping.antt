@@ -1,6 +1,6 @@
 -- What a process keeps by its acts: what its board says, and each result that it doesn't let go.
-use Rattle.std.proofs.Common.{◌≡◌, ◌⊎◌, ℕ, suc, ◌<◌, List, [], ◌∷◌, ◌++◌, Some, refl, sym, ap, ◌∙◌, subst, inl, inr}
-use Rattle.std.specs.Prelude.{slice_get}
+use Rattle.std.proofs.Common.{◌≡◌, ◌⊎◌, ℕ, All, List, [], ◌∷◌, Some, refl, sym, subst, inl, inr}
+use Rattle.std.proofs.lemmas.List.Elements.{All-head, All-tail}
 use Rattle.mpx_name.specs.Name.{Name}
 use Rattle.mpx_num.specs.declared.own.Operation.{Operation}
 use Rattle.mpx_board.specs.Boards.{IsBoardBelow, own_acks}
@@ -9,15 +9,12 @@ use Rattle.mpx_board.specs.Looks.{look}
 use Rattle.mpx_board.proofs.Facts.{below_through}
 use Rattle.mpx_node.specs.declared.finished.Finished.{Finished}
 use Rattle.mpx_node.specs.Nodes.{checked_on, gathers_on, next_result, result_on}
-use Rattle.mpx_node.proofs.Forgotten.{result_or_forgotten}
-use Rattle.mpx_post.proofs.Lists.{slice_get-append}
 use Rattle.mpx_world.specs.Worlds.{ProcessView}
 use Rattle.mpx_world.proofs.Drafted.{kept_checked}
 use Rattle.mpx_world.proofs.Kept.{Kept, kept_drops, kept_itself, kept_learns, kept_opens, kept_stores}
-use Rattle.mpx_world.proofs.Lists.{names_same}
 use Rattle.mpx_bus.specs.declared.act.Act.{Act}
 use Rattle.mpx_bus.specs.declared.act.Act.TheVariants as A
-use Rattle.mpx_bus.specs.Acts.{HasLetGo, act_on, after, part_of, said_on}
+use Rattle.mpx_bus.specs.Acts.{LetsNothingGo, act_on, after, part_of, said_on}
 
 -- all is kept, or results are let go
 kept_or_lets : (ops : List Operation) (a : Act) (v : ProcessView) → Kept v (act_on ops a v) ⊎ ((x : Name × ℕ) × (a ≡ A.Forgot x.0 x.1))
@@ -44,37 +41,13 @@ board_after ops (a ∷ acts) v = below_through v.node.board (act_on ops a v).nod
 
 -- RESULTS
 
-let_go_next : (a : Act) (acts : List Act) (name : Name) (call : ℕ) → HasLetGo acts name call → HasLetGo (a ∷ acts) name call
-let_go_next a acts name call g = record { place = suc g.place; below = g.below; there = g.there; within = g.within }
-
-pub let_go_before : (early late : List Act) (name : Name) (call : ℕ) → HasLetGo early name call → HasLetGo (early ++ late) name call
-let_go_before early late name call g = record { place = g.place; below = g.below; there = slice_get-append early late g.place (A.Forgot name g.below) g.there; within = g.within }
-
-pub let_go_behind : (early late : List Act) (name : Name) (call : ℕ) → HasLetGo late name call → HasLetGo (early ++ late) name call
-let_go_behind [] late name call g = g
-let_go_behind (a ∷ early) late name call g = let_go_next a (early ++ late) name call (let_go_behind early late name call g)
-
-first_lets : (a : Act) (acts : List Act) (n name : Name) (below call : ℕ) → a ≡ A.Forgot n below → name ≡ n → call < below → HasLetGo (a ∷ acts) name call
-first_lets a acts n name below call is same l = record { place = 0; below = below; there = ap Some is ∙ (λ i. Some (A.Forgot (sym same i) below)); within = l }
-
-held_act : (ops : List Operation) (a : Act) (acts : List Act) (v : ProcessView) (name : Name) (call : ℕ) (f : Finished) → result_on v.node name call ≡ Some f
-    → (result_on (act_on ops a v).node name call ≡ Some f) ⊎ HasLetGo (a ∷ acts) name call
-held_act ops a acts v name call f e = elim (kept_or_lets ops a v) [
-  | inl kept ↦ inl (kept.results_kept name call f e)
-  | inr lets ↦ elim (result_or_forgotten lets.0.0 lets.0.1 v.node name call f e) [
-    | inl there ↦ inl (subst (λ (x : Act). result_on (act_on ops x v).node name call ≡ Some f) (sym lets.1) there)
-    | inr gone ↦ inr (first_lets a acts lets.0.0 name lets.0.1 call lets.1 (names_same name lets.0.0 gone.0) gone.1)
-  ]
+kept_act : (ops : List Operation) (a : Act) (v : ProcessView) → LetsNothingGo a → Kept v (act_on ops a v)
+kept_act ops a v keeps = elim (kept_or_lets ops a v) [
+  | inl kept ↦ kept
+  | inr lets ↦ absurd (subst LetsNothingGo lets.1 keeps)
 ]
 
--- a result is still there, or among the acts it was let go
-pub held_after : (ops : List Operation) (acts : List Act) (v : ProcessView) (name : Name) (call : ℕ) (f : Finished) → result_on v.node name call ≡ Some f
-    → (result_on (after ops acts v).node name call ≡ Some f) ⊎ HasLetGo acts name call
-held_after ops [] v name call f e = inl e
-held_after ops (a ∷ acts) v name call f e = elim (held_act ops a acts v name call f e) [
-  | inl there ↦ elim (held_after ops acts (act_on ops a v) name call f there) [
-    | inl still ↦ inl still
-    | inr gone ↦ inr (let_go_next a acts name call gone)
-  ]
-  | inr gone ↦ inr gone
-]
+-- where none of the acts lets results go, each result is still there
+pub results_after : (ops : List Operation) (acts : List Act) (v : ProcessView) → All LetsNothingGo acts → (name : Name) (call : ℕ) (f : Finished) → result_on v.node name call ≡ Some f → result_on (after ops acts v).node name call ≡ Some f
+results_after ops [] v keep name call f e = e
+results_after ops (a ∷ acts) v keep name call f e = results_after ops acts (act_on ops a v) (All-tail LetsNothingGo a acts keep) name call f ((kept_act ops a v (All-head LetsNothingGo a acts keep)).results_kept name call f e)

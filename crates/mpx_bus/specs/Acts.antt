@@ -1,5 +1,5 @@
 -- What the acts of a process come to.
-use Rattle.std.specs.Prelude.{◌≡◌, ◌<◌, ◌≤◌, ◌⊎◌, ℕ, List, [], ◌∷◌, ◌++◌, slice_get, Some}
+use Rattle.std.specs.Prelude.{◌≡◌, ◌≤◌, ◌⊎◌, ℕ, List, [], ◌∷◌, ◌++◌, slice_get, Some}
 use Rattle.mpx_name.specs.Name.{Name}
 use Rattle.mpx_num.specs.declared.own.Operation.{Operation}
 use Rattle.mpx_board.specs.declared.board.Board.{Board}
@@ -60,12 +60,10 @@ pub record DidIn (journal : List Act) (a : Act) : Type 0 where
   pub at : ℕ
   pub did : slice_get journal at ≡ Some a
 
--- among these acts the process let the results of a context's calls go, up to this one
-pub record HasLetGo (acts : List Act) (name : Name) (call : ℕ) : Type 0 where
-  pub place : ℕ
-  pub below : ℕ
-  pub there : slice_get acts place ≡ Some (A.Forgot name below)
-  pub within : call < below
+-- an act that lets no results go
+abbrev pub LetsNothingGo : Act → Type 0
+LetsNothingGo (A.Forgot name below) = ⊥
+LetsNothingGo a = Unit {0}
 
 -- it has what it says there, or said so before
 abbrev pub SaysNoMore : Board → ProcessView → Type 0

@@ -28,8 +28,8 @@ use std::alloc::{AllocFailed, Global};
 ///
 /// A call by its name in MPI posts what the member gives, as the member's next call on the communicator. `items` are numbers of the
 /// type `ty`, of `2int` two for each item, and `ops` are the job's own operations. What members get stands in rank order. The ranks,
-/// tags and counts that a member gives are whole numbers, `i128` and in lists [`Numbers`]: one that is out of range is a refusal. Those that
-/// it is told are in range, a rank or a size a `u8`.
+/// tags and counts that a member gives are whole numbers, an `i128` each, or [`Numbers`]: one out of range is a refusal. A rank or a size
+/// that it is told is in range, and a `u8`.
 ///
 /// A call that blocks then waits for its result: it looks once before the first turn of the host and once after each, and `turns`
 /// is how many turns the host makes at most. It answers the result, which is a fault where the members' posts don't fit together,

@@ -1,3 +1,3 @@
-pub mod Ends
+pub mod FoundEnds
 pub mod Summing
 pub mod Telling

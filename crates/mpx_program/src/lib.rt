@@ -14,5 +14,4 @@ mod reason;
 mod status;
 
 pub use job::{Exit, refuse, run_job, run_job_in_threads};
-pub use mpx_run::{Observer, Progress};
 pub use status::{status_of, write_message};

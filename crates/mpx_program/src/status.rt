@@ -160,7 +160,10 @@ fn write_waiting<W: Write>(ranks: &[u8], writer: &mut W) -> io::Result<()>
 }
 
 /// Writes clap's text of a refusal, or `out of memory`. No clause says what clap's text is.
-pub fn write_refusal<W: Write>(refusal: &clap::Error, writer: &mut W) -> Result<(), WriteFault>
+pub(crate) fn write_refusal<W: Write>(
+    refusal: &clap::Error,
+    writer: &mut W,
+) -> Result<(), WriteFault>
     ensures { kind_of refusal.now ≡ ErrorKind.OutOfMemory → Tells (W.contents writer.old) (W.contents writer.new) result (codes "out of memory\n") }
 {
     match refusal.kind() {

@@ -38,7 +38,8 @@ pub struct Interpreter<'a, C: Carrier> {
     requests: BTreeMap<Word, C::Call>,
     todo: &'a [Statement],
     waits: Option<Wait<'a, C::Call>>,
-    lines: Vec<String>,
+    /// They are taken from here at the end.
+    pub lines: Vec<String>,
     origins: Vec<Origin>,
 }
 

@@ -6,11 +6,12 @@ use Rattle.std.proofs.lemmas.Option.{same_Some}
 use Rattle.atomic_table.specs.Seated.{TableId}
 use Rattle.mpx_at_once.proofs.Tasks.{get_within, mapped_at, within_get}
 use Rattle.mpx_at_once.specs.Tasks.{AllGive}
-use Rattle.mpx_bus.specs.Acts.{node_at}
+use Rattle.mpx_bus.specs.Acts.{node_at, process_at}
 use Rattle.mpx_bus.specs.Buses.{table_of}
 use Rattle.mpx_bus.specs.declared.act.Setup.{Setup}
 use Rattle.mpx_bus.specs.Meetings.{HaveAllMet}
-use Rattle.mpx_bus.specs.Ports.{IsFleet, IsNew, PortView, node_in}
+use Rattle.mpx_bus.specs.Ports.{IsFleet, IsNew, PortView, node_in, process_in}
+use Rattle.mpx_bus.specs.Rule.{world_of}
 use Rattle.mpx_comm.specs.declared.comm.Comm.{Comm}
 use Rattle.mpx_comm.specs.Later.{Later}
 use Rattle.mpx_node.specs.Nodes.{NodeView, start_node}
@@ -23,8 +24,10 @@ use Rattle.mpx_node.specs.Shown.{node_of}
 use Rattle.mpx_ranks.specs.declared.job.Ran.{Ran}
 use Rattle.mpx_ranks.specs.declared.work.Work.{Work}
 use Rattle.mpx_ranks.specs.declared.work.Worked.{Worked}
+use Rattle.mpx_ranks.proofs.Values.{had_value}
+use Rattle.mpx_ranks.specs.Had.{GoesOn, HadBy, HadIn}
 use Rattle.mpx_ranks.specs.Members.{IsSeated, setup_of}
-use Rattle.mpx_ranks.specs.Ranks.{Answers, AreOfOneHistory, Gives, HasWorked, HaveRun, IsReady, world_at}
+use Rattle.mpx_ranks.specs.Ranks.{Answers, AreOfOneHistory, Gives, HasAnswered, HasWorked, HaveRun, IsReady, world_at, world_in}
 use Rattle.mpx_ranks.specs.Works.{AreOfBus, AreWorks, IsWork, answer_of, port_of}
 
 -- LISTS
@@ -74,26 +77,33 @@ first_and_others (p ∷ ports) others first l e is = λ k. e k ∷ is k
 new_node : (setup : Setup) (table : TableId) (me : ℕ) (b : PortView) → IsNew setup table me b → node_in b ≡ start_node me setup.ranks setup.size
 new_node setup table me b new = λ k. node_at (new.setup_is k) (new.me_is k) (new.journal_is k)
 
--- a program's answer, from where the rank began
-pub answers_of : {A : Type 0} (gives : Gives A) (setup : Setup) (table : TableId) (me ranks : ℕ) (port before : PortView) (after node : NodeView) (world : Comm) (answer : A) → IsNew setup table me port → setup.ranks ≡ ranks
-    → before ≡ port → world ≡ world_at ranks me → gives before.setup.operations world (node_in before) after answer → Later after node → Answers gives setup.operations ranks setup.size me answer node
-answers_of gives setup table me ranks port before after node world answer new count same is gave later =
+-- a program's answer, from where the rank began to where it returned
+pub has_answered : {A : Type 0} (gives : Gives A) (setup : Setup) (table : TableId) (me ranks : ℕ) (port before returned last : PortView) (world : Comm) (answer : A) → IsNew setup table me port → setup.ranks ≡ ranks
+    → before ≡ port → world ≡ world_at ranks me → gives before.setup.operations world (node_in before) (node_in returned) (HadIn returned) answer
+    → GoesOn returned last → last.setup ≡ setup → last.me ≡ me → Later (node_in returned) (node_in last) → HasAnswered gives setup me answer last.journal
+has_answered gives setup table me ranks port before returned last world answer new count same is gave on setup_is me_is later =
     let ops : before.setup.operations ≡ setup.operations = ap (λ (b : PortView). b.setup.operations) same ∙ ap (λ (s : Setup). s.operations) new.setup_is in
-    let began : node_in before ≡ start_node me ranks setup.size = ap node_in same ∙ new_node setup table me port new ∙ ap (λ n. start_node me n setup.size) count in
+    let all : world ≡ world_at setup.ranks me = is ∙ ap (λ n. world_at n me) (sym count) in
+    let began : node_in before ≡ start_node me setup.ranks setup.size = ap node_in same ∙ new_node setup table me port new in
+    let its : returned.setup ≡ setup = sym on.0.setup ∙ setup_is in
+    let own : returned.me ≡ me = sym on.0.me ∙ me_is in
     record {
-      after = after;
-      gave = subst (λ (z : List Operation × (Comm × NodeView)). gives z.0 z.1.0 z.1.1 after answer) (λ k. (ops k, (is k, began k))) gave;
-      later = later;
+      did = returned.journal;
+      since = on.1.more;
+      whole = on.1.whole;
+      gave = subst (λ (z : List Operation × (Comm × (NodeView × (Setup × ℕ)))). gives z.0 z.1.0 z.1.1.0 (node_at z.1.1.1.0 z.1.1.1.1 returned.journal) (HadBy z.1.1.1.0 z.1.1.1.1 returned.journal) answer)
+          (λ k. (ops k, (all k, (began k, (its k, own k))))) gave;
+      later = subst (λ (z : (Setup × ℕ) × (Setup × ℕ)). Later (node_at z.0.0 z.0.1 returned.journal) (node_at z.1.0 z.1.1 last.journal)) (λ k. ((its k, own k), (setup_is k, me_is k))) later;
     }
 
 -- its port and its answer, by what is lent
 pub has_worked : {A : Type 0} (gives : Gives A) (operations : List Operation) (ranks size me : ℕ) (table : TableId) (port b : PortView) (answer : Option A) → IsNew (setup_of operations ranks size) table me port → IsSeated port.table port.setup me b
-    → IfSome answer (λ a. Answers gives port.setup.operations ranks port.setup.size me a (node_in b)) → HasWorked gives port.setup.operations ranks size me table b answer
+    → IfSome answer (λ a. HasAnswered gives port.setup me a b.journal) → HasWorked gives port.setup.operations ranks size me table b answer
 has_worked gives operations ranks size me table port b answer new sits gave =
     let again : port.setup ≡ setup_of port.setup.operations ranks size = new.setup_is ∙ sym (ap (λ (s : Setup). setup_of s.operations ranks size) new.setup_is) in
     record {
       sits = (sits.0 ∙ new.table_is, (sits.1.0 ∙ again, sits.1.1));
-      gave = subst (λ n. IfSome answer (λ a. Answers gives port.setup.operations ranks n me a (node_in b))) (ap (λ (s : Setup). s.size) new.setup_is) gave;
+      gave = subst (λ s. IfSome answer (λ a. HasAnswered gives s me a b.journal)) again gave;
     }
 
 -- WHAT EACH PROCESS DID
@@ -128,7 +138,7 @@ module _ {K P R A : Type 0} (gives : P → Gives A) (program : P) (operations : 
   of_bus i b e = let s = seated_at i b e in (s.0, s.1.0)
 
   module _ (answers : List A) (nodes : List NodeView) (some : ranks ≤ size) (told : map Some answers ≡ take ranks (map answer_of worked)) (nodes_are : nodes ≡ map node_in (map port_of worked)) (met : HaveAllMet setup (map port_of worked)) where
-    one_history : AreOfOneHistory operations ranks size nodes
+    abbrev one_history : AreOfOneHistory operations ranks size nodes
     one_history = record {
       happenings = met.happenings;
       may = met.may;
@@ -139,24 +149,35 @@ module _ {K P R A : Type 0} (gives : P → Gives A) (program : P) (operations : 
       agree = all_agree (world_by operations ranks size met.happenings) (well_by operations ranks size met.happenings met.may).holds;
     }
 
-    answered_at : (rank : ℕ) (answer : A) (node : NodeView) → slice_get answers rank ≡ Some answer → slice_get nodes rank ≡ Some node → Answers (gives program) operations ranks size rank answer node
+    answered_at : (rank : ℕ) (answer : A) (node : NodeView) → slice_get answers rank ≡ Some answer → slice_get nodes rank ≡ Some node → Answers (gives program) setup rank answer (world_in operations ranks size nodes one_history) node
     answered_at rank answer node e f =
         let here : slice_get (map answer_of worked) rank ≡ Some (Some answer) = slice_get-take ranks (map answer_of worked) rank (Some answer) (ap (λ xs. slice_get xs rank) (sym told) ∙ map_at Some answers rank answer e) in
         let w = mapped_at answer_of worked rank (Some answer) here in
-        let gave : IfSome (Some answer) (λ a. Answers (gives program) operations ranks size rank a (node_in w.0.port)) = subst (λ o. IfSome o (λ a. Answers (gives program) operations ranks size rank a (node_in w.0.port))) w.1.1 (worked_at rank w.0 w.1.0).gave in
-        let is : node_in w.0.port ≡ node = same_Some (node_in w.0.port) node (sym (map_at node_in (map port_of worked) rank w.0.port (map_at port_of worked rank w.0 w.1.0)) ∙ ap (λ ns. slice_get ns rank) (sym nodes_are) ∙ f) in
-        subst (Answers (gives program) operations ranks size rank answer) is gave
+        let port : PortView = w.0.port in
+        let there : slice_get (map port_of worked) rank ≡ Some port = map_at port_of worked rank w.0 w.1.0 in
+        let seat : IsSeated table setup rank port = (worked_at rank w.0 w.1.0).sits in
+        let gave : HasAnswered (gives program) setup rank answer port.journal = subst (λ o. IfSome o (λ a. HasAnswered (gives program) setup rank a port.journal)) w.1.1 (worked_at rank w.0 w.1.0).gave in
+        let is : node_in port ≡ node = same_Some (node_in port) node (sym (map_at node_in (map port_of worked) rank port there) ∙ ap (λ ns. slice_get ns rank) (sym nodes_are) ∙ f) in
+        let last : node_in port ≡ node_at setup rank port.journal = λ k. node_at (seat.1.0 k) (seat.1.1 k) port.journal in
+        let stood : process_in port ≡ process_at setup rank (gave.did ++ gave.since) = λ k. process_at (seat.1.0 k) (seat.1.1 k) (gave.whole k) in
+        let came : (world_of setup met.happenings).each rank ≡ process_at setup rank (gave.did ++ gave.since) = ap (λ k. (world_of setup met.happenings).each k) (sym seat.1.1) ∙ met.each rank port there ∙ stood in
+        record {
+          did = gave.did;
+          gave = gave.gave;
+          later = subst (Later (node_at setup rank gave.did)) (sym last ∙ is) gave.later;
+          values = had_value setup met.happenings met.may rank gave.did gave.since came;
+        }
 
-    pub have_run : (relays : ℕ) → size ≡ ranks + relays → HaveRun (gives program) operations ranks relays answers nodes
-    have_run relays is = record {
+    pub have_run : HaveRun (gives program) operations ranks size answers nodes
+    have_run = record {
       answered = sym (length-map answers Some) ∙ ap length told ∙ length_take ranks (map answer_of worked) (let n = length-map worked answer_of in omega (arith, n, counted, some));
-      processes = ap length nodes_are ∙ length-map (map port_of worked) node_in ∙ length-map worked port_of ∙ counted ∙ is;
-      one = subst (λ n. AreOfOneHistory operations ranks n nodes) is one_history;
-      each = subst (λ n. (rank : ℕ) (answer : A) (node : NodeView) → slice_get answers rank ≡ Some answer → slice_get nodes rank ≡ Some node → Answers (gives program) operations ranks n rank answer node) is answered_at;
+      processes = ap length nodes_are ∙ length-map (map port_of worked) node_in ∙ length-map worked port_of ∙ counted;
+      one = one_history;
+      each = answered_at;
     }
 
-  pub ran_so : {E : Type 0} (relays : ℕ) → size ≡ ranks + relays → (given : Setup) → given ≡ setup → (r : Result (Ran A) E) → IfOk r (λ (ran : Ran A). map Some ran.answers.items ≡ take ranks (map answer_of worked))
+  pub ran_so : {E : Type 0} → ranks ≤ size → (given : Setup) → given ≡ setup → (r : Result (Ran A) E) → IfOk r (λ (ran : Ran A). map Some ran.answers.items ≡ take ranks (map answer_of worked))
       → IfOk r (λ (ran : Ran A). map node_of ran.nodes.items ≡ map node_in (map port_of worked)) → OnOk r (HaveAllMet given (map port_of worked))
-      → IfOk r (λ (ran : Ran A). HaveRun (gives program) operations ranks relays ran.answers.items (map node_of ran.nodes.items))
-  ran_so relays is given same (Ok ran) told nodes_are met = have_run ran.answers.items (map node_of ran.nodes.items) (omega (arith, is)) told nodes_are (subst (λ s. HaveAllMet s (map port_of worked)) same met) relays is
-  ran_so relays is given same (Err e) told nodes_are met = tt
+      → IfOk r (λ (ran : Ran A). HaveRun (gives program) operations ranks size ran.answers.items (map node_of ran.nodes.items))
+  ran_so some given same (Ok ran) told nodes_are met = have_run ran.answers.items (map node_of ran.nodes.items) some told nodes_are (subst (λ s. HaveAllMet s (map port_of worked)) same met)
+  ran_so some given same (Err e) told nodes_are met = tt

@@ -1,2 +1,5 @@
 pub mod Quiet
+pub mod Keeping
+pub mod More
+pub mod Values
 pub mod Jobs

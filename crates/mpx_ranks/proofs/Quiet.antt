@@ -81,7 +81,7 @@ heard_quiet a b more same is quiet =
 pub heard_itself : (a b : PortView) → b ≡ a → HasHeard (node_in a) (node_in b)
 heard_itself a b e = subst (HasHeard (node_in a)) (sym (ap node_in e)) (heard_none (node_in a))
 
-two : (a : List Act) (x y : Act) (b : List Act) → b ≡ (a ++ x ∷ []) ++ y ∷ [] → b ≡ a ++ x ∷ y ∷ []
+pub two : (a : List Act) (x y : Act) (b : List Act) → b ≡ (a ++ x ∷ []) ++ y ∷ [] → b ≡ a ++ x ∷ y ∷ []
 two [] x y b e = e
 two (z ∷ a) x y b e = e ∙ ap (λ l. z ∷ l) (two a x y ((a ++ x ∷ []) ++ y ∷ []) refl)
 

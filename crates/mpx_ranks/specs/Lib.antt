@@ -1,4 +1,5 @@
 pub mod Members
 pub mod Bounded
+pub mod Had
 pub mod Ranks
 pub mod Works

@@ -1,28 +1,41 @@
 -- A job whose ranks all run one program.
-use Rattle.std.specs.Prelude.{◌≡◌, ◌+◌, ℕ, List, [], Some, Option, IfSome, length, slice_get}
+use Rattle.std.specs.Prelude.{◌≡◌, ◌++◌, ℕ, List, [], Some, Option, IfSome, length, slice_get}
 use Rattle.atomic_table.specs.Seated.{TableId}
+use Rattle.mpx_name.specs.Name.{Name}
 use Rattle.mpx_num.specs.declared.own.Operation.{Operation}
-use Rattle.mpx_bus.specs.Ports.{IsNew, PortView, node_in}
+use Rattle.mpx_bus.specs.Acts.{node_at}
+use Rattle.mpx_bus.specs.declared.act.Act.{Act}
+use Rattle.mpx_bus.specs.declared.act.Setup.{Setup}
+use Rattle.mpx_bus.specs.Ports.{IsNew, PortView}
 use Rattle.mpx_comm.specs.declared.comm.Comm.{Comm}
 use Rattle.mpx_comm.specs.Later.{Later}
+use Rattle.mpx_node.specs.declared.finished.Finished.{Finished}
 use Rattle.mpx_node.specs.Nodes.{NodeView, start_node}
-use Rattle.mpx_world.specs.Soundness.{Agree, Sound}
+use Rattle.mpx_world.specs.Soundness.{Agree, IsValue, Sound}
 use Rattle.mpx_world.specs.Worlds.{Happening, MayGoOn, WorldView, start, world_by}
+use Rattle.mpx_ranks.specs.Had.{HadBy}
 use Rattle.mpx_ranks.specs.Members.{IsSeated, setup_of}
 
--- what a program may answer: by these operations of the job's own, on this world, where the node is so before and so after
+-- what a program may answer: by these operations of the job's own, on this world, where the node is so before and so after, and where the
+-- rank has had these results of calls, also those that it let go since
 abbrev pub Gives : (A : Type 0) → Type 1
-Gives A = List Operation → Comm → NodeView → NodeView → A → Type 0
+Gives A = List Operation → Comm → NodeView → NodeView → (had : Name → ℕ → Finished → Type 0) → A → Type 0
 
 -- the communicator of all ranks, as one of them has it
 abbrev pub world_at : (ranks rank : ℕ) → Comm
 world_at ranks rank = record { name = []; size = ranks; rank = rank }
 
--- a rank's answer is what the program may give it from where the rank begins; what its node had then, it has
-pub record Answers {A : Type 0} (gives : Gives A) (operations : List Operation) (ranks size rank : ℕ) (answer : A) (node : NodeView) : Type 0 where
-  pub after : NodeView
-  pub gave : gives operations (world_at ranks rank) (start_node rank ranks size) after answer
-  pub later : Later after node
+-- a rank's answer is what the program may give it from where the rank begins, where its process did this meanwhile
+abbrev pub Gave : {A : Type 0} → Gives A → Setup → (rank : ℕ) → (did : List Act) → A → Type 0
+Gave gives setup rank did answer = gives setup.operations (world_at setup.ranks rank) (start_node rank setup.ranks setup.size) (node_at setup rank did) (HadBy setup rank did) answer
+
+-- and what its node had when the program returned, it has. Each result that the rank had had by then, also one that it has let go, is what one whole
+-- row of this world's posts gives it, beside its own post
+pub record Answers {A : Type 0} (gives : Gives A) (setup : Setup) (rank : ℕ) (answer : A) (world : WorldView) (node : NodeView) : Type 0 where
+  pub did : List Act
+  pub gave : Gave gives setup rank did answer
+  pub later : Later (node_at setup rank did) node
+  pub values : (name : Name) (call : ℕ) (finished : Finished) → HadBy setup rank did name call finished → IsValue world rank name call finished
 
 -- these nodes are those of one world, which by such operations can be reached: so what is in them is sound, and every two agree
 pub record AreOfOneHistory (operations : List Operation) (ranks size : ℕ) (nodes : List NodeView) : Type 0 where
@@ -37,11 +50,12 @@ abbrev pub world_in : (operations : List Operation) (ranks size : ℕ) (nodes : 
 world_in operations ranks size nodes one = world_by operations ranks size one.happenings
 
 -- each rank has answered, in rank order, and the nodes of all processes are of one history
-pub record HaveRun {A : Type 0} (gives : Gives A) (operations : List Operation) (ranks relays : ℕ) (answers : List A) (nodes : List NodeView) : Type 0 where
+pub record HaveRun {A : Type 0} (gives : Gives A) (operations : List Operation) (ranks size : ℕ) (answers : List A) (nodes : List NodeView) : Type 0 where
   pub answered : length answers ≡ ranks
-  pub processes : length nodes ≡ ranks + relays
-  pub one : AreOfOneHistory operations ranks (ranks + relays) nodes
-  pub each : (rank : ℕ) (answer : A) (node : NodeView) → slice_get answers rank ≡ Some answer → slice_get nodes rank ≡ Some node → Answers gives operations ranks (ranks + relays) rank answer node
+  pub processes : length nodes ≡ size
+  pub one : AreOfOneHistory operations ranks size nodes
+  pub each : (rank : ℕ) (answer : A) (node : NodeView) → slice_get answers rank ≡ Some answer → slice_get nodes rank ≡ Some node
+      → Answers gives (setup_of operations ranks size) rank answer (world_in operations ranks size nodes one) node
 
 -- ONE PROCESS
 
@@ -49,7 +63,15 @@ pub record HaveRun {A : Type 0} (gives : Gives A) (operations : List Operation) 
 abbrev pub IsReady : List Operation → (ranks size me : ℕ) → TableId → PortView → Type 0
 IsReady operations ranks size me table port = IsNew (setup_of operations ranks size) table me port
 
+-- it has answered so, and has gone on since: this is all that it did
+pub record HasAnswered {A : Type 0} (gives : Gives A) (setup : Setup) (rank : ℕ) (answer : A) (acts : List Act) : Type 0 where
+  pub did : List Act
+  pub since : List Act
+  pub whole : acts ≡ did ++ since
+  pub gave : Gave gives setup rank did answer
+  pub later : Later (node_at setup rank did) (node_at setup rank acts)
+
 -- its port in the end, and of a rank its answer, where it was let begin
 pub record HasWorked {A : Type 0} (gives : Gives A) (operations : List Operation) (ranks size me : ℕ) (table : TableId) (port : PortView) (answer : Option A) : Type 0 where
   pub sits : IsSeated table (setup_of operations ranks size) me port
-  pub gave : IfSome answer (λ a. Answers gives operations ranks size me a (node_in port))
+  pub gave : IfSome answer (λ a. HasAnswered gives (setup_of operations ranks size) me a port.journal)

@@ -5,6 +5,7 @@ ghost use Rattle.mpx_comm.specs.Harvested.{HarvestsNext};
 ghost use Rattle.mpx_node.specs.Nodes.{Posts, checked_on};
 ghost use Rattle.mpx_node.specs.Shown.{node_of};
 ghost use Rattle.mpx_post.specs.Drafts.{refusal_of};
+ghost use Rattle.mpx_ranks.specs.Had.{DoesMore};
 
 use join_core::OutOfMemory;
 use mpx_bus::Port;
@@ -26,6 +27,7 @@ pub(crate) trait Folds: Listing {
     ) -> Result<u32, PostError>
         requires { Self.operations self.now ≡ port.old.setup.operations }
         ensures same { IsSamePort port.old port.new }
+        ensures more { DoesMore port.old port.new }
         ensures posts { Posts name.now (checked_on port.old.setup.operations (node_in port.old) name.now draft) result (node_in port.old) (node_in port.new) };
 
     /// Harvests the port's next call on a context.
@@ -37,6 +39,7 @@ pub(crate) trait Folds: Listing {
     ) -> Result<Harvest, OutOfMemory>
         requires { Self.operations self.now ≡ port.old.setup.operations }
         ensures same { IsSamePort port.old port.new }
+        ensures more { DoesMore port.old port.new }
         ensures harvests { HarvestsNext port.old.setup.operations name.now result (node_in port.old) (node_in port.new) };
 
     /// Why a node would refuse the draft.

@@ -3,6 +3,7 @@ ghost use Rattle.std.specs.Prelude.{◌≡◌, ◌||◌, false, is_err, true, On
 ghost use Rattle.mpx_bus.specs.Answers.{PopsOne};
 ghost use Rattle.mpx_bus.specs.Buses.{table_of};
 ghost use Rattle.mpx_bus.specs.Ports.{IsSamePort, node_in};
+ghost use Rattle.mpx_ranks.specs.Had.{DoesMore};
 ghost use Rattle.mpx_ranks.specs.Members.{HasHeard, Prunes, PushesAnother, Turns, wanted_memory};
 
 use join_core::{Exact, OutOfMemory};
@@ -27,6 +28,7 @@ pub(crate) fn gossip<R: Wait>(
     requires queue { port.old.table ≡ table_of bus.now }
     requires free { port.old.setup.planned ≡ false }
     ensures same { IsSamePort port.old port.new }
+    ensures more { DoesMore port.old port.new }
     ensures heard { HasHeard (node_in port.old) (node_in port.new) }
     ensures turns { OnOk result (Turns false port.old port.new) }
     ensures wanted { OnErr result (Turns true port.old port.new) }
@@ -55,6 +57,7 @@ fn pull<R: Wait>(rt: &R, alloc: Global, bus: &Bus, port: &mut Port) -> Pop
     requires queue { port.old.table ≡ table_of bus.now }
     requires free { port.old.setup.planned ≡ false }
     ensures same { IsSamePort port.old port.new }
+    ensures more { DoesMore port.old port.new }
     ensures heard { HasHeard (node_in port.old) (node_in port.new) }
     ensures kept { port.new.kept ≡ port.old.kept }
     ensures answer { PopsOne result port.old port.new }
@@ -67,6 +70,7 @@ fn push<R: Wait>(rt: &R, alloc: Global, bus: &Bus, port: &mut Port) -> Result<Pu
     requires queue { port.old.table ≡ table_of bus.now }
     requires free { port.old.setup.planned ≡ false }
     ensures same { IsSamePort port.old port.new }
+    ensures more { DoesMore port.old port.new }
     ensures heard { HasHeard (node_in port.old) (node_in port.new) }
     ensures pushes { PushesAnother result port.old port.new }
 {
@@ -76,6 +80,7 @@ fn push<R: Wait>(rt: &R, alloc: Global, bus: &Bus, port: &mut Port) -> Result<Pu
 // Drops the posts of one context that every member has harvested, where there are any.
 fn prune(alloc: Global, port: &mut Port)
     ensures same { IsSamePort port.old port.new }
+    ensures more { DoesMore port.old port.new }
     ensures heard { HasHeard (node_in port.old) (node_in port.new) }
     ensures prunes { Prunes port.old port.new }
 {
@@ -88,6 +93,7 @@ fn prune(alloc: Global, port: &mut Port)
 // Drops posts of one context, where that may be.
 fn prune_on(port: &mut Port, name: &Name, number: u32) -> Result<(), PruneError>
     ensures same { IsSamePort port.old port.new }
+    ensures more { DoesMore port.old port.new }
     ensures heard { HasHeard (node_in port.old) (node_in port.new) }
     ensures prunes { Prunes port.old port.new }
 {

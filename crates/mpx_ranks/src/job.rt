@@ -79,7 +79,7 @@ where
     P::Answer: Send + Drop,
     ensures ok { OnOk result ((0 < ranks) × (ranks + relays ≤ 64)) }
     ensures err { IfErr result (λ e. e ≡ RanksError.BadCount → 0 < ranks → 64 < ranks + relays) }
-    ensures ran { IfOk result (λ ran. HaveRun (P.gives program.now) (⟦<Ops as Listing>⟧.operations ops.now) ranks relays ran.answers.items (map node_of ran.nodes.items)) }
+    ensures ran { IfOk result (λ ran. HaveRun (P.gives program.now) (⟦<Ops as Listing>⟧.operations ops.now) ranks (ranks + relays) ran.answers.items (map node_of ran.nodes.items)) }
 {
     if ranks == 0 || ranks > 64 || relays > 64 - ranks {
         return Err(RanksError::BadCount);
@@ -111,7 +111,7 @@ where
     requires setup { N.setup ≡ setup_of (⟦<Ops as Listing>⟧.operations ops.now) ranks (ranks + relays) }
     requires ledger { (blank.name ≡ K.name) × (blank.parts ≡ K.parts) }
     requires parts { K.parts ≡ ranks + relays }
-    ensures { IfOk result (λ ran. HaveRun (P.gives program.now) (⟦<Ops as Listing>⟧.operations ops.now) ranks relays ran.answers.items (map node_of ran.nodes.items)) }
+    ensures { IfOk result (λ ran. HaveRun (P.gives program.now) (⟦<Ops as Listing>⟧.operations ops.now) ranks (ranks + relays) ran.answers.items (map node_of ran.nodes.items)) }
 {
     let size = ranks + relays;
     let (bus, ports) = Bus::new::<N>(alloc, ROOM, ranks, size)?;

@@ -3,8 +3,9 @@ ghost use Rattle.std.specs.Prelude.{◌≡◌, IfErr, IfSome, OnOk, false, is_so
 ghost use Rattle.std.proofs.Props.{props};
 ghost use Rattle.mpx_board.specs.Looks.{look};
 ghost use Rattle.mpx_bus.specs.Buses.{table_of};
-ghost use Rattle.mpx_bus.specs.Ports.{IsSamePort, node_in};
+ghost use Rattle.mpx_bus.specs.Ports.{node_in};
 ghost use Rattle.mpx_comm.specs.Later.{Later};
+ghost use Rattle.mpx_ranks.specs.Had.{GoesOn};
 ghost use Rattle.mpx_ranks.specs.Members.{RefusesTurn, Turns};
 
 use crate::crew::{Crew, Halt};
@@ -12,6 +13,7 @@ use crate::folds::Folds;
 use crate::gossip::gossip;
 use crate::news::News;
 use crate::seat::Seat;
+use crate::start::{AllCame, Start};
 use join_core::OutOfMemory;
 use mpx_board::Board;
 use mpx_bus::{Bus, Port};
@@ -22,17 +24,21 @@ use mpx_num::Ops;
 use mpx_post::{Draft, PostError};
 use std::alloc::Global;
 use std::marker::PhantomData;
+use std::sync::ledger::Ledger;
 use std::sync::{OnceToken, Wait};
 
-/// A port on a bus that is lent, with the job's own operations, what the threads tell each other, and the right to wait. A turn takes
-/// a frame out of the queue and puts one in, drops posts that every member has harvested, and rests, longer while it hears nothing new.
-/// Once all are to stop it makes none any more, and has seen why.
+/// A port on a bus that is lent, with the job's own operations, what the threads tell each other, and the right to wait. It has what shows
+/// that all threads have come, so there is none before that, and no desk over one. A turn takes a frame out of the queue and puts one in,
+/// drops posts that every member has harvested, and rests, longer while it hears nothing new. Once all are to stop it makes none any more,
+/// and has seen why.
 #[derive(Drop)]
-pub(crate) struct Member<'a, L: Seat, O: Folds, R: Wait> {
+pub(crate) struct Member<'a, L: Seat, O: Folds, K: Ledger, R: Wait> {
     pub(crate) rt: &'a R,
     pub(crate) bus: &'a Bus,
     pub(crate) ops: &'a O,
     pub(crate) crew: &'a Crew,
+    pub(crate) start: &'a Start<K>,
+    pub(crate) came: OnceToken<'a, AllCame<K>>,
     pub(crate) port: Port,
     pub(crate) news: News,
     pub(crate) seat: PhantomData<L>,
@@ -40,22 +46,27 @@ pub(crate) struct Member<'a, L: Seat, O: Folds, R: Wait> {
     ghost list_is: { O.operations ops.now ≡ L.setup.operations },
     ghost bus_is: { table_of bus.now ≡ L.table },
     ghost free: { L.setup.planned ≡ false },
+    ghost came_there: { came.of ≡ start.now.all.id },
+    ghost none_lacking: { came.value.total.amount ≡ 0 },
     ghost table_is: { port.table ≡ L.table },
     ghost setup_is: { port.setup ≡ L.setup },
     ghost me_is: { port.me ≡ L.me },
     ghost halt_is: { IfSome halt (λ token. token.of ≡ crew.now.halt.id) } by { Prim.hlevel props },
 }
 
-impl<'a, L: Seat, O: Folds, R: Wait> Member<'a, L, O, R> {
-    /// Whoever has this port. By its number it rests at other times than the others.
+impl<'a, L: Seat, O: Folds, K: Ledger, R: Wait> Member<'a, L, O, K, R> {
+    /// Whoever has this port, once all threads have come. By its number it rests at other times than the others.
     pub(crate) fn new(
         rt: &'a R,
         bus: &'a Bus,
         ops: &'a O,
         crew: &'a Crew,
+        start: &'a Start<K>,
+        came: OnceToken<'a, AllCame<K>>,
         me: u8,
         port: Port,
-    ) -> Member<'a, L, O, R>
+    ) -> Member<'a, L, O, K, R>
+        requires came { (came.of ≡ start.now.all.id) × (came.value.total.amount ≡ 0) }
         requires bus { table_of bus.now ≡ L.table }
         requires list { O.operations ops.now ≡ L.setup.operations }
         requires free { L.setup.planned ≡ false }
@@ -69,6 +80,8 @@ impl<'a, L: Seat, O: Folds, R: Wait> Member<'a, L, O, R> {
             bus,
             ops,
             crew,
+            start,
+            came,
             port,
             news: News::new(me),
             seat: PhantomData,
@@ -88,7 +101,8 @@ impl<'a, L: Seat, O: Folds, R: Wait> Member<'a, L, O, R> {
 
     /// Makes turns for the others, until none needs them more.
     pub(crate) fn gossip_on(&mut self, alloc: Global)
-        ensures { Later (node_in self.old.port) (node_in self.new.port) }
+        ensures later { Later (node_in self.old.port) (node_in self.new.port) }
+        ensures goes_on { GoesOn self.old.port self.new.port }
     {
         let rt = self.rt;
         for _ in rt.forever() {
@@ -101,18 +115,22 @@ impl<'a, L: Seat, O: Folds, R: Wait> Member<'a, L, O, R> {
     }
 }
 
-impl<'a, L: Seat, O: Folds, R: Wait> Host for Member<'a, L, O, R> {
+impl<'a, L: Seat, O: Folds, K: Ledger, R: Wait> Host for Member<'a, L, O, K, R> {
     ghost use Rattle.mpx_ranks.specs.Bounded.{port_bounded};
-    ghost use Rattle.mpx_ranks.specs.Members.{RefusesTurn, by_port, same_itself, same_operations, same_then};
+    ghost use Rattle.mpx_ranks.specs.Had.{GoesOn, HadIn, goes_nowhere, goes_then, has_had_later, has_had_now};
+    ghost use Rattle.mpx_ranks.specs.Members.{RefusesTurn, by_port, same_operations};
 
     ghost node = { λ m. node_in m.port };
 
     // By those of its job, whatever is lent.
     ghost goes_by = { λ m. by_port m.port };
 
-    ghost turned = { λ a n b. IsSamePort a.port b.port };
+    ghost turned = { λ a n b. GoesOn a.port b.port };
 
-    ghost turn_refused = { λ a why b. IsSamePort a.port b.port × RefusesTurn why (is_some b.halt) a.port b.port };
+    ghost turn_refused = { λ a why b. GoesOn a.port b.port × RefusesTurn why (is_some b.halt) a.port b.port };
+
+    // All that its port did tells which.
+    ghost has_had = { λ m. HadIn m.port };
 
     fn post(
         &mut self,
@@ -163,8 +181,8 @@ impl<'a, L: Seat, O: Folds, R: Wait> Host for Member<'a, L, O, R> {
     fn turn(&mut self, alloc: Global) -> Result<(), TurnError>
         ensures later { Later (node_in self.old.port) (node_in self.new.port) }
         ensures opened { (node_in self.new.port).opened ≡ (node_in self.old.port).opened }
-        ensures counted { OnOk result (IsSamePort self.old.port self.new.port) }
-        ensures refused { IfErr result (λ why. IsSamePort self.old.port self.new.port × RefusesTurn why (is_some self.new.halt) self.old.port self.new.port) }
+        ensures counted { OnOk result (GoesOn self.old.port self.new.port) }
+        ensures refused { IfErr result (λ why. GoesOn self.old.port self.new.port × RefusesTurn why (is_some self.new.halt) self.old.port self.new.port) }
         ensures turns { OnOk result (Turns false self.old.port self.new.port) }
     {
         let crew = self.crew;
@@ -183,9 +201,15 @@ impl<'a, L: Seat, O: Folds, R: Wait> Host for Member<'a, L, O, R> {
 
     ghost bounded = { λ m name. port_bounded m.port name };
 
-    ghost stays_by = { λ a b n same. same_operations a.port b.port same };
+    ghost stays_by = { λ a b n on. same_operations a.port b.port on.0 };
 
-    ghost turns_none = { λ m. same_itself m.port };
+    ghost turns_none = { λ m. goes_nowhere m.port };
 
-    ghost turns_more = { λ a b c m n x y. same_then a.port b.port c.port x y };
+    ghost turns_more = { λ a b c m n x y. goes_then a.port b.port c.port x y };
+
+    ghost had_now = { λ m name call finished has. has_had_now m.port name call finished has };
+
+    ghost had_later = { λ a b n name call finished on had. has_had_later a.port b.port name call finished on had };
+
+    ghost had_refused = { λ a b why name call finished refused had. has_had_later a.port b.port name call finished refused.0 had };
 }

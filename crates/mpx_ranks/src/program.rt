@@ -1,7 +1,9 @@
 //! What every rank of a job runs.
-ghost use Rattle.std.specs.Prelude.{List, ⊤};
+ghost use Rattle.std.specs.Prelude.{List, ℕ, ⊤};
+ghost use Rattle.mpx_name.specs.Name.{Name};
 ghost use Rattle.mpx_num.specs.declared.own.Operation.{Operation};
 ghost use Rattle.mpx_comm.specs.declared.comm.Comm.{Comm as CommView};
+ghost use Rattle.mpx_node.specs.declared.finished.Finished.{Finished};
 ghost use Rattle.mpx_node.specs.Nodes.{NodeView};
 
 use mpx_comm::{Comm, Desk, Host};
@@ -13,9 +15,9 @@ pub trait Program {
     /// What a rank answers.
     type Answer;
 
-    /// What it may answer, by these operations of the job's own, where it has this world, and its node is so before and so after. Who leaves
-    /// it out promises nothing.
-    ghost gives: { Self → List Operation → CommView → NodeView → NodeView → Self.Answer → Type 0 } = { λ p operations world before after answer. ⊤ };
+    /// What it may answer, by these operations of the job's own, where it has this world, its node is so before and so after, and it has had
+    /// these results of calls, also those that it let go since. Who leaves it out promises nothing.
+    ghost gives: { Self → List Operation → CommView → NodeView → NodeView → (Name → ℕ → Finished → Type 0) → Self.Answer → Type 0 } = { λ p operations world before after had answer. ⊤ };
 
     /// The part of one rank. `world` is the communicator of all ranks, as this one has it; `ops` are the job's own operations.
     fn run<H: Host>(
@@ -25,7 +27,7 @@ pub trait Program {
         world: &Comm,
         ops: &Ops,
     ) -> Self::Answer
-        ensures { gives self.now (H.goes_by desk.old.host (⟦<Ops as Listing>⟧.operations ops.now)) world.now (H.node desk.old.host) (H.node desk.new.host) result };
+        ensures { gives self.now (H.goes_by desk.old.host (⟦<Ops as Listing>⟧.operations ops.now)) world.now (H.node desk.old.host) (H.node desk.new.host) (H.has_had desk.new.host) result };
 
     /// Whether a rank that answers this has given up, so that no other is to wait for it: each call that waits and isn't done answers `GaveUp`.
     /// Who leaves it out lets the others wait for as many turns as they are given.

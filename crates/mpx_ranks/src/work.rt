@@ -1,24 +1,24 @@
 //! A process of a job in its thread: a rank runs the program and then gossips on for the others, a relay gossips alone.
 ghost use Rattle.std.specs.Prelude.{◌≡◌, ◌<◌, ◌≤◌, false, IfSome};
 ghost use Rattle.mpx_bus.specs.Buses.{table_of};
-ghost use Rattle.mpx_bus.specs.Ports.{IsNew, node_in};
+ghost use Rattle.mpx_bus.specs.Ports.{IsNew};
 ghost use Rattle.mpx_ranks.specs.Members.{IsSeated};
-ghost use Rattle.mpx_ranks.specs.Ranks.{Answers, HasWorked, IsReady};
+ghost use Rattle.mpx_ranks.specs.Ranks.{HasAnswered, HasWorked, IsReady};
 
 use crate::crew::Crew;
 use crate::folds::Folds;
 use crate::member::Member;
 use crate::program::Program;
 use crate::seat::Seat;
-use crate::start::{AllCame, Place, Start};
+use crate::start::{Place, Start};
 use mpx_at_once::Task;
 use mpx_bus::{Bus, Port};
-use mpx_comm::{Comm, Desk, Host};
+use mpx_comm::{Comm, Desk};
 use mpx_num::{Listing, Ops};
 use std::alloc::Global;
 use std::marker::Brand;
+use std::sync::Wait;
 use std::sync::ledger::Ledger;
-use std::sync::{OnceToken, Wait};
 
 /// What a process has to do, its place where the threads meet, and its port.
 #[derive(Drop)]
@@ -111,18 +111,15 @@ fn work_as_rank<L: Seat, O: Folds, K: Ledger, P: Program, R: Wait>(
     requires count { L.setup.ranks ≡ ranks }
     requires port { IsNew L.setup L.table me port }
     ensures sits { IsSeated L.table L.setup L.me result.port }
-    ensures gave { IfSome result.answer (λ a. Answers (P.gives program.now) L.setup.operations ranks L.setup.size me a (node_in result.port)) }
+    ensures gave { IfSome result.answer (λ a. HasAnswered (P.gives program.now) L.setup me a result.port.journal) }
 {
-    let member = Member::<L, O, R>::new(rt, bus, list, crew, me, port);
-    let Ok(all) = crew.begins(rt, start, place) else {
-        return Worked {
-            port: member.into_port(),
-            answer: None,
-        };
+    let Ok(came) = crew.begins(rt, start, place) else {
+        return Worked { port, answer: None };
     };
+    let member = Member::<L, O, K, R>::new(rt, bus, list, crew, start, came, me, port);
     let mut desk = Desk::new(alloc, member);
     let world = Comm::world(alloc, ranks, me);
-    let answer = run_program(alloc, start, &all, program, &mut desk, &world, ops);
+    let answer = program.run(alloc, &mut desk, &world, ops);
     crew.returns(program.gives_up(&answer));
     let mut host = desk.into_host();
     host.gossip_on(alloc);
@@ -131,22 +128,6 @@ fn work_as_rank<L: Seat, O: Folds, K: Ledger, P: Program, R: Wait>(
         port,
         answer: Some(answer),
     }
-}
-
-// Runs the program, for who shows that all threads have come.
-fn run_program<K: Ledger, P: Program, H: Host>(
-    alloc: Global,
-    _start: &Start<K>,
-    _all: &OnceToken<'_, AllCame<K>>,
-    program: &P,
-    desk: &mut Desk<H>,
-    world: &Comm,
-    ops: &Ops,
-) -> P::Answer
-    requires { (_all.now.of ≡ _start.now.all.id) × (_all.now.value.total.amount ≡ 0) }
-    ensures { P.gives program.now (H.goes_by desk.old.host (⟦<Ops as Listing>⟧.operations ops.now)) world.now (H.node desk.old.host) (H.node desk.new.host) result }
-{
-    program.run(alloc, desk, world, ops)
 }
 
 // A relay gossips until all ranks have returned.
@@ -168,9 +149,10 @@ fn work_as_relay<L: Seat, O: Folds, K: Ledger, R: Wait>(
     requires port { IsNew L.setup L.table me port }
     ensures { IsSeated L.table L.setup L.me result }
 {
-    let mut member = Member::<L, O, R>::new(rt, bus, list, crew, me, port);
-    if crew.begins(rt, start, place).is_ok() {
-        member.gossip_on(alloc);
-    }
+    let Ok(came) = crew.begins(rt, start, place) else {
+        return port;
+    };
+    let mut member = Member::<L, O, K, R>::new(rt, bus, list, crew, start, came, me, port);
+    member.gossip_on(alloc);
     member.into_port()
 }

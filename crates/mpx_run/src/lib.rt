@@ -16,7 +16,7 @@ mod streams;
 mod texts;
 
 pub use end::{Cause, End};
-pub use jobs::{is_in_threads, print_job, print_job_in_threads};
+pub use jobs::{print_job, print_job_in_threads};
 pub use mpx_sim::{FrameSeen, Observer, Progress, Run, Unobserved, run_sim, run_sim_observed};
 pub use mpx_statement::{Command, Job, Options};
 pub use mpx_system::every_run_begins_the_evaluation;

@@ -29,7 +29,7 @@ use Rattle.mpx_shared.specs.declared.pull.Pull.TheVariants as L
 use Rattle.mpx_shared.specs.LawfulPorts.{IsListedContext, IsHeldPort, MakesNoPost}
 use Rattle.mpx_shared.specs.Gossip.{HarvestsAndPrunes, PortHarvestsNext, IsHarvestOrPruning, Prunes, Pulls, Puts, Settles, SettlesAll, SettlesEach, WantsResult, frame_limit, has_next}
 use Rattle.mpx_shared.specs.Turns.{PullsThen, PutsThen, Sufficed}
-use Rattle.mpx_shared.proofs.LawfulPorts.{lawful_of, held_later, no_post_by, no_post_itself, no_post_then}
+use Rattle.mpx_shared.proofs.LawfulPorts.{are_passive, lawful_of, held_later, no_post_by, no_post_itself, no_post_then}
 
 -- HARVESTS AND PRUNINGS
 
@@ -47,11 +47,11 @@ done_then a b c g h = record {
 }
 
 pub prunes_one : (name : Name) (n : ℕ) (r : Result (Unit {0}) PruneError) (a b : PortView) → PortGoesOn a b → b.kept ≡ a.kept → OnOk r (b.journal ≡ a.journal ++ A.Pruned name n ∷ []) → OnErr r (b ≡ a) → HarvestsAndPrunes a b
-prunes_one name n (Ok u) a b goes kept ok err = record { no_post = no_post_by a b (A.Pruned name n ∷ []) goes ok (tt, tt); each = just_one (A.Pruned name n) tt; kept = kept }
+prunes_one name n (Ok u) a b goes kept ok err = record { no_post = no_post_by a b (A.Pruned name n ∷ []) goes ok (are_passive (A.Pruned name n ∷ []) (tt, tt) (tt, tt)); each = just_one (A.Pruned name n) tt; kept = kept }
 prunes_one name n (Err e) a b goes kept ok err = nothing_done a b err
 
 pub harvests_one : (name : Name) (r : Result Harvest OutOfMemory) (a b : PortView) → PortGoesOn a b → b.kept ≡ a.kept → HarvestsOne name r a b → HarvestsAndPrunes a b
-harvests_one name (Ok (H.Done call)) a b goes kept h = record { no_post = no_post_by a b (A.Harvested name ∷ []) goes h (tt, tt); each = just_one (A.Harvested name) tt; kept = kept }
+harvests_one name (Ok (H.Done call)) a b goes kept h = record { no_post = no_post_by a b (A.Harvested name ∷ []) goes h (are_passive (A.Harvested name ∷ []) (tt, tt) (tt, tt)); each = just_one (A.Harvested name) tt; kept = kept }
 harvests_one name (Ok H.NotYet) a b goes kept h = nothing_done a b h
 harvests_one name (Ok H.NotOpened) a b goes kept h = nothing_done a b h
 harvests_one name (Err e) a b goes kept h = nothing_done a b h

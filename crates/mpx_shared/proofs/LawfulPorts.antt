@@ -1,7 +1,9 @@
 -- Lawful and held ports.
-use Rattle.std.proofs.Common.{◌≡◌, ◌≢◌, ◌⊎◌, ℕ, ◌+◌, ◌<◌, Bool, false, List, [], ◌∷◌, ◌++◌, length, take, Some, Result, Ok, Err, true, slice_get, refl, sym, ap, ◌∙◌, subst, arith, inl, inr, length-append, ⊎_elim, append_assoc}
+use Rattle.std.proofs.Common.{◌≡◌, ◌≢◌, ◌⊎◌, ℕ, ◌+◌, ◌<◌, All, Bool, false, List, [], ◌∷◌, ◌++◌, length, take, Some, Result, Ok, Err, true, slice_get, refl, sym, ap, ◌∙◌, subst, arith, inl, inr, length-append, ⊎_elim, append_assoc}
 use Rattle.std.specs.Prelude.{ℤ, Option, None, IfNone, IfOk, IfSome, IsTrue, OnOk, OnErr, is_some}
+use Rattle.std.specs.List.{AllByRecursion}
 use Rattle.std.proofs.lemmas.List.{append-nil}
+use Rattle.std.proofs.lemmas.List.Elements.{All-append, All-from_recursion, All-nil, All-push}
 use Rattle.join_core.specs.declared.memory.OutOfMemory.{OutOfMemory}
 use mathlib.Core.List.{IsPrefix}
 use Rattle.atomic_table.specs.Seated.{TableId}
@@ -21,7 +23,7 @@ use Rattle.mpx_world.specs.Worlds.{ProcessView}
 use Rattle.mpx_bus.specs.declared.act.Act.{Act}
 use Rattle.mpx_bus.specs.declared.act.Act.TheVariants as A
 use Rattle.mpx_bus.specs.declared.act.Setup.{Setup}
-use Rattle.mpx_bus.specs.Acts.{HasLetGo, at_start, node_at, process_at}
+use Rattle.mpx_bus.specs.Acts.{LetsNothingGo, at_start, node_at, process_at}
 use Rattle.mpx_bus.specs.Rule.{IsPlanned, Stood, planned_posts, world_of}
 use Rattle.mpx_bus.specs.Ports.{PortView, PortGoes, PortGoesOn, HasListed, IsNew, IsSamePort, KeepsPlan, node_in, process_in}
 use Rattle.mpx_bus.specs.declared.port.Push.{Push}
@@ -34,7 +36,7 @@ use Rattle.mpx_world.proofs.Lists.{slice_get-push, slice_get-push_cases}
 use Rattle.mpx_world.proofs.Opened.{member_ranked}
 use Rattle.mpx_world.proofs.Retention.{IsKeptOn}
 use Rattle.mpx_bus.proofs.Journals.{after-append}
-use Rattle.mpx_bus.proofs.Keeping.{held_after, let_go_before, let_go_behind}
+use Rattle.mpx_bus.proofs.Keeping.{results_after}
 use Rattle.mpx_bus.proofs.Ports.{new_stood}
 use Rattle.mpx_bus.proofs.Goes.{NoPosts, goes_itself, goes_then, made_more, two_acts}
 use Rattle.mpx_shared.specs.LawfulPorts.{AreAllSince, HasGoneOn, IsLawful, IsListedContext, IsHeldPort, IsNext, MakesNoPost, is_closed, living, made_at, made_in, next_call, planned_birth, with_context}
@@ -47,8 +49,15 @@ use Rattle.mpx_ticket.proofs.Standing.{checked_parts, gone_stored, own_beside, o
 
 -- NO POSTS
 
+-- these acts are no posts, and let no results go
+abbrev pub ArePassive : List Act → Type 0
+ArePassive acts = NoPosts acts × All LetsNothingGo acts
+
+pub are_passive : (acts : List Act) → NoPosts acts → AllByRecursion LetsNothingGo acts → ArePassive acts
+are_passive acts none keep = (none, All-from_recursion LetsNothingGo acts keep)
+
 abbrev pub no_post_itself : (a b : PortView) → b ≡ a → MakesNoPost a b
-no_post_itself a b e = record { goes = goes_itself a b e; acts = []; journal = ap (λ (x : PortView). x.journal) e ∙ sym (append-nil a.journal); made = ap made_in e }
+no_post_itself a b e = record { goes = goes_itself a b e; acts = []; journal = ap (λ (x : PortView). x.journal) e ∙ sym (append-nil a.journal); made = ap made_in e; keeps = All-nil LetsNothingGo }
 
 abbrev pub no_post_then : (a b c : PortView) → MakesNoPost a b → MakesNoPost b c → MakesNoPost a c
 no_post_then a b c g h = record {
@@ -56,55 +65,54 @@ no_post_then a b c g h = record {
   acts = g.acts ++ h.acts;
   journal = h.journal ∙ ap (λ js. js ++ h.acts) g.journal ∙ append_assoc a.journal g.acts h.acts;
   made = h.made ∙ g.made;
+  keeps = All-append LetsNothingGo g.acts h.acts g.keeps h.keeps;
 }
 
 -- the same port has done these too
 pub made_same : (a b : PortView) → IsSamePort a b → (journal : List Act) → b.journal ≡ journal → process_in b ≡ process_at a.setup a.me journal
 made_same a b same journal is = λ i. process_at (same.setup i) (same.me i) (is i)
 
-abbrev pub no_post_by : (a b : PortView) (more : List Act) → PortGoesOn a b → b.journal ≡ a.journal ++ more → NoPosts more → MakesNoPost a b
+abbrev pub no_post_by : (a b : PortView) (more : List Act) → PortGoesOn a b → b.journal ≡ a.journal ++ more → ArePassive more → MakesNoPost a b
 no_post_by a b more goes is none = record {
   goes = goes;
   acts = more;
   journal = is;
-  made = ap (λ (v : ProcessView). v.made) (made_same a b goes.same (a.journal ++ more) is) ∙ made_more a.setup a.me a.journal more none;
+  made = ap (λ (v : ProcessView). v.made) (made_same a b goes.same (a.journal ++ more) is) ∙ made_more a.setup a.me a.journal more none.0;
+  keeps = none.1;
 }
 
 pub no_post_gather : (parent : Name) (tag : ℤ) (ranks : List ℤ) (r : Result Name PostError) (a b : PortView) → PortGoesOn a b → OnOk r (b.journal ≡ a.journal ++ A.Gathered parent tag ranks ∷ []) → OnErr r (b ≡ a) → MakesNoPost a b
-no_post_gather parent tag ranks (Ok name) a b goes ok err = no_post_by a b (A.Gathered parent tag ranks ∷ []) goes ok (tt, tt)
+no_post_gather parent tag ranks (Ok name) a b goes ok err = no_post_by a b (A.Gathered parent tag ranks ∷ []) goes ok (are_passive (A.Gathered parent tag ranks ∷ []) (tt, tt) (tt, tt))
 no_post_gather parent tag ranks (Err e) a b goes ok err = no_post_itself a b err
 
 pub gathers_one : (parent : Name) (tag : ℤ) (ranks : List ℤ) (r : Result Name PostError) (a b : PortView) → OnOk r (b.journal ≡ a.journal ++ A.Gathered parent tag ranks ∷ []) → OnErr r (b ≡ a) → GathersOne parent tag ranks r a b
 gathers_one parent tag ranks (Ok name) a b ok err = ok
 gathers_one parent tag ranks (Err e) a b ok err = err
 
-pub no_post_forget : (name : Name) (below : ℕ) (a b : PortView) → PortGoesOn a b → b.journal ≡ a.journal ++ A.Forgot name below ∷ [] → MakesNoPost a b
-no_post_forget name below a b goes grows = no_post_by a b (A.Forgot name below ∷ []) goes grows (tt, tt)
-
 pub no_post_pop : (pop : Pop) (a b : PortView) → PortGoesOn a b → PopsOne pop a b → MakesNoPost a b
-no_post_pop (O.Took frame) a b goes p = no_post_by a b (A.Popped frame ∷ A.Took frame ∷ []) goes (two_acts a.journal b.journal (A.Popped frame) (A.Took frame) p) (tt, (tt, tt))
+no_post_pop (O.Took frame) a b goes p = no_post_by a b (A.Popped frame ∷ A.Took frame ∷ []) goes (two_acts a.journal b.journal (A.Popped frame) (A.Took frame) p) (are_passive (A.Popped frame ∷ A.Took frame ∷ []) (tt, (tt, tt)) (tt, (tt, tt)))
 no_post_pop O.Empty a b goes p = no_post_itself a b p
 no_post_pop (O.OutOfMemory frame) a b goes p =
     ⊎_elim
-    (λ (e : b.journal ≡ a.journal ++ A.Popped frame ∷ []). no_post_by a b (A.Popped frame ∷ []) goes e (tt, tt))
-    (λ (e : Stopped frame a b). no_post_by a b (A.Popped frame ∷ A.StoppedTaking frame e.left ∷ []) goes (two_acts a.journal b.journal (A.Popped frame) (A.StoppedTaking frame e.left) e.journal) (tt, (tt, tt)))
+    (λ (e : b.journal ≡ a.journal ++ A.Popped frame ∷ []). no_post_by a b (A.Popped frame ∷ []) goes e (are_passive (A.Popped frame ∷ []) (tt, tt) (tt, tt)))
+    (λ (e : Stopped frame a b). no_post_by a b (A.Popped frame ∷ A.StoppedTaking frame e.left ∷ []) goes (two_acts a.journal b.journal (A.Popped frame) (A.StoppedTaking frame e.left) e.journal) (are_passive (A.Popped frame ∷ A.StoppedTaking frame e.left ∷ []) (tt, (tt, tt)) (tt, (tt, tt))))
     p
 
 -- a list that is there, or a new one
-listed_by : (limit : ℕ) (a mid : PortView) → Lists limit a mid → (more : List Act) × (NoPosts more × (mid.journal ≡ a.journal ++ more))
+listed_by : (limit : ℕ) (a mid : PortView) → Lists limit a mid → (more : List Act) × (ArePassive more × (mid.journal ≡ a.journal ++ more))
 listed_by limit a mid l =
     ⊎_elim
-    (λ (e : (a.kept ≢ []) × (mid ≡ a)). ([], (tt, ap (λ (x : PortView). x.journal) e.1 ∙ sym (append-nil a.journal))))
-    (λ (e : (a.kept ≡ []) × HasListed limit a mid). (A.Acknowledged e.1.said ∷ [], ((tt, tt), e.1.journal)))
+    (λ (e : (a.kept ≢ []) × (mid ≡ a)). ([], ((tt, All-nil LetsNothingGo), ap (λ (x : PortView). x.journal) e.1 ∙ sym (append-nil a.journal))))
+    (λ (e : (a.kept ≡ []) × HasListed limit a mid). (A.Acknowledged e.1.said ∷ [], (are_passive (A.Acknowledged e.1.said ∷ []) (tt, tt) (tt, tt), e.1.journal)))
     l
 
 no_posts_both : (early late : List Act) → NoPosts early → NoPosts late → NoPosts (early ++ late)
 no_posts_both [] late m n = n
 no_posts_both (a ∷ early) late m n = (m.0, no_posts_both early late m.1 n)
 
-no_post_last : (bytes : List ℕ) (push : Push) (a mid b : PortView) (more : List Act) → PortGoesOn a b → NoPosts more → mid.journal ≡ a.journal ++ more → PushesLast bytes push mid b → MakesNoPost a b
+no_post_last : (bytes : List ℕ) (push : Push) (a mid b : PortView) (more : List Act) → PortGoesOn a b → ArePassive more → mid.journal ≡ a.journal ++ more → PushesLast bytes push mid b → MakesNoPost a b
 no_post_last bytes P.Pushed a mid b more goes none is p =
-    no_post_by a b (more ++ A.Pushed bytes ∷ []) goes (p ∙ ap (λ (j : List Act). j ++ A.Pushed bytes ∷ []) is ∙ append_assoc a.journal more (A.Pushed bytes ∷ [])) (no_posts_both more (A.Pushed bytes ∷ []) none (tt, tt))
+    no_post_by a b (more ++ A.Pushed bytes ∷ []) goes (p ∙ ap (λ (j : List Act). j ++ A.Pushed bytes ∷ []) is ∙ append_assoc a.journal more (A.Pushed bytes ∷ [])) (no_posts_both more (A.Pushed bytes ∷ []) none.0 (tt, tt), All-push LetsNothingGo more (A.Pushed bytes) none.1 tt)
 no_post_last bytes (P.Full frame) a mid b more goes none is p = no_post_by a b more goes (p.1.0 ∙ is) none
 
 pub no_post_put : (limit : ℕ) (r : Result Push OutOfMemory) (a b : PortView) → PortGoesOn a b → IfOk r (λ push. PushesNext limit push a b) → OnErr r (b ≡ a) → MakesNoPost a b
@@ -115,23 +123,15 @@ no_post_put limit (Err e) a b goes next err = no_post_itself a b err
 
 -- SINCE THE LOCK
 
--- a result is still there, or was let go among what was done since
-held_or_let_go : (a b : PortView) (more since : List Act) → IsSamePort a b → b.journal ≡ a.journal ++ more → (name : Name) (call : ℕ) (f : Finished) → result_on (node_in a) name call ≡ Some f
-    → (result_on (node_in b) name call ≡ Some f) ⊎ HasLetGo (since ++ more) name call
-held_or_let_go a b more since same grows name call f there = elim (held_after a.setup.operations more (process_in a) name call f there) [
-  | inl still ↦ inl (subst (λ (v : ProcessView). result_on v.node name call ≡ Some f) (sym (made_same a b same (a.journal ++ more) grows ∙ after-append a.setup.operations a.journal more (at_start a.setup a.me))) still)
-  | inr gone ↦ inr (let_go_behind since more name call gone)
-]
-
-gone_on_more : {setup : Setup} {me : ℕ} {opening : List Act} (a b : PortView) (more : List Act) → HasGoneOn setup me opening a → IsSamePort a b → b.journal ≡ a.journal ++ more → IsPrefix (made_in a) (made_in b) → HasGoneOn setup me opening b
-gone_on_more {setup} {me} {opening} a b more g same grows made = record {
+gone_on_more : {setup : Setup} {me : ℕ} {opening : List Act} (a b : PortView) (more : List Act) → HasGoneOn setup me opening a → IsSamePort a b → b.journal ≡ a.journal ++ more → IsPrefix (made_in a) (made_in b) → All LetsNothingGo more → HasGoneOn setup me opening b
+gone_on_more {setup} {me} {opening} a b more g same grows made keeps = record {
   since = g.since ++ more;
   journal = grows ∙ ap (λ (js : List Act). js ++ more) g.journal ∙ append_assoc opening g.since more;
   posts = prefix_then (made_at setup me opening) (made_in a) (made_in b) g.posts made;
-  results = λ name call f e. elim (g.results name call f e) [
-    | inl there ↦ held_or_let_go a b more g.since same grows name call f there
-    | inr gone ↦ inr (let_go_before g.since more name call gone)
-  ];
+  results = λ name call f e.
+      subst (λ (v : ProcessView). result_on v.node name call ≡ Some f) (sym (made_same a b same (a.journal ++ more) grows ∙ after-append a.setup.operations a.journal more (at_start a.setup a.me)))
+      (results_after a.setup.operations more (process_in a) keeps name call f (g.results name call f e));
+  keeps = All-append LetsNothingGo g.since more g.keeps keeps;
 }
 
 -- a context that is dead stays so
@@ -174,7 +174,8 @@ held_new {table} {setup} {me} {opening} {before} {total} contexts b d is counted
         since = [];
         journal = is ∙ sym (append-nil opening);
         posts = prefix_itself (made_at setup me opening) (made_in b) (sym same);
-        results = λ name call f e. inl (sym (λ i. result_on (node_at (sym d.setup_is i) (sym d.me_is i) (sym is i)) name call) ∙ e);
+        results = λ name call f e. sym (λ i. result_on (node_at (sym d.setup_is i) (sym d.me_is i) (sym is i)) name call) ∙ e;
+        keeps = All-nil LetsNothingGo;
       };
       listed = λ k m low there. absurd (let l = within (made_in b) k m there in let long = ap length same in omega (arith, l, low, long));
     }
@@ -187,7 +188,7 @@ held_later a b m n = record {
   me_is = n.goes.same.me ∙ m.me_is;
   planned = n.goes.plan m.planned;
   counted = ap length n.made ∙ m.counted;
-  gone_on = gone_on_more a b n.acts m.gone_on n.goes.same n.journal (prefix_itself (made_in a) (made_in b) n.made);
+  gone_on = gone_on_more a b n.acts m.gone_on n.goes.same n.journal (prefix_itself (made_in a) (made_in b) n.made) n.keeps;
   listed = λ k x low there. elim (m.listed k x low (sym (ap (λ ms. slice_get ms k) n.made) ∙ there)) [
     | inl l ↦ inl l
     | inr dead ↦ inr (dead_stays a b n.acts n.goes.same n.journal x.name dead)
@@ -304,7 +305,7 @@ held_posts {table} {setup} {me} {opening} {before} {total} {contexts} amount nam
       me_is = same.me ∙ m.me_is;
       planned = subst (λ (x : Setup × (ℕ × List Act)). IsPlanned x.0 x.1.0 x.1.1) (λ i. (sym same.setup i, (sym same.me i, sym grows i))) plan;
       counted = ap length made ∙ (let l = length-append (made_in a) (post ∷ []) in omega (arith, l, m.counted, more));
-      gone_on = gone_on_more a b (A.Posted name draft ∷ []) m.gone_on same grows (post ∷ [], sym made);
+      gone_on = gone_on_more a b (A.Posted name draft ∷ []) m.gone_on same grows (post ∷ [], sym made) (All-push LetsNothingGo [] (A.Posted name draft) (All-nil LetsNothingGo) tt);
       listed = subst (AreAllSince setup me opening b) (sym listed) (all_since_more setup me opening contexts a b post new m.listed made (listed_new name contexts new some none) (dead_stays a b (A.Posted name draft ∷ []) same grows));
     }
 

@@ -1,5 +1,5 @@
 -- Ports of one bus, and what they have posted.
-use Rattle.std.specs.Prelude.{◌≡◌, ◌+◌, ◌≤◌, ◌⊎◌, ℕ, Bool, List, [], ◌∷◌, ◌++◌, length, take, filter, not, true, Option, None, Some, Ok, slice_get}
+use Rattle.std.specs.Prelude.{◌≡◌, ◌+◌, ◌≤◌, ◌⊎◌, ℕ, All, Bool, List, [], ◌∷◌, ◌++◌, length, take, filter, not, true, Option, None, Some, Ok, slice_get}
 use mathlib.Core.List.{IsPrefix}
 use Rattle.atomic_table.specs.Seated.{TableId}
 use Rattle.mpx_name.specs.Name.{Name}
@@ -13,7 +13,7 @@ use Rattle.mpx_node.specs.declared.finished.Finished.{Finished}
 use Rattle.mpx_node.specs.Nodes.{result_on}
 use Rattle.mpx_bus.specs.declared.act.Act.{Act}
 use Rattle.mpx_bus.specs.declared.act.Setup.{Setup}
-use Rattle.mpx_bus.specs.Acts.{HasLetGo, node_at, process_at}
+use Rattle.mpx_bus.specs.Acts.{LetsNothingGo, node_at, process_at}
 use Rattle.mpx_bus.specs.Rule.{Stood, planned_posts}
 use Rattle.mpx_bus.specs.Ports.{PortView, PortGoesOn, KeepsPlan, node_in}
 pub use Rattle.mpx_ticket.specs.Tickets.{made_in}
@@ -38,13 +38,13 @@ abbrev pub made_at : Setup → (me : ℕ) → List Act → List Made
 made_at setup me opening = (process_at setup me opening).made
 
 -- the port goes on from where its process had done these: what it did since stands behind them, the posts of then begin its
--- posts, and each result of then is still there, or the port has let it go since
+-- posts, each result of then is still there, and none was let go since
 pub record HasGoneOn (setup : Setup) (me : ℕ) (opening : List Act) (port : PortView) : Type 0 where
   pub since : List Act
   pub journal : port.journal ≡ opening ++ since
   pub posts : IsPrefix (made_at setup me opening) (made_in port)
-  pub results : (name : Name) (call : ℕ) (f : Finished) → result_on (node_at setup me opening) name call ≡ Some f
-      → (result_on (node_in port) name call ≡ Some f) ⊎ HasLetGo since name call
+  pub results : (name : Name) (call : ℕ) (f : Finished) → result_on (node_at setup me opening) name call ≡ Some f → result_on (node_in port) name call ≡ Some f
+  pub keeps : All LetsNothingGo since
 
 -- the world, or one of these contexts
 abbrev pub IsListedContext : Name → List Name → Type 0
@@ -75,12 +75,13 @@ pub record IsHeldPort (table : TableId) (setup : Setup) (me : ℕ) (opening : Li
   pub gone_on : HasGoneOn setup me opening port
   pub listed : AreAllSince setup me opening port contexts
 
--- the port goes on, and makes no post
+-- the port goes on, makes no post, and lets no results go
 pub record MakesNoPost (old new : PortView) : Type 0 where
   pub goes : PortGoesOn old new
   pub acts : List Act
   pub journal : new.journal ≡ old.journal ++ acts
   pub made : made_in new ≡ made_in old
+  pub keeps : All LetsNothingGo acts
 
 -- THE PLAN
 

@@ -9,7 +9,6 @@ use Rattle.mpx_post.specs.declared.draft.PostError.{PostError}
 use Rattle.mpx_board.specs.Boards.{told}
 use Rattle.mpx_value.specs.Histories.{has_freed}
 use Rattle.mpx_node.specs.Nodes.{Opens, Posts, checked_on, gathers_on}
-use Rattle.mpx_node.specs.Forgetting.{forgets}
 use Rattle.mpx_bus.specs.declared.act.Setup.{Setup}
 use Rattle.mpx_bus.specs.declared.act.Act.{Act}
 use Rattle.mpx_bus.specs.declared.act.Act.TheVariants as A
@@ -77,18 +76,6 @@ pub record OpensThen (table : TableId) (setup : Setup) (me : ℕ) (opening : Lis
   pub opens : Opens parent (gathers_on (node_in before) parent tag ranks) result (node_in before) (node_in after)
   pub no_post : MakesNoPost before after
   pub acts : GathersOne parent tag ranks result before after
-  pub kept : after.kept ≡ before.kept
-
--- the port let its results of the context's calls below the number go, and did nothing else
-pub record ForgetsThen (table : TableId) (setup : Setup) (me : ℕ) (opening : List Act) (name : Name) (below : ℕ) : Type 0 where
-  pub before : PortView
-  pub after : PortView
-  pub lawful_before : IsLawful table setup me before
-  pub lawful_after : IsLawful table setup me after
-  pub gone_on : HasGoneOn setup me opening before
-  pub forgets : node_in after ≡ forgets name below (node_in before)
-  pub no_post : MakesNoPost before after
-  pub acts : after.journal ≡ before.journal ++ A.Forgot name below ∷ []
   pub kept : after.kept ≡ before.kept
 
 -- how the communicator came to be, where the port's board tells it

@@ -1,14 +1,13 @@
 //! A port under its lock.
 ghost use Rattle.std.specs.Prelude.{◌≡◌, ◌+◌, ◌<◌, [], ◌∷◌, ◌++◌, length, is_some, IfOk, IsTrue, OnOk, OnErr};
 ghost use Rattle.mpx_node.specs.Nodes.{Opens, Posts, checked_on, gathers_on};
-ghost use Rattle.mpx_node.specs.Forgetting.{forgets};
 ghost use Rattle.mpx_bus.specs.Answers.{PushesNext};
 ghost use Rattle.mpx_bus.specs.Ports.{PortGoes, node_in};
 ghost use Rattle.mpx_bus.specs.Buses.{table_of};
 ghost use Rattle.mpx_ticket.specs.Tickets.{HoldsAnswer, IsAnswer};
 ghost use Rattle.mpx_shared.specs.LawfulPorts.{HasGoneOn, IsLawful, IsNext, MakesNoPost, made_in};
 ghost use Rattle.mpx_shared.specs.Gossip.{Pulls, frame_limit};
-ghost use Rattle.mpx_shared.specs.Tickets.{AnswersTicket, ForgetsThen, HeldAnswer, OpensThen, PostsThen, TellsBirth, TellsClosed, ToldBirth, birth_on, call_of};
+ghost use Rattle.mpx_shared.specs.Tickets.{AnswersTicket, HeldAnswer, OpensThen, PostsThen, TellsBirth, TellsClosed, ToldBirth, birth_on, call_of};
 ghost use Rattle.mpx_shared.specs.Turns.{PullsThen, PutsThen};
 
 use crate::contexts::{add_context, leave_dead, new_context};
@@ -62,6 +61,7 @@ impl<L: PortLock> HeldPort<L> {
         requires opening { port.journal ≡ L.opening }
         requires count { length (made_in port) ≡ L.before }
         requires book { book.total ≡ 0 }
+        ensures { result ≡ (port, (0, [])) }
     {
         HeldPort {
             port,
@@ -159,18 +159,6 @@ impl<L: PortLock> HeldPort<L> {
     {
         self.book.audit(share);
         self.port.node().has_freed(name)
-    }
-
-    /// Lets the results of calls below the number on a context go, as [`Port::forget`] does.
-    pub fn forget(&mut self, name: &Name, below: u32)
-        ensures port { MakesNoPost self.old.0 self.new.0 }
-        ensures node { node_in self.new.0 ≡ forgets name.now below (node_in self.old.0) }
-        ensures then { ForgetsThen L.table L.setup L.me L.opening name.now below }
-    {
-        // so that the proof knows that the port stands where its journal says, before and after
-        let _before = self.port.node();
-        self.port.forget(name, below);
-        let _after = self.port.node();
     }
 
     /// How a communicator came to be, where the port's board tells it. An `Err` is want of memory for a copy: the board tells it then.

@@ -10,7 +10,6 @@ mod port_lock;
 mod pull;
 mod shared;
 
-pub use held_port::HeldPort;
 pub use laws::{lawful_ports_hold_what_is_so, new_ports_are_lawful};
 pub use mpx_ticket::{Ticket, TicketTested};
 pub use port_lock::PortLock;

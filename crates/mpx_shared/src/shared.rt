@@ -2,7 +2,7 @@
 ghost use Rattle.std.specs.Prelude.{◌≡◌, ◌+◌, ◌<◌, length, IfOk, OnOk, OnErr};
 ghost use Rattle.mpx_bus.specs.Buses.{table_of};
 ghost use Rattle.mpx_shared.specs.LawfulPorts.{HasGoneOn, IsLawful, IsNext, made_in};
-ghost use Rattle.mpx_shared.specs.Tickets.{AnswersTicket, ForgetsThen, HeldAnswer, OpensThen, PostsThen, TellsBirth, TellsClosed, ToldBirth};
+ghost use Rattle.mpx_shared.specs.Tickets.{AnswersTicket, HeldAnswer, OpensThen, PostsThen, TellsBirth, TellsClosed, ToldBirth};
 ghost use Rattle.mpx_shared.specs.Turns.{PullsThen, PutsThen, TurnsThen};
 
 use crate::held_port::HeldPort;
@@ -114,13 +114,6 @@ impl<L: PortLock> SharedPort<L> {
         ensures then { TellsClosed L.table L.setup L.me L.opening (L.before + poster.old.share.amount) name.now result }
     {
         self.held.lock(rt).is_closed(&mut poster.share, name)
-    }
-
-    /// Lets the port's results of calls below the number on a context go, as [`Port::forget`] does.
-    pub fn forget<R: Wait>(&self, rt: &R, name: &Name, below: u32)
-        ensures { ForgetsThen L.table L.setup L.me L.opening name.now below }
-    {
-        self.held.lock(rt).forget(name, below);
     }
 
     /// How a communicator came to be, where the port's board tells it. An `Err` is want of memory for a copy: the board tells it then.

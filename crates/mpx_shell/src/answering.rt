@@ -10,6 +10,7 @@ use clap::error::ErrorKind;
 use mpx_affine::Affine;
 use mpx_num::{Ops, OwnOp};
 use mpx_program::{Exit, refuse, run_job, run_job_in_threads};
+use mpx_run::{Command, Job};
 use mpx_sim::Observer;
 use mpx_words::Invocation;
 use std::alloc::{AllocError, Global};
@@ -34,13 +35,43 @@ macro_rules! own_operations {
     }};
 }
 
-/// Does what a call asks for, as `run_job` of `mpx_program` does, where scripts may name one operation of a job's own: the composition of
-/// affine maps, by the word `affine`. Without memory for that operation nothing is read or written, and `err` is told so. It waits for nobody, so it
-/// is proved to return.
-///
-/// Who asks what is printed, and with which status, reads `prints` alone. That a run is by the seed, the loss, the relays and the turns of the words
-/// says `founded`.
-pub(crate) fn answer<T: Threads + Sync, R: Read, W: Write, E: Write>(
+/// Does what a call asks for. Only a run in threads goes by functions that may wait.
+pub(crate) fn answer_call<T: Threads + Wait + Sync, R: Read, W: Write, E: Write>(
+    rt: &T,
+    alloc: Global,
+    call: &Invocation,
+    reader: &mut R,
+    out: &mut W,
+    err: &mut E,
+    observer: &mut dyn Observer,
+) -> Exit
+    ensures prints { AnswersCall IsPrinted call.now (R.remaining reader.old) (R.remaining reader.new) (W.contents out.old) (W.contents out.new) result.status (Tells (E.contents err.old) (E.contents err.new) result.told) }
+    ensures founded { AnswersCall IsFounded call.now (R.remaining reader.old) (R.remaining reader.new) (W.contents out.old) (W.contents out.new) result.status (Tells (E.contents err.old) (E.contents err.new) result.told) }
+{
+    if is_in_threads(&call.job) {
+        return answer_in_threads(rt, alloc, call, reader, out, err, observer);
+    }
+    answer(rt, alloc, call, reader, out, err, observer)
+}
+
+// Whether a job is a run in threads.
+fn is_in_threads(job: &Job) -> bool
+    ensures { result ≡ is_in_threads job.now }
+{
+    match job.command {
+        Command::Run => job.options.threads,
+        Command::Eval => false,
+        Command::Check => false,
+    }
+}
+
+// Does what a call asks for, as `run_job` of `mpx_program` does, where scripts may name one operation of a job's own: the composition of
+// affine maps, by the word `affine`. Without memory for that operation nothing is read or written, and `err` is told so. It waits for nobody, so it
+// is proved to return.
+//
+// Who asks what is printed, and with which status, reads `prints` alone. That a run is by the seed, the loss, the relays and the turns of the words
+// says `founded`.
+fn answer<T: Threads + Sync, R: Read, W: Write, E: Write>(
     rt: &T,
     alloc: Global,
     call: &Invocation,
@@ -57,8 +88,8 @@ pub(crate) fn answer<T: Threads + Sync, R: Read, W: Write, E: Write>(
     run_job(rt, alloc, call, reader, out, err, observer, &ops)
 }
 
-/// The same of a call that asks for a run in threads, which may wait for them.
-pub(crate) fn answer_in_threads<T: Threads + Wait + Sync, R: Read, W: Write, E: Write>(
+// The same of a call that asks for a run in threads, which may wait for them.
+fn answer_in_threads<T: Threads + Wait + Sync, R: Read, W: Write, E: Write>(
     rt: &T,
     alloc: Global,
     call: &Invocation,

@@ -6,14 +6,12 @@ ghost use Rattle.clap.specs.Words.{kind_of};
 ghost use Rattle.mpx_words.specs.Words.{invocation_in};
 ghost use Rattle.mpx_run.specs.Founded.{IsFounded};
 ghost use Rattle.mpx_run.specs.Reports.{IsPrinted};
-ghost use Rattle.mpx_run.specs.Texts.{is_in_threads};
 ghost use Rattle.mpx_shell.specs.Answers.{AreRefusedFor, Answers, EndsBy, RefusesArguments};
 
-use crate::answering::{answer, answer_in_threads};
+use crate::answering::answer_call;
 use crate::seen::Seen;
 use clap::error::ErrorKind;
 use mpx_program::refuse;
-use mpx_run::{Command, Job};
 use mpx_words::{Invocation, call_of, not_text};
 use std::alloc::{AllocError, Global};
 use std::io::{IsTerminal, Read, Write};
@@ -53,25 +51,10 @@ pub fn exit_code<
     match called(alloc, args) {
         Ok(call) => {
             let mut seen = Seen::of(call.flags, alloc, clock, shown);
-            let exit = if is_in_threads(&call.job) {
-                answer_in_threads(rt, alloc, &call, reader, out, err, &mut seen)
-            } else {
-                answer(rt, alloc, &call, reader, out, err, &mut seen)
-            };
+            let exit = answer_call(rt, alloc, &call, reader, out, err, &mut seen);
             (ExitCode::from(exit.status), seen.into_writer())
         }
         Err(why) => (ExitCode::from(refuse(&why, err).status), shown),
-    }
-}
-
-// Whether a job is a run in threads.
-fn is_in_threads(job: &Job) -> bool
-    ensures { result ≡ is_in_threads job.now }
-{
-    match job.command {
-        Command::Run => job.options.threads,
-        Command::Eval => false,
-        Command::Check => false,
     }
 }
 

@@ -16,7 +16,9 @@ pub struct HowFar<'a, C: Clock, S: Write + IsTerminal> {
 }
 
 impl<'a, C: Clock, S: Write + IsTerminal> HowFar<'a, C, S> {
-    pub(crate) fn new(clock: &'a C, out: S) -> HowFar<'a, C, S> {
+    pub(crate) fn new(clock: &'a C, out: S) -> HowFar<'a, C, S>
+        ensures { result.out ≡ out }
+    {
         let last = if out.is_terminal() {
             Instant::now(clock).ok()
         } else {
@@ -31,7 +33,9 @@ impl<'a, C: Clock, S: Write + IsTerminal> HowFar<'a, C, S> {
     }
 
     /// Gives the writer back.
-    pub(crate) fn into_writer(self) -> S {
+    pub(crate) fn into_writer(self) -> S
+        ensures { result ≡ self.out }
+    {
         self.out
     }
 

@@ -1,4 +1,6 @@
 //! Who looks on at a run, by what a call asks for beside it.
+ghost use Rattle.std.specs.Prelude.{◌≡◌, ◌&&◌, not};
+ghost use Rattle.mpx_shell.specs.Showing.{shown_on, shows_lines, shows_rows};
 
 use crate::progress::HowFar;
 use mpx_node::Node;
@@ -20,7 +22,11 @@ pub enum Seen<'a, C: Clock, S: Write + IsTerminal> {
 
 impl<'a, C: Clock, S: Write + IsTerminal> Seen<'a, C, S> {
     /// What these flags ask for.
-    pub fn of(flags: Flags, alloc: Global, clock: &'a C, out: S) -> Seen<'a, C, S> {
+    pub fn of(flags: Flags, alloc: Global, clock: &'a C, out: S) -> Seen<'a, C, S>
+        ensures trace { shows_lines result ≡ flags.trace }
+        ensures table { shows_rows result ≡ (not flags.trace && flags.table) }
+        ensures on { shown_on result ≡ out }
+    {
         if flags.trace {
             Seen::Lines(Trace::new(alloc, out))
         } else if flags.table {
@@ -31,7 +37,9 @@ impl<'a, C: Clock, S: Write + IsTerminal> Seen<'a, C, S> {
     }
 
     /// Gives the writer back.
-    pub fn into_writer(self) -> S {
+    pub fn into_writer(self) -> S
+        ensures { result ≡ shown_on self }
+    {
         match self {
             Seen::Lines(trace) => trace.into_writer(),
             Seen::Rows(table) => table.into_writer(),

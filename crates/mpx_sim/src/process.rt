@@ -384,7 +384,7 @@ impl<'a> Process<'a> {
         ensures lines { map string_bytes result.1.items ≡ (process_of self.entry).rank.lines }
     {
         let Process { carrier, rank, .. } = self;
-        (carrier.into_node(), rank.into_lines())
+        (carrier.into_node(), rank.lines)
     }
 }
 

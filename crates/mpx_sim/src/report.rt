@@ -17,6 +17,7 @@ use join_core::OutOfMemory;
 use mpx_meaning::Report;
 use mpx_node::Node;
 use mpx_num::{Listing, Ops};
+use mpx_rank::push_where;
 use mpx_script::Script;
 use mpx_statement::Options;
 use std::alloc::Global;
@@ -109,9 +110,7 @@ fn waiting_of(alloc: Global, processes: &[Process<'_>], ranks: u8) -> Result<Vec
 {
     let mut waiting = Vec::new(alloc);
     for p in 0..ranks {
-        if processes[p as usize].is_waiting() {
-            waiting.push(p)?;
-        }
+        push_where(&mut waiting, p, processes[p as usize].is_waiting())?;
     }
     Ok(waiting)
 }

@@ -24,17 +24,6 @@ new_one {A} xs y = (length xs, there xs) where
   there [] = refl
   there (z ∷ zs) = there zs
 
--- where no outcome is awaited and the next statement doesn't wait, no call is awaited
-pub none_awaited : (awaited : Option (Name × ℕ)) (requests : List ℕ → Option (Name × ℕ)) (todo : List Statement) (calls : List (Name × ℕ)) → calls ≡ [] → awaited ≡ None → ((words : List (List ℕ)) → slice_get todo 0 ≡ Some (Wait words) → ⊥)
-    → AreAwaited awaited requests todo calls
-none_awaited awaited requests todo calls none free other = record {
-  only = λ i call e. cc (none, e);
-  all = λ call is. absurd (by_case call is);
-} where
-  by_case : (call : Name × ℕ) → IsAwaited awaited requests todo call → ⊥
-  by_case call (is_awaited e) = cc (free, e)
-  by_case call (waits_for words e first asked) = other words first
-
 -- the one whose outcome is awaited
 pub one_awaited : (awaited : Option (Name × ℕ)) (requests : List ℕ → Option (Name × ℕ)) (todo : List Statement) (calls : List (Name × ℕ)) (one : Name × ℕ) → calls ≡ one ∷ [] → awaited ≡ Some one → AreAwaited awaited requests todo calls
 one_awaited awaited requests todo calls one alone is = record {

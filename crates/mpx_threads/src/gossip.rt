@@ -78,11 +78,13 @@ fn make_turns<L: PortLock, G: Gate, R: Wait>(
         if bench.watch.is_over(bench.ranks) {
             return Ok(GossipEnd::Over);
         }
-        match turn(rt, alloc, bench, me, port, signal, nth, ops)? {
+        match turn(rt, alloc, bench, me, port, nth, ops)? {
             Pass::Go => {}
             Pass::GiveUp => return Ok(GossipEnd::GaveUp),
         }
-        calm.note(bench.watch, me, port.fingerprint(rt));
+        if calm.note(bench.watch, me, port.fingerprint(rt)) {
+            signal.tell();
+        }
         calm.rest(rt, bench.watch);
     }
     Ok(GossipEnd::Over)
@@ -95,7 +97,6 @@ fn turn<L: PortLock, G: Gate, R: Wait>(
     bench: &Bench<'_, G>,
     me: Proc,
     port: &SharedPort<L>,
-    signal: &Signal,
     nth: u32,
     ops: &Ops,
 ) -> Result<Pass, OutOfMemory>
@@ -107,7 +108,6 @@ fn turn<L: PortLock, G: Gate, R: Wait>(
         return Ok(Pass::GiveUp);
     };
     let pulled = take_out(rt, alloc, bench.bus, port, leave, nth, ops);
-    signal.tell();
     match pulled {
         Pull::OutOfMemory(_) => return Err(OutOfMemory),
         Pull::Empty => {}

@@ -3,7 +3,7 @@ use crate::watch::{Signal, Watch};
 use mpx_group::Proc;
 use std::sync::Wait;
 
-/// What a rank needs to look: it looks so many times for the same thing, and sleeps in between, until its gossip has ended.
+/// What a rank needs to look: it looks so many times for the same thing, and waits in between, until its gossip has ended.
 #[derive(Drop)]
 pub(crate) struct Looks<'a> {
     pub(crate) watch: &'a Watch,
@@ -16,25 +16,30 @@ pub(crate) struct Looks<'a> {
 #[derive(Clone, Copy, Drop)]
 pub(crate) struct Look {
     news: u64,
+    told: u64,
     has_ended: bool,
 }
 
 impl<'a> Looks<'a> {
-    /// Before a look.
+    /// Before a look. `told` is read before `has_ended`: where the gossip ends behind that, it tells the rank once more.
     pub(crate) fn begin(&self) -> Look {
+        let news = self.watch.news();
+        let told = self.signal.told();
+        let has_ended = self.signal.has_ended();
         Look {
-            news: self.watch.news(),
-            has_ended: self.signal.has_ended(),
+            news,
+            told,
+            has_ended,
         }
     }
 
-    /// Behind a look that found nothing: sleeps until there may be something new, and answers whether there may be.
+    /// Behind a look that found nothing: waits until there may be something new, and answers whether there may be.
     pub(crate) fn goes_on<R: Wait>(&self, rt: &R, look: Look) -> bool {
         if look.has_ended {
             return false;
         }
         self.watch.has_looked(self.me, look.news);
-        self.signal.park(rt);
+        self.signal.wait(rt, look.told);
         true
     }
 
@@ -43,9 +48,8 @@ impl<'a> Looks<'a> {
         self.watch.call_begins();
     }
 
-    /// The rank has posted: all gossips that sleep are woken.
+    /// The rank has posted.
     pub(crate) fn has_posted(&self) {
         self.watch.tell_news();
-        self.watch.sleepers.wake();
     }
 }

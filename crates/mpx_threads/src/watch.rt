@@ -86,9 +86,10 @@ impl Watch {
         self.news.load(Ordering::SeqCst)
     }
 
-    /// Something has changed a port.
+    /// Something has changed a port: all gossips that sleep are woken.
     pub(crate) fn tell_news(&self) {
         self.news.fetch_add(1, Ordering::SeqCst);
+        self.sleepers.wake();
     }
 
     /// The rank of this process had read this number when it looked and found nothing.
@@ -172,35 +173,40 @@ impl Watch {
 /// What the gossip of a process tells its rank: that there may be something new, and that there will be nothing more.
 #[derive(Drop)]
 pub(crate) struct Signal {
-    rank: Parker,
+    rank: Sleepers,
     ended: AtomicBool,
 }
 
 impl Signal {
     pub(crate) fn new() -> Signal {
         Signal {
-            rank: Parker::new(),
+            rank: Sleepers::new(),
             ended: AtomicBool::new(false),
         }
     }
 
     /// There may be something new.
     pub(crate) fn tell(&self) {
-        self.rank.unpark();
+        self.rank.wake();
     }
 
     /// There is nothing more to come.
     pub(crate) fn end(&self) {
         self.ended.store(true, Ordering::SeqCst);
-        self.rank.unpark();
+        self.rank.wake();
     }
 
     pub(crate) fn has_ended(&self) -> bool {
         self.ended.load(Ordering::SeqCst)
     }
 
-    /// Sleeps until there may be something new. Only while the gossip hasn't ended will it be woken.
-    pub(crate) fn park<R: Wait>(&self, rt: &R) {
-        self.rank.park(rt);
+    /// How often the rank was told.
+    pub(crate) fn told(&self) -> u64 {
+        self.rank.wakes()
+    }
+
+    /// Waits until the rank is told more often than this. Only while the gossip hasn't ended will it be told.
+    pub(crate) fn wait<R: Wait>(&self, rt: &R, told: u64) {
+        self.rank.wait(rt, told);
     }
 }

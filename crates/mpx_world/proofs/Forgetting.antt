@@ -31,7 +31,7 @@ module _ {A : Type 0} (forget : ℕ → Name → ℕ → A) where
   first_forgets hs p q name n k below same also l = (below, l, 0, λ i. Some (forget (sym same i) (sym also i) below))
 
 later_forgets : {A : Type 0} (forget : ℕ → A) (h : A) (hs : List A) (k : ℕ) → HasForgotten forget hs k → HasForgotten forget (h ∷ hs) k
-later_forgets forget h hs k f = (f.0, f.1.0, suc f.1.1.0, f.1.1.1)
+later_forgets forget h hs k f = (f.0, f.1, suc f.2, f.3)
 
 -- what happens leaves a result, or it lets it go
 held_happens : (w : WorldView) (h : Happening) (hs : List Happening) (p : ℕ) (name : Name) (k : ℕ) (r : Finished) → Holds w p name k r → Holds (happens w h) p name k r ⊎ HasForgotten (Forgets p name) (h ∷ hs) k

@@ -6,7 +6,7 @@ ghost use Rattle.mpx_bus.specs.Buses.{table_of};
 use join_core::OutOfMemory;
 use mpx_bus::{Bus, Frame, Pop, Port, Push};
 use mpx_name::Name;
-use mpx_node::{Finished, Harvest};
+use mpx_node::{Finished, Harvest, Node};
 use mpx_num::{Listing, Ops};
 use mpx_value::Outcome;
 use std::alloc::Global;
@@ -19,23 +19,25 @@ pub const LIMIT: usize = 1_048_576;
 
 #[derive(Clone, Copy)]
 pub enum Act {
-    // It posts its number to the first sum of all.
-    Posts,
+    // It posts its number and so much more to the next sum of all, which is this call.
+    Posts(u32, i128),
     // It finds room for just so many frames, in a queue that is empty.
     HasRoom(usize),
     // It pops a frame, pushes that on three times, and then two of its own.
     Gossips,
-    // It harvests the first sum of all, which is this.
-    Harvests(i128),
+    // It harvests the next sum of all, which is this call, and gives this.
+    Harvests(u32, i128),
+    // It lets the sums of calls below the first number go. The first that is left then is that of the second number's call, which gives this.
+    Forgets(u32, u32, i128),
 }
 
-// The port posts its number to the first sum of all.
-fn posts(alloc: Global, port: &mut Port, number: i128, ops: &Ops) -> Result<bool, Fail>
+// The port posts its number to the next sum of all, which is this call.
+fn posts(alloc: Global, port: &mut Port, number: i128, call: u32, ops: &Ops) -> Result<bool, Fail>
     requires list { ⟦<Ops as Listing>⟧.operations ops.now ≡ port.old.setup.operations }
     ensures { IsSamePort port.old port.new }
 {
     let draft = a_sum(alloc, number)?;
-    Ok(port.post(alloc, &Name::world(alloc), draft, ops)? == 0)
+    Ok(port.post(alloc, &Name::world(alloc), draft, ops)? == call)
 }
 
 // Whether so many frames come out, and then none.
@@ -164,12 +166,12 @@ fn gossips<R: Wait>(rt: &R, alloc: Global, bus: &Bus, port: &mut Port) -> Result
     Ok(popped && own && next)
 }
 
-/// Whether the first sum of all is done.
-pub fn harvests(alloc: Global, port: &mut Port, ops: &Ops) -> Result<bool, OutOfMemory>
+/// Whether the next sum of all, which is this call, is done.
+pub fn harvests(alloc: Global, port: &mut Port, call: u32, ops: &Ops) -> Result<bool, OutOfMemory>
     requires list { ⟦<Ops as Listing>⟧.operations ops.now ≡ port.old.setup.operations }
     ensures { IsSamePort port.old port.new }
 {
-    Ok(port.harvest(alloc, &Name::world(alloc), ops)? == Harvest::Done(0))
+    Ok(port.harvest(alloc, &Name::world(alloc), ops)? == Harvest::Done(call))
 }
 
 /// The sum that a call gave, where it gave one.
@@ -180,9 +182,27 @@ pub fn sum_in(finished: &Finished) -> Option<i128> {
     }
 }
 
-// What the first sum of all gave the port, where it is done.
-fn sum_at(alloc: Global, port: &Port) -> Option<i128> {
-    sum_in(port.node().result(&Name::world(alloc), 0)?)
+/// What this sum of all gave a process, where that has it.
+pub fn sum_at(alloc: Global, node: &Node, call: u32) -> Option<i128> {
+    sum_in(node.result(&Name::world(alloc), call)?)
+}
+
+// Whether it has none of the sums of all below this call.
+fn has_none_below(alloc: Global, node: &Node, call: u32) -> bool {
+    for gone in 0..call {
+        if sum_at(alloc, node, gone).is_some() {
+            return false;
+        }
+    }
+    true
+}
+
+// Lets the sums of all below a call go. Whether the first that is left then is that of this call, which gives this.
+fn forgets(alloc: Global, port: &mut Port, below: u32, call: u32, sum: i128) -> bool
+    ensures { IsSamePort port.old port.new }
+{
+    port.forget(&Name::world(alloc), below);
+    has_none_below(alloc, port.node(), call) && sum_at(alloc, port.node(), call) == Some(sum)
 }
 
 /// Whether the port with this number does that.
@@ -201,9 +221,12 @@ pub fn does<R: Wait>(
     ensures { IsSamePort port.old port.new }
 {
     match act {
-        Act::Posts => posts(alloc, port, number, ops),
+        Act::Posts(call, more) => posts(alloc, port, number.wrapping_add(more), call, ops),
         Act::HasRoom(room) => has_room(rt, alloc, bus, port, room),
         Act::Gossips => gossips(rt, alloc, bus, port),
-        Act::Harvests(sum) => Ok(harvests(alloc, port, ops)? && sum_at(alloc, port) == Some(sum)),
+        Act::Harvests(call, sum) => {
+            Ok(harvests(alloc, port, call, ops)? && sum_at(alloc, port.node(), call) == Some(sum))
+        }
+        Act::Forgets(below, call, sum) => Ok(forgets(alloc, port, below, call, sum)),
     }
 }

@@ -18,15 +18,15 @@ use std::sync::ledger::Blank;
 use std::test::Fail;
 use test_drafts::a_sum;
 
-// A shared port, and the right to post on it.
+/// A shared port, and the right to post on it.
 #[derive(Drop)]
-struct Shared<L: PortLock> {
-    port: SharedPort<L>,
-    poster: Poster<L>,
+pub struct Shared<L: PortLock> {
+    pub port: SharedPort<L>,
+    pub poster: Poster<L>,
 }
 
-// Puts the new port of this process under a lock.
-fn share<L: PortLock>(alloc: Global, port: Port, me: u8, blank: Blank) -> Shared<L>
+/// Puts the port of this process under a lock.
+pub fn share<L: PortLock>(alloc: Global, port: Port, me: u8, blank: Blank) -> Shared<L>
     requires ledger { (blank.name ≡ L.name) × ((blank.parts ≡ L.parts) × (L.all ≡ L.parts)) }
     requires me { (me < 64) × (me ≡ L.me) }
     requires port { IsLawful L.table L.setup L.me port }
@@ -37,8 +37,8 @@ fn share<L: PortLock>(alloc: Global, port: Port, me: u8, blank: Blank) -> Shared
     Shared { port, poster }
 }
 
-// The port posts its number to the next sum of all.
-fn post_sum<L: PortLock, R: Wait>(
+/// The port posts its number to the next sum of all.
+pub fn post_sum<L: PortLock, R: Wait>(
     rt: &R,
     alloc: Global,
     shared: &mut Shared<L>,
@@ -69,8 +69,8 @@ fn tells(tested: &TicketTested, ticket: &Ticket, wanted: Option<i128>) -> bool {
     }
 }
 
-// Whether the port tells that of the ticket.
-fn is_told<L: PortLock, R: Wait>(
+/// Whether the port tells this sum of the ticket, beside its post; or that there is no such post, where no sum is wanted.
+pub fn is_told<L: PortLock, R: Wait>(
     rt: &R,
     alloc: Global,
     port: &SharedPort<L>,

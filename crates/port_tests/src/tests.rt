@@ -1,15 +1,33 @@
 //! What ports and shared ports come to.
-use crate::port_fleets::{Fleet, both_finish};
+use crate::let_go::is_told_as_let_go;
+use crate::port_fleets::{Fleet, all_meet, both_finish};
 use crate::ports::Act;
 use crate::shared_pairs::meet;
 use mpx_num::Ops;
 use std::test::Fail;
 
-const SUM_OF_EIGHT: &[(u32, Act)] = &[(1, Act::Posts), (100, Act::Gossips), (1, Act::Harvests(28))];
+const SUM_OF_EIGHT: &[(u32, Act)] = &[
+    (1, Act::Posts(0, 0)),
+    (100, Act::Gossips),
+    (1, Act::Harvests(0, 28)),
+];
+
+// Three sums of two, of which first one is let go, and then all but the newest.
+const LETS_GO: &[(u32, Act)] = &[
+    (1, Act::Posts(0, 0)),
+    (1, Act::Posts(1, 10)),
+    (1, Act::Posts(2, 20)),
+    (20, Act::Gossips),
+    (1, Act::Harvests(0, 1)),
+    (1, Act::Harvests(1, 21)),
+    (1, Act::Harvests(2, 41)),
+    (1, Act::Forgets(1, 1, 21)),
+    (1, Act::Forgets(9, 2, 41)),
+];
 
 // Fleets, and how many instances their last two ports have both finished in the end. Whatever the room, eight ports get the sum of 0 to 7. Two
-// ports that don't harvest have finished none. In the last row each of two works in a thread.
-const FLEETS: [(Fleet, u64); 6] = [
+// ports that don't harvest have finished none, and two that let results go have finished as many. In the last row each of two works in a thread.
+const FLEETS: [(Fleet, u64); 7] = [
     ((8, 1, SUM_OF_EIGHT, 0), 1),
     ((8, 256, SUM_OF_EIGHT, 0), 1),
     (
@@ -18,17 +36,18 @@ const FLEETS: [(Fleet, u64); 6] = [
             1,
             &[
                 (1, Act::HasRoom(1)),
-                (1, Act::Posts),
+                (1, Act::Posts(0, 0)),
                 (20, Act::Gossips),
-                (1, Act::Harvests(1)),
+                (1, Act::Harvests(0, 1)),
             ],
             0,
         ),
         1,
     ),
-    ((2, 1, &[(1, Act::Posts), (20, Act::Gossips)], 0), 0),
+    ((2, 1, &[(1, Act::Posts(0, 0)), (20, Act::Gossips)], 0), 0),
     ((2, 256, &[(1, Act::HasRoom(256))], 0), 0),
-    ((2, 4, &[(1, Act::Posts)], 5_000_000), 1),
+    ((2, 4, LETS_GO, 0), 3),
+    ((2, 4, &[(1, Act::Posts(0, 0))], 5_000_000), 1),
 ];
 
 #[test]
@@ -44,5 +63,19 @@ fn two_ports_meet_with_what_both_finished(rt: HostRuntime) -> Result<(), Fail> {
 fn two_shared_ports_have_one_sum(rt: HostRuntime) -> Result<(), Fail> {
     let ops = Ops::none(rt.alloc());
     assert!(rt; meet(&rt, rt.alloc(), &ops)?);
+    Ok(())
+}
+
+#[test]
+fn eight_ports_meet_with_one_sum(rt: HostRuntime) -> Result<(), Fail> {
+    let ops = Ops::none(rt.alloc());
+    assert!(rt; all_meet(&rt, rt.alloc(), SUM_OF_EIGHT, 28, &ops)?);
+    Ok(())
+}
+
+#[test]
+fn result_let_go_between_two_locks_is_told_so(rt: HostRuntime) -> Result<(), Fail> {
+    let ops = Ops::none(rt.alloc());
+    assert!(rt; is_told_as_let_go(&rt, rt.alloc(), &ops)?);
     Ok(())
 }

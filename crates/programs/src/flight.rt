@@ -1,5 +1,6 @@
 //! Two reductions in flight beside a rank's own work.
 use crate::TURNS;
+use crate::why::Why;
 use mpx_comm::{Comm, Desk, Host, integer_of};
 use mpx_num::{Numbers, Op, Ops, Ty};
 use mpx_ranks::Program;
@@ -8,7 +9,7 @@ use std::alloc::Global;
 pub struct Flight;
 
 impl Program for Flight {
-    type Answer = Option<String>;
+    type Answer = Result<String, Why>;
 
     fn run<H: Host>(
         &self,
@@ -16,17 +17,17 @@ impl Program for Flight {
         desk: &mut Desk<H>,
         world: &Comm,
         ops: &Ops,
-    ) -> Option<String> {
+    ) -> Result<String, Why> {
         post(alloc, desk, world, Op::Sum, ops)?;
         post(alloc, desk, world, Op::Max, ops)?;
         let mut pieces = 0;
         let sum = polled(alloc, desk, &mut pieces, ops)?;
         let most = next_done(alloc, desk, ops)?;
-        format!(in alloc; "sum {sum}, most {most}").ok()
+        Ok(format!(in alloc; "sum {sum}, most {most}")?)
     }
 
-    fn gives_up(&self, answer: &Option<String>) -> bool {
-        answer.is_none()
+    fn gives_up(&self, answer: &Result<String, Why>) -> bool {
+        answer.is_err()
     }
 }
 
@@ -37,30 +38,34 @@ pub fn post<H: Host>(
     world: &Comm,
     op: Op,
     ops: &Ops,
-) -> Option<()> {
+) -> Result<(), Why> {
     let mine = Numbers::one(i128::from(world.rank()) + 3);
-    let request = desk.iallreduce(alloc, world, op, Ty::I32, mine, ops);
-    drop(request.ok()?);
-    Some(())
+    drop(desk.iallreduce(alloc, world, op, Ty::I32, mine, ops)?);
+    Ok(())
 }
 
 // The number of the first open call that is done. Until then the rank does a piece of its own work behind each look, and lets its host make
 // one turn.
-fn polled<H: Host>(alloc: Global, desk: &mut Desk<H>, pieces: &mut u64, ops: &Ops) -> Option<i32> {
+fn polled<H: Host>(
+    alloc: Global,
+    desk: &mut Desk<H>,
+    pieces: &mut u64,
+    ops: &Ops,
+) -> Result<i32, Why> {
     for _ in 0..TURNS {
-        if let Some((_request, finished)) = desk.testany(alloc, ops).ok()? {
-            return integer_of(&finished);
+        if let Some((_request, finished)) = desk.testany(alloc, ops)? {
+            return integer_of(&finished).ok_or(Why::NoAnswer);
         }
         *pieces = pieces.wrapping_add(1);
-        desk.turn(alloc, 1).ok()?;
+        desk.turn(alloc, 1)?;
     }
-    None
+    Err(Why::NoAnswer)
 }
 
 // The number of the next open call that is done.
-fn next_done<H: Host>(alloc: Global, desk: &mut Desk<H>, ops: &Ops) -> Option<i32> {
-    match desk.waitany(alloc, TURNS, ops).ok()? {
-        Some((_request, finished)) => integer_of(&finished),
-        None => None,
+fn next_done<H: Host>(alloc: Global, desk: &mut Desk<H>, ops: &Ops) -> Result<i32, Why> {
+    match desk.waitany(alloc, TURNS, ops)? {
+        Some((_request, finished)) => integer_of(&finished).ok_or(Why::NoAnswer),
+        None => Err(Why::NoAnswer),
     }
 }

@@ -6,6 +6,7 @@ mod flight;
 mod paths;
 mod scan;
 mod sort;
+mod why;
 
 use asks::Asks;
 use flight::Flight;
@@ -21,6 +22,7 @@ use std::io::Write;
 use std::process::ExitCode;
 use std::sync::Wait;
 use std::thread::Threads;
+use why::Why;
 
 /// So many turns a call waits at most.
 pub const TURNS: u64 = 1_000_000;
@@ -34,23 +36,24 @@ fn print_job<P, R: Threads + Wait + Sync, W: Write>(
     count: u8,
     program: &P,
     ops: &Ops,
-) -> Option<()>
+) -> Result<(), Why>
 where
-    P: Program<Answer = Option<String>> + Sync,
+    P: Program<Answer = Result<String, Why>> + Sync,
 {
-    let ran = ranks(rt, alloc, count, 0, program, ops).ok()?;
+    let ran = ranks(rt, alloc, count, 0, program, ops)?;
     drop(ran.nodes);
-    let printed = print_answers(out, name, &ran.answers);
-    drop(ran.answers);
-    printed
+    print_answers(out, name, ran.answers)
 }
 
-fn print_answers<W: Write>(out: &mut W, name: &str, answers: &[Option<String>]) -> Option<()> {
-    for (rank, answer) in answers.iter().enumerate() {
-        let text = answer.as_ref()?;
-        writeln!(out, "{name}, rank {rank}: {text}").ok()?;
+fn print_answers<W: Write>(
+    out: &mut W,
+    name: &str,
+    answers: Vec<Result<String, Why>>,
+) -> Result<(), Why> {
+    for (rank, answer) in answers.into_iter().enumerate() {
+        writeln!(out, "{name}, rank {rank}: {}", answer?)?;
     }
-    Some(())
+    Ok(())
 }
 
 fn print_all<R: Threads + Wait + Sync, W: Write>(
@@ -58,28 +61,28 @@ fn print_all<R: Threads + Wait + Sync, W: Write>(
     alloc: Global,
     out: &mut W,
     ops: &Ops,
-) -> Option<()> {
+) -> Result<(), Why> {
     print_job(rt, alloc, out, "scan", 6, &Scan, ops)?;
     print_job(rt, alloc, out, "sort", 16, &Sort { each: 200 }, ops)?;
     print_job(rt, alloc, out, "paths", 8, &Paths, ops)?;
     print_job(rt, alloc, out, "flight", 3, &Flight, ops)?;
     print_job(rt, alloc, out, "asks", 3, &Asks, ops)?;
-    out.flush().ok()
+    Ok(out.flush()?)
 }
 
 // Makes the list of the job's own operations, and runs all by it.
-fn go<R: Threads + Wait + Sync, W: Write>(rt: &R, alloc: Global, out: &mut W) -> Option<()> {
+fn go<R: Threads + Wait + Sync, W: Write>(rt: &R, alloc: Global, out: &mut W) -> Result<(), Why> {
     let mut list: Vec<Box<dyn OwnOp + Send + Sync + Drop>> = Vec::new(alloc);
-    list.push(Box::new(alloc, Product).ok()?).ok()?;
-    let ops = Ops::new(list).ok()?;
+    list.push(Box::new(alloc, Product)?)?;
+    let ops = Ops::new(list)?;
     print_all(rt, alloc, out, &ops)
 }
 
 fn main(rt: HostRuntime) -> ExitCode {
     match go(&rt, rt.alloc(), &mut io::writer(&rt)) {
-        Some(()) => ExitCode::SUCCESS,
-        None => {
-            let _told = writeln!(rt.stderr(), "gave up");
+        Ok(()) => ExitCode::SUCCESS,
+        Err(why) => {
+            let _told = writeln!(rt.stderr(), "gave up: {why}");
             ExitCode::FAILURE
         }
     }

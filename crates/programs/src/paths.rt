@@ -1,6 +1,7 @@
 //! Shortest paths by relaxation: each rank is a vertex of a directed graph with weights, and finds how far it is from rank 0.
 use crate::TURNS;
-use mpx_comm::{Comm, Desk, Host, integer_of, integers_of};
+use crate::why::{Around, Why};
+use mpx_comm::{Comm, Desk, Host};
 use mpx_num::{Numbers, Op, Ops, Ty};
 use mpx_post::DraftedEdge;
 use mpx_ranks::Program;
@@ -12,7 +13,7 @@ const FAR: u32 = 1_000_000;
 pub struct Paths;
 
 impl Program for Paths {
-    type Answer = Option<String>;
+    type Answer = Result<String, Why>;
 
     fn run<H: Host>(
         &self,
@@ -20,85 +21,81 @@ impl Program for Paths {
         desk: &mut Desk<H>,
         world: &Comm,
         ops: &Ops,
-    ) -> Option<String> {
+    ) -> Result<String, Why> {
         let graph = graph_of(alloc, desk, world, ops)?;
-        let distance = relaxed(alloc, desk, &graph, ops);
+        let at = Around {
+            alloc,
+            world: &graph,
+            ops,
+        };
+        let distance = relaxed(desk, &at);
         drop(graph);
-        format!(in alloc; "{} from rank 0", distance?).ok()
+        Ok(format!(in alloc; "{} from rank 0", distance?)?)
     }
 
-    fn gives_up(&self, answer: &Option<String>) -> bool {
-        answer.is_none()
+    fn gives_up(&self, answer: &Result<String, Why>) -> bool {
+        answer.is_err()
     }
 }
 
 // The graph in which each rank r has edges to the ranks 2r and 2r + 1, modulo their number. Each tells its own.
-fn graph_of<H: Host>(alloc: Global, desk: &mut Desk<H>, world: &Comm, ops: &Ops) -> Option<Comm> {
-    let edges = edges_of(alloc, world.rank(), world.size())?;
-    let made = desk.dist_graph(alloc, world, true, edges, TURNS, ops);
-    let made = made.ok()?;
+fn graph_of<H: Host>(
+    alloc: Global,
+    desk: &mut Desk<H>,
+    world: &Comm,
+    ops: &Ops,
+) -> Result<Comm, Why> {
+    let (rank, ranks) = (i128::from(world.rank()), i128::from(world.size()));
+    let edges = vec![in alloc;
+        edge(rank, 2 * rank, ranks, 5),
+        edge(rank, 2 * rank + 1, ranks, 7 - rank % 3),
+    ]?;
+    let made = desk.dist_graph(alloc, world, true, edges, TURNS, ops)?;
     let graph = Comm::of(alloc, &made);
     drop(made);
-    graph.ok()?
+    graph?.ok_or(Why::NoAnswer)
 }
 
-fn edges_of(alloc: Global, rank: u8, ranks: u8) -> Option<Vec<DraftedEdge>> {
-    let (source, ranks) = (i128::from(rank), i128::from(ranks));
-    let even = DraftedEdge {
+// From the rank to another, modulo their number.
+fn edge(source: i128, to: i128, ranks: i128, weight: i128) -> DraftedEdge {
+    let destination = to.checked_rem(ranks).unwrap_or(0);
+    DraftedEdge {
         source,
-        destination: (2 * source).checked_rem(ranks)?,
-        weight: 5,
-    };
-    let odd = DraftedEdge {
-        source,
-        destination: (2 * source + 1).checked_rem(ranks)?,
-        weight: 7 - source % 3,
-    };
-    vec![in alloc; even, odd].ok()
+        destination,
+        weight,
+    }
 }
 
 // Hears from its sources how far they are, round by round, until all say that nothing came nearer. Each round lets its results go.
-fn relaxed<H: Host>(alloc: Global, desk: &mut Desk<H>, graph: &Comm, ops: &Ops) -> Option<u32> {
-    let mut distance = if graph.rank() == 0 { 0 } else { FAR };
-    for _round in 0..graph.size() {
-        let near = nearest(alloc, desk, graph, distance, ops)?;
-        let are_done = all(alloc, desk, graph, distance <= near, ops)?;
+fn relaxed<H: Host>(desk: &mut Desk<H>, at: &Around<'_>) -> Result<u32, Why> {
+    let mut distance = if at.world.rank() == 0 { 0 } else { FAR };
+    for _round in 0..at.world.size() {
+        let near = nearest(desk, at, distance)?;
+        let are_done = all(desk, at, distance <= near)?;
         distance = distance.min(near);
-        desk.forget(graph);
+        desk.forget(at.world);
         if are_done {
             break;
         }
     }
-    Some(distance)
+    Ok(distance)
 }
 
 // The shortest way over a source.
-fn nearest<H: Host>(
-    alloc: Global,
-    desk: &mut Desk<H>,
-    graph: &Comm,
-    distance: u32,
-    ops: &Ops,
-) -> Option<u32> {
+fn nearest<H: Host>(desk: &mut Desk<H>, at: &Around<'_>, distance: u32) -> Result<u32, Why> {
     let mine = Numbers::one(i128::from(distance));
-    let heard = desk.neighbor_allgather(alloc, graph, Ty::U32, 1, mine, TURNS, ops);
-    let heard: Vec<u32> = integers_of(alloc, &heard.ok()?).ok()?;
+    let heard = desk.neighbor_allgather(at.alloc, at.world, Ty::U32, 1, mine, TURNS, at.ops);
+    let heard = at.list(heard)?;
     let mut near = FAR;
-    for (distance, source) in heard.iter().zip(desk.sources(graph).ok()?) {
+    for (distance, source) in heard.iter().zip(desk.sources(at.world)?) {
         near = near.min(distance.saturating_add(source.weight));
     }
-    Some(near)
+    Ok(near)
 }
 
 // Whether all ranks say so.
-fn all<H: Host>(
-    alloc: Global,
-    desk: &mut Desk<H>,
-    graph: &Comm,
-    mine: bool,
-    ops: &Ops,
-) -> Option<bool> {
+fn all<H: Host>(desk: &mut Desk<H>, at: &Around<'_>, mine: bool) -> Result<bool, Why> {
     let mine = Numbers::one(i128::from(mine));
-    let all = desk.allreduce(alloc, graph, Op::Land, Ty::U8, mine, TURNS, ops);
-    Some(integer_of::<u8>(&all.ok()?)? == 1)
+    let all = desk.allreduce(at.alloc, at.world, Op::Land, Ty::U32, mine, TURNS, at.ops);
+    Ok(at.list(all)?.first() == Some(&1))
 }

@@ -1,5 +1,6 @@
 //! A scan of matrices by the program's own operation: each rank gets the product of its own matrix behind all before it.
 use crate::TURNS;
+use crate::why::Why;
 use mpx_comm::{Comm, Desk, Host, integer_of};
 use mpx_num::{Numbers, Op, Ops, Ty};
 use mpx_ranks::Program;
@@ -8,7 +9,7 @@ use std::alloc::Global;
 pub struct Scan;
 
 impl Program for Scan {
-    type Answer = Option<String>;
+    type Answer = Result<String, Why>;
 
     fn run<H: Host>(
         &self,
@@ -16,14 +17,14 @@ impl Program for Scan {
         desk: &mut Desk<H>,
         world: &Comm,
         ops: &Ops,
-    ) -> Option<String> {
+    ) -> Result<String, Why> {
         let mine = Numbers::one(matrix_of(world.rank()));
-        let product = desk.scan(alloc, world, Op::Own(0), Ty::U64, mine, TURNS, ops);
-        told(alloc, integer_of(&product.ok()?)?)
+        let product = desk.scan(alloc, world, Op::Own(0), Ty::U64, mine, TURNS, ops)?;
+        told(alloc, integer_of(&product).ok_or(Why::NoAnswer)?)
     }
 
-    fn gives_up(&self, answer: &Option<String>) -> bool {
-        answer.is_none()
+    fn gives_up(&self, answer: &Result<String, Why>) -> bool {
+        answer.is_err()
     }
 }
 
@@ -33,14 +34,13 @@ fn matrix_of(rank: u8) -> i128 {
 }
 
 // Both rows of a matrix.
-fn told(alloc: Global, matrix: u64) -> Option<String> {
+fn told(alloc: Global, matrix: u64) -> Result<String, Why> {
     let (above, below) = (matrix % (1 << 32), matrix >> 32);
-    format!(in alloc;
+    Ok(format!(in alloc;
         "{} {}, {} {}",
         above % 65_536,
         above >> 16,
         below % 65_536,
         below >> 16
-    )
-    .ok()
+    )?)
 }

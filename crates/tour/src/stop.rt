@@ -1,6 +1,6 @@
 //! Why the tour stops.
 use join_core::OutOfMemory;
-use mpx_comm::{CallError, TurnError, WaitError};
+use mpx_comm::{AskError, CallError, GivenError, TurnError, WaitError};
 use mpx_post::PostError;
 use mpx_ranks::RanksError;
 use std::alloc::{AllocError, AllocFailed};
@@ -88,6 +88,24 @@ impl From<TurnError> for Stop {
         match error {
             TurnError::OutOfMemory => Stop::OutOfMemory,
             TurnError::GaveUp => Stop::NoAnswer,
+        }
+    }
+}
+
+impl From<GivenError> for Stop {
+    fn from(error: GivenError) -> Stop {
+        match error {
+            GivenError::OutOfMemory => Stop::OutOfMemory,
+            GivenError::Fault(_) | GivenError::OutOfRange => Stop::NoAnswer,
+        }
+    }
+}
+
+impl From<AskError> for Stop {
+    fn from(error: AskError) -> Stop {
+        match error {
+            AskError::OutOfMemory => Stop::OutOfMemory,
+            AskError::NotKnown | AskError::NoTopology => Stop::NoAnswer,
         }
     }
 }

@@ -1,4 +1,4 @@
-use Rattle.mpx_explain.proofs.Ends.{tells_end}
+use Rattle.mpx_explain.proofs.FoundEnds.{tells_end}
 use Rattle.mpx_explain.proofs.end_lines.explain_run.Goals as goal
 
 pub returns : goal.returns

@@ -1,4 +1,4 @@
-use Rattle.mpx_explain.proofs.Ends.{waits_nowhere, waits_there}
+use Rattle.mpx_explain.proofs.FoundEnds.{waits_nowhere, waits_there}
 use Rattle.mpx_explain.proofs.standing.waits_at.Goals as goal
 
 pub returns-then-not-contains : goal.returns-then-not-contains

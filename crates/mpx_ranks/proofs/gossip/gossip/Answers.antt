@@ -1,10 +1,14 @@
 use Rattle.mpx_bus.specs.Ports.{node_in}
 use Rattle.mpx_ranks.proofs.Quiet.{heard_more, turn_of}
+use Rattle.mpx_ranks.specs.Had.{does_then}
 use Rattle.mpx_ranks.specs.Members.{same_then}
 use Rattle.mpx_ranks.proofs.gossip.gossip.Goals as goal
 
 pub returns-clause-same : goal.returns-clause-same
 returns-clause-same g c = same_then _ _ _ (same_then _ _ _ c.pull-popped.ensures.same c.prune.ensures.same) c.push-pushed.ensures.same
+
+pub returns-clause-more : goal.returns-clause-more
+returns-clause-more g c = does_then _ _ _ (does_then _ _ _ c.pull-popped.ensures.more c.prune.ensures.more) c.push-pushed.ensures.more
 
 pub returns-clause-heard : goal.returns-clause-heard
 returns-clause-heard g c =

@@ -35,4 +35,4 @@ returns g c =
     let table = table_of c.in_ok-bus.bus in
     let fleet = subst (λ (s : Setup). IsFleet s table size c.in_ok-bus.ports.items) c.requires.setup c.in_ok-bus.ensures.ports in
     ran_so g.P.Program.gives c.args.program.now _ c.args.ranks size table c.in_ok-bus.ports.items c.in_ok-works.works.items c.in_ok-worked.worked.items fleet c.in_ok-works.ensures c.in_ok-worked.ensures
-    c.args.relays refl g.N.Named.setup c.requires.setup c.told_of.result c.told_of.ensures.answers c.told_of.ensures.nodes c.told_of.ensures.history
+    (omega arith) g.N.Named.setup c.requires.setup c.told_of.result c.told_of.ensures.answers c.told_of.ensures.nodes c.told_of.ensures.history

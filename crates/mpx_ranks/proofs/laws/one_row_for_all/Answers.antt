@@ -4,6 +4,7 @@ use Rattle.mpx_name.specs.Name.{Name}
 use Rattle.mpx_node.specs.declared.finished.Finished.{Finished}
 use Rattle.mpx_node.specs.Nodes.{NodeView, result_on}
 use Rattle.mpx_num.specs.declared.own.Operation.{Operation}
+use Rattle.mpx_ranks.proofs.Values.{values_of_one_row}
 use Rattle.mpx_ranks.specs.Ranks.{AreOfOneHistory, world_in}
 use Rattle.mpx_ranks.proofs.laws.one_row_for_all.Goals as goal
 
@@ -18,3 +19,6 @@ returns-clause-values c operations ranks size nodes one p node name call finishe
 pub returns-clause-one_row : goal.returns-clause-one_row
 returns-clause-one_row c operations ranks size nodes one p q first second name call x y e f g h =
     (one.agree p q).results name call x y (there operations ranks size nodes one p first name call x e g) (there operations ranks size nodes one q second name call y f h)
+
+pub returns-clause-of_values : goal.returns-clause-of_values
+returns-clause-of_values c w p q name call x y v u = values_of_one_row w p q name call x y v u

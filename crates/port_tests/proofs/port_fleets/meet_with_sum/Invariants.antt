@@ -1,0 +1,5 @@
+use Rattle.port_tests.specs.Homes.{ranks_alone}
+use Rattle.port_tests.proofs.port_fleets.meet_with_sum.Given as goal
+
+abbrev pub ghosts-meet_all : goal.ghosts-meet_all
+ghosts-meet_all g a = record { setup = ranks_alone a.ranks }
