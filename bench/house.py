@@ -28,7 +28,7 @@ BEGIN, END = "<!-- bench/house.py writes this table -->\n", "<!-- until here -->
 ENTERED = """gossipmpi mpx_shell mpx_words mpx_affine mpx_num mpx_program mpx_run mpx_script mpx_statement mpx_kind mpx_post mpx_sim mpx_node
 mpx_board mpx_birth mpx_name mpx_group mpx_format join_nest join_core mpx_rank mpx_value mpx_match mpx_fold mpx_meaning""".split()
 FRAMED = "mpx_delta mpx_digest mpx_encode mpx_rope mpx_wire mpx_decode".split()
-# The steps back: from, to, and the function that is called. Each hands on a script, a statement, a draft, a post, a row, a result or a text into a crate
+# The steps back of the way that begins with `exit_code`: from, to, and the function that is called. Each hands on words, a script, a statement, a draft, a post, a row, a result or a text into a crate
 # that control had left. Passed over, of what is seen: look-ups, copies, what a call makes, frames, messages, who looks on, and what is made before the
 # first turn; of crates of room 2 all but `apply`.
 BACK = [

@@ -2,21 +2,21 @@
 //! script's evaluation, or how much the script has.
 #![tactic(auto)]
 
-use mpx_shell::exit_code;
+use mpx_shell::{exit_code, seen_by, words_of};
+use std::io;
 use std::process::ExitCode;
-use std::{env, io};
 
-/// Hands on the process's arguments and the standard streams.
+/// Hands on the words of the call and the standard streams.
 fn main(rt: HostRuntime) -> ExitCode {
-    let (code, _shown) = exit_code(
+    let words = words_of(&rt);
+    let mut seen = seen_by(&words, rt.alloc(), &rt, rt.stderr());
+    exit_code(
         &rt,
         rt.alloc(),
-        env::args(&rt),
+        &words,
         &mut rt.reader(),
         &mut io::writer(&rt),
         &mut rt.stderr(),
-        &rt,
-        rt.stderr(),
-    );
-    code
+        &mut seen,
+    )
 }

@@ -8,6 +8,7 @@ use crate::statements::{Asked, told_of};
 use crate::streams::{Failing, Holding, Limited};
 use mpx_num::Ops;
 use mpx_script::ReadScriptError;
+use mpx_words::not_text;
 use std::alloc::Global;
 use std::io::{self, Read, Write};
 use std::sync::Wait;
@@ -221,7 +222,7 @@ fn no_text<T: Threads + Wait + Sync>(rt: &T, alloc: Global) -> io::Result<Vec<u8
     let mut said = Vec::new(alloc);
     let mut out = Vec::new(alloc);
     let mut reader = b"".as_slice();
-    let words = Err(io::Error::from(io::ErrorKind::InvalidData));
+    let words = Err(not_text(alloc));
     let exited = call_program(rt, alloc, words, &mut reader, &mut out, &mut said, false);
     drop(out);
     with_said(exited, said)

@@ -1,9 +1,8 @@
 //! The program's own call, as its `main` makes it, over streams in memory.
 use crate::terminals::{Leaping, Shown};
-use mpx_shell::exit_code;
+use mpx_shell::{exit_code, seen_by};
 use std::alloc::Global;
-use std::env;
-use std::io::{self, Read, Write};
+use std::io::{Read, Write};
 use std::process::ExitCode;
 use std::sync::Wait;
 use std::thread::Threads;
@@ -17,11 +16,11 @@ pub struct Exited {
     pub shown: Vec<u8>,
 }
 
-/// Makes the call with these words, or where they can't be had, shown on what is a terminal or isn't.
+/// Makes the call with these words, or with some that are no text, shown on what is a terminal or isn't.
 pub fn call_program<T: Threads + Wait + Sync, R: Read, W: Write>(
     rt: &T,
     alloc: Global,
-    words: io::Result<Vec<String>>,
+    words: Result<Vec<String>, clap::Error>,
     reader: &mut R,
     out: &mut W,
     said: &mut Vec<u8>,
@@ -32,19 +31,12 @@ pub fn call_program<T: Threads + Wait + Sync, R: Read, W: Write>(
         is_terminal,
     };
     let clock = Leaping::new();
-    let args = args_of(words);
-    let (code, shown) = exit_code(rt, alloc, args, reader, out, said, &clock, shown);
+    let mut seen = seen_by(&words, alloc, &clock, shown);
+    let code = exit_code(rt, alloc, &words, reader, out, said, &mut seen);
+    drop(words);
     Exited {
         status: number_of(code),
-        shown: shown.text,
-    }
-}
-
-// Words as the arguments of a process.
-fn args_of(words: io::Result<Vec<String>>) -> io::Result<env::Args> {
-    match words {
-        Ok(words) => Ok(words.into_iter()),
-        Err(error) => Err(error),
+        shown: seen.into_writer().text,
     }
 }
 

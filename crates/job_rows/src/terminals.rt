@@ -2,19 +2,10 @@
 use crate::gates::UntilTold;
 use mpx_run::{Observer, Progress};
 use mpx_shell::Seen;
-use mpx_words::Flags;
 use std::alloc::Global;
 use std::cell::Cell;
 use std::io::{self, IsTerminal, Write};
 use std::time::{Clock, Duration};
-
-// What a call asks for that asks for nothing beside its job.
-const NOTHING_BESIDE: Flags = Flags {
-    strict: false,
-    explain: false,
-    trace: false,
-    table: false,
-};
 
 /// Keeps what is written, and is a terminal or not.
 #[derive(Drop)]
@@ -82,7 +73,7 @@ impl<'a> AllBegun<'a> {
             is_terminal: true,
         };
         AllBegun {
-            seen: Seen::of(NOTHING_BESIDE, alloc, clock, shown),
+            seen: Seen::of(&[], alloc, clock, shown),
             gate,
         }
     }

@@ -1,13 +1,10 @@
 -- What a call of a program comes to.
-use Rattle.std.specs.Prelude.{◌≡◌, ◌⊎◌, ℕ, List, Option, Some, None}
-use Rattle.clap.specs.Kinds.{IsAmong}
-use Rattle.clap.specs.declared.error.kind.ErrorKind.{ErrorKind}
+use Rattle.std.specs.Prelude.{◌≡◌, ◌⊎◌, ℕ, List, Option, Some}
 use Rattle.clap.specs.declared.error.kind.ErrorKind.TheVariants as kind
 use Rattle.mpx_num.specs.declared.own.Operation.{Operation}
 use Rattle.mpx_run.specs.Texts.{OfRuns}
 use Rattle.mpx_program.specs.Jobs.{DoesJob, IsRefused, Tells}
 use Rattle.mpx_program.specs.declared.job.Exit.{Exit}
-use Rattle.mpx_words.specs.Usage.{refusal_kinds}
 use Rattle.mpx_words.specs.Words.{invocation_in}
 use Rattle.mpx_words.specs.declared.invocation.Invocation.{Invocation}
 
@@ -29,14 +26,6 @@ Answers Is words there left old new code Says = IsDoneBy Is words there left old
 -- words that ask for this are answered so: the job is done, or memory is wanting
 abbrev pub AnswersCall : (Is : OfRuns) (call : Invocation) (there left old new : Option (List ℕ)) (code : ℕ) (Says : List ℕ → Type 0) → Type 0
 AnswersCall Is call there left old new code Says = (words : List (List ℕ)) → invocation_in words ≡ Some call → Answers Is words there left old new code Says
-
--- words are refused for a reason of this kind: they ask for no job, and clap has it for them, or memory is wanting
-abbrev pub AreRefusedFor : (words : List (List ℕ)) (why : ErrorKind) → Type 0
-AreRefusedFor words why = (why ≡ kind.OutOfMemory) ⊎ ((invocation_in words ≡ None) × IsAmong why (refusal_kinds words))
-
--- without its arguments a process is refused for one that is no text, or for want of memory
-abbrev pub RefusesArguments : (code : ℕ) (Says : List ℕ → Type 0) → Type 0
-RefusesArguments code Says = IsRefused kind.InvalidValue code Says ⊎ IsRefused kind.OutOfMemory code Says
 
 -- a process ends with the status of what is done, and what is said is out, or a beginning of it
 pub record EndsBy (Does : (code : ℕ) (Says : List ℕ → Type 0) → Type 0) (old new : Option (List ℕ)) (status : ℕ) : Type 0 where
