@@ -1,7 +1,7 @@
 -- Ranks that wait, one after the other, and calls of which their boards lack posts.
-use Rattle.std.proofs.Common.{◌≡◌, ◌<◌, ◌≤◌, ℕ, suc, ◌+◌, ◌==◌, Bool, true, false, cond, List, ◌++◌, Option, Some, None, Result, Ok, Err, length, map, nat_eq, arith, ap, subst, sym, ◌∙◌}
-use Rattle.std.specs.List.{All, list_any}
-use Rattle.std.specs.Prelude.{IsSomeAnd, OnOk}
+use Rattle.std.proofs.Common.{◌≡◌, ◌<◌, ◌≤◌, ℕ, suc, ◌+◌, ◌==◌, Bool, true, false, cond, List, ◌∷◌, ◌++◌, append_assoc, drop, drop-cons, Option, Some, None, Result, Ok, Err, length, map, nat_eq, arith, ap, subst, sym, ◌∙◌}
+use Rattle.std.specs.List.{All, flat_map, list_any}
+use Rattle.std.specs.Prelude.{IsSomeAnd, OnOk, slice_index_or}
 use Rattle.std.proofs.lemmas.Bool.Decides.{nat_tests}
 use Rattle.mpx_name.specs.Name.{Name}
 use Rattle.mpx_node.specs.Nodes.{NodeView, front_on}
@@ -10,8 +10,11 @@ use Rattle.mpx_eval.specs.declared.missing.MissingCall.{MissingCall}
 use Rattle.mpx_eval.specs.declared.missing.MissingMember.{MissingMember}
 use Rattle.mpx_explain.specs.declared.ended.EndedRun.{EndedRun}
 use Rattle.mpx_statement.specs.declared.statement.Statement.{Statement}
+use Rattle.mpx_script.specs.LinesGiven.{lines_given}
+use Rattle.mpx_waiting.specs.ToldLines.{line_at, start_text}
+use Rattle.mpx_explain.specs.declared.ends.EarlierCall.{EarlierCall}
 use Rattle.mpx_explain.specs.declared.ends.RunEnd.{RunEnd}
-use Rattle.mpx_explain.specs.RunEnds.{AreLacked, ComesFirst, IsLacking, IsRunTold, IsThere, LacksPosts, TellsRun, first_untold, lacked_by, lines_in, process_of, refused_in, run_text, statements_in, waiting_there, waiting_upto, waits_at, where_of}
+use Rattle.mpx_explain.specs.RunEnds.{AreLacked, ComesFirst, IsLacking, IsRunTold, IsThere, LacksPosts, TellsRun, earlier_text, first_text, first_untold, lacked_by, lines_in, process_of, refused_in, run_text, statements_in, waiting_there, waiting_upto, waits_at, where_of}
 
 -- a rank that waits does so where it stands, and one that doesn't, nowhere
 
@@ -21,15 +24,15 @@ module _ (run : EndedRun) (rank : ℕ) (waits : Bool) (is : waits ≡ list_any (
 
   pub waits_there : (refused : List Bool) (statements : List Statement) (lines : ℕ) (place : Option ℕ) → waits ≡ true → refused ≡ refused_in run rank → statements ≡ statements_in run rank → lines ≡ lines_in run rank
       → place ≡ first_untold refused 0 statements lines → place ≡ waits_at run rank
-  waits_there refused statements lines place yes marked these many at =
+  waits_there refused statements lines place does marked these many at =
       at
       ∙ ap (λ (m : List Bool). first_untold m 0 statements lines) marked
       ∙ ap (λ (s : List Statement). first_untold (refused_in run rank) 0 s lines) these
       ∙ ap (λ (n : ℕ). first_untold (refused_in run rank) 0 (statements_in run rank) n) many
-      ∙ ap (λ (b : Bool). cond b stands None) (sym yes ∙ is)
+      ∙ ap (λ (b : Bool). cond b stands None) (sym does ∙ is)
 
   pub waits_nowhere : waits ≡ false → None ≡ waits_at run rank
-  waits_nowhere no = ap (λ (b : Bool). cond b stands None) (sym no ∙ is)
+  waits_nowhere never = ap (λ (b : Bool). cond b stands None) (sym never ∙ is)
 
 -- all ranks are told
 pub tells_run : (run : EndedRun) (end : RunEnd) (n ranks : ℕ) → n ≡ ranks → ranks ≡ run.script.now.ranks → map where_of end.waiting.items ≡ waiting_upto run n → All (AreLacked run) end.waiting.items → All (ComesFirst run) end.earlier.items
@@ -64,3 +67,17 @@ lacks_of run rank node c name call missing none own unharvested lacked is_none n
 pub tells_end : {E : Type 0} (text : List ℕ) (run : EndedRun) (end : RunEnd) (old new : List ℕ) (pushed : Result (Unit {0}) E) → TellsRun run end → OnOk pushed (new ≡ old ++ run_text text run end) → OnOk pushed (IsRunTold text run old new)
 tells_end text run end old new (Ok done) tells told = record { end = end; tells = tells; told = told }
 tells_end text run end old new (Err e) tells told = tt
+
+-- the line of one more stands behind the others
+pub flat_more : {X : Type 0} (f : X → List ℕ) (xs : List X) (i : ℕ) (item : X) (had new whole : List ℕ) → i < length xs → item ≡ slice_index_or xs i item → new ≡ had ++ f item → had ++ flat_map f (drop i xs) ≡ whole → new ++ flat_map f (drop (i + 1) xs) ≡ whole
+flat_more {X} f xs i item had new whole within is told before =
+    let k : suc i ≡ i + 1 = omega arith in
+    let cut : drop i xs ≡ item ∷ drop (i + 1) xs = drop-cons xs i item within ∙ ap (λ (x : X). x ∷ drop (suc i) xs) (sym is) ∙ ap (λ (n : ℕ). item ∷ drop n xs) k in
+    ap (λ (zs : List ℕ). zs ++ flat_map f (drop (i + 1) xs)) told ∙ append_assoc had (f item) (flat_map f (drop (i + 1) xs)) ∙ ap (λ (zs : List X). had ++ flat_map f zs) (sym cut) ∙ before
+
+-- an earlier call is told by the lines of its statements
+pub told_at : {E : Type 0} (text : List ℕ) (places : List (ℕ × ℕ)) (e : EarlierCall) (line made : ℕ) (old new : List ℕ) (pushed : Result (Unit {0}) E) → line ≡ line_at (lines_given e.rank text) e.statement → made ≡ line_at (lines_given e.rank text) e.made
+    → OnOk pushed (new ≡ old ++ start_text e.rank line ++ first_text text places made (missing_view e.call)) → OnOk pushed (new ≡ old ++ earlier_text text places e)
+told_at text places e line made old new pushed this that told =
+    subst (λ (l : ℕ). OnOk pushed (new ≡ old ++ start_text e.rank l ++ first_text text places (line_at (lines_given e.rank text) e.made) (missing_view e.call))) this
+    (subst (λ (m : ℕ). OnOk pushed (new ≡ old ++ start_text e.rank line ++ first_text text places m (missing_view e.call))) that told)

@@ -1,8 +1,9 @@
 //! The lines that tell where ranks wait at the end of a run.
 ghost use Rattle.std.specs.Prelude.{◌≡◌, ◌++◌, OnOk, map};
+ghost use Rattle.std.specs.Fmt.{decimal};
 ghost use Rattle.std.specs.List.{flat_map};
 ghost use Rattle.mpx_eval.specs.Found.{missing_view, waiting_view};
-ghost use Rattle.mpx_waiting.specs.ToldLines.{place_of};
+ghost use Rattle.mpx_waiting.specs.ToldLines.{place_of, start_text};
 ghost use Rattle.mpx_explain.specs.RunEnds.{IsRunTold, earlier_text, first_text, line_words, number_words, run_text, served_text};
 
 use crate::ended::EndedRun;
@@ -88,8 +89,24 @@ fn push_line(
     let numbers = statement_lines(alloc, text, one.rank)?;
     let line = line_at(numbers.as_slice(), one.statement);
     let made = line_at(numbers.as_slice(), one.made);
-    push_start(alloc, one.rank, line, told)?;
-    push_first(alloc, text, places, made, &one.call, told)
+    push_where(alloc, text, places, one.rank, line, made, &one.call, told)
+}
+
+// Adds a rank at a line, and the call that comes first.
+fn push_where(
+    alloc: Global,
+    text: &[u8],
+    places: &[(u8, u32)],
+    rank: u8,
+    line: u32,
+    made: u32,
+    call: &MissingCall,
+    told: &mut Vec<u8>,
+) -> Result<(), OutOfMemory>
+    ensures { OnOk result (told.new.items ≡ told.old.items ++ start_text rank line ++ first_text text.now places.now made (missing_view call.now)) }
+{
+    push_start(alloc, rank, line, told)?;
+    push_first(alloc, text, places, made, call, told)
 }
 
 // Adds the call of the statement that stands in a line, and whose posts of it are lacking.
@@ -126,8 +143,19 @@ fn push_words(text: &[u8], line: u32, told: &mut Vec<u8>) -> Result<(), OutOfMem
 fn push_number(alloc: Global, line: u32, call: u32, told: &mut Vec<u8>) -> Result<(), OutOfMemory>
     ensures { OnOk result (told.new.items ≡ told.old.items ++ number_words line call) }
 {
-    let number = format!(in alloc; " of line {line}, call {call}: no post of ")?;
-    told.extend_from_slice(number.as_bytes())?;
+    told.extend_from_slice(b" of line ")?;
+    push_decimal(alloc, told, line)?;
+    told.extend_from_slice(b", call ")?;
+    push_decimal(alloc, told, call)?;
+    told.extend_from_slice(b": no post of ")?;
+    Ok(())
+}
+
+fn push_decimal(alloc: Global, told: &mut Vec<u8>, number: u32) -> Result<(), OutOfMemory>
+    ensures { OnOk result (told.new.items ≡ told.old.items ++ decimal number) }
+{
+    let digits = format!(in alloc; "{number}")?;
+    told.extend_from_slice(digits.as_bytes())?;
     Ok(())
 }
 

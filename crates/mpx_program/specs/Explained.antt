@@ -15,6 +15,8 @@ use Rattle.mpx_eval.specs.Unheard.{unheard_in}
 use Rattle.mpx_eval.specs.Waiting.{waiting_in_full}
 use Rattle.mpx_explain.specs.Findings.{AreTold}
 use Rattle.mpx_explain.specs.Overflows.{AreOverflows}
+use Rattle.mpx_explain.specs.RunEnds.{IsRunTold}
+use Rattle.mpx_explain.specs.declared.ended.EndedRun.{EndedRun}
 use Rattle.mpx_run.specs.declared.end.Cause.TheVariants.{InEveryRun}
 use Rattle.mpx_run.specs.declared.end.End.{End}
 use Rattle.mpx_run.specs.declared.end.End.TheVariants.{Finished, Waiting}
@@ -55,11 +57,19 @@ IsBehind here there more = ((there ≡ []) × (more ≡ here)) ⊎ ((0 < length 
 abbrev pub IsHeaded : (before calls more : List ℕ) → Type 0
 IsHeaded before calls more = ((calls ≡ []) × (more ≡ before)) ⊎ ((0 < length calls) × (more ≡ (before ++ codes "in the evaluation:\n") ++ calls))
 
--- behind lines of the run itself, which ended early, the same of the evaluation
-pub record TellsEarly (ops : List Operation) (script : ScriptView) (text more : List ℕ) : Type 0 where
+-- what is told of a run of this script itself in which these ranks wait, behind other lines
+pub record IsToldOfRun (script : ScriptView) (text : List ℕ) (ranks : List ℕ) (old new : List ℕ) : Type 0 where
+  pub run : EndedRun
+  pub scripted : run.script.now ≡ script
+  pub waits : run.waiting.now ≡ ranks
+  pub told : IsRunTold text run old new
+
+-- behind lines of the run itself, which ended early with these ranks waiting, the same of the evaluation
+pub record TellsEarly (ops : List Operation) (script : ScriptView) (text : List ℕ) (ranks : List ℕ) (more : List ℕ) : Type 0 where
   pub end : State
   pub evaluation : IsEvaluation ops script.statements script.ranks end
   pub here : List ℕ
+  pub itself : IsToldOfRun script text ranks [] here
   pub waits : List ℕ
   pub behind : IsBehind here (waiting_told text script.statements (waiting_in_full ops script.statements script.ranks end)) waits
   pub lines : List ℕ
@@ -70,7 +80,7 @@ pub record TellsEarly (ops : List Operation) (script : ScriptView) (text more : 
 abbrev pub TellsEnd : List Operation → ScriptView → (text : List ℕ) → End → (more : List ℕ) → Type 0
 TellsEnd ops script text Finished more = TellsEvaluation ops script text more
 TellsEnd ops script text (Waiting ranks InEveryRun) more = TellsEvaluation ops script text more
-TellsEnd ops script text (Waiting ranks cause) more = TellsEarly ops script text more
+TellsEnd ops script text (Waiting ranks cause) more = TellsEarly ops script text ranks.items more
 
 -- of one that checks, the calls that are refused for certain
 abbrev pub TellsOf : List Operation → Command → ScriptView → (text : List ℕ) → End → (more : List ℕ) → Type 0

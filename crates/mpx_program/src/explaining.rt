@@ -5,7 +5,7 @@ ghost use Rattle.mpx_eval.specs.Findings.{AreFindings};
 ghost use Rattle.mpx_eval.specs.Found.{complaint_view, waiting_view};
 ghost use Rattle.mpx_explain.specs.Findings.{AreTold};
 ghost use Rattle.mpx_waiting.specs.ToldLines.{waiting_told};
-ghost use Rattle.mpx_program.specs.Explained.{AreCalls, HasTold, IsBehind, IsHeaded, TellsEarly, TellsEnd, TellsEvaluation, unexplained};
+ghost use Rattle.mpx_program.specs.Explained.{AreCalls, HasTold, IsBehind, IsHeaded, IsToldOfRun, TellsEarly, TellsEnd, TellsEvaluation, unexplained};
 
 use crate::found::Found;
 use crate::prepared::Prepared;
@@ -157,7 +157,7 @@ fn early_told(
     found: &Findings,
 ) -> Result<Vec<u8>, OutOfMemory>
     ensures { IfOk result (λ told. (ops : List Operation) → AreFindings ops prepared.now.script (map waiting_view found.now.waiting.items) (map complaint_view found.now.complaints.items) (map complaint_view found.now.unheard.items)
-        → TellsEarly ops prepared.now.script prepared.now.text.items told.items) }
+        → TellsEarly ops prepared.now.script prepared.now.text.items ranks.now told.items) }
 {
     let mut told = Vec::new(alloc);
     push_run_end(alloc, prepared, left, ranks, found, &mut told)?;
@@ -206,7 +206,9 @@ fn push_run_end(
     ranks: &[u8],
     found: &Findings,
     told: &mut Vec<u8>,
-) -> Result<(), OutOfMemory> {
+) -> Result<(), OutOfMemory>
+    ensures { OnOk result (IsToldOfRun prepared.now.script prepared.now.text.items ranks.now told.old.items told.new.items) }
+{
     let (text, script) = (prepared.text.as_slice(), &prepared.script);
     let nodes = nodes_of(alloc, left, script.ranks())?;
     let lines = counts_of(alloc, left)?;

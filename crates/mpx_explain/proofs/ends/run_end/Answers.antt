@@ -17,4 +17,4 @@ loop-rank-preserved c =
 pub returns : goal.returns
 returns c =
     let was = c.loop-rank.invariant in
-    tells_run c.args.run.now c.loop-rank.end c.loop-rank.rank c.ranks.result (omega (arith, c.loop-rank-test.false, c.loop-rank.auto.rank-end)) c.ranks.ensures.ranks was.places was.lacked was.earlier was.served
+    tells_run c.args.run.now c.loop-rank.end c.loop-rank.rank c.ranks-rank-end.result (omega (arith, c.loop-rank-test.false, c.loop-rank.auto.rank-end)) c.ranks-rank-end.ensures.ranks was.places was.lacked was.earlier was.served

@@ -8,7 +8,8 @@ returns c =
     let here = c.push_run_end.new.told.items in
     let waits = c.push_behind.new.told.items in
     let more = c.push_headed.new.told.items in
-    λ ops f. early_tells ops c.args.prepared.now.script c.args.prepared.now.text.items _ _ _ f here waits c.in_ok-calls.calls.items more
+    λ ops f. early_tells ops c.args.prepared.now.script c.args.prepared.now.text.items _ _ _ f c.args.ranks.now here waits c.in_ok-calls.calls.items more
+    c.in_ok-push_run_end.ensures
     (subst (λ xs. IsBehind here xs waits) (c.as_slice.ensures.value ∙ c.in_ok-there.ensures) c.in_ok-push_behind.ensures)
     c.in_ok-calls.ensures
     (subst (λ xs. IsHeaded waits xs more) c.as_slice-2.ensures.value c.in_ok-push_headed.ensures)
