@@ -50,7 +50,7 @@ upto_more run n had new is more =
     let k : suc n ≡ n + 1 = omega arith in
     more ∙ ap (λ xs. xs ++ waiting_there n (waits_at run n)) is ∙ ap (waiting_upto run) k
 
-some_left : (n : ℕ) (b : Bool) → b ≡ nat_eq n 0 → b ≡ false → 0 < n
+pub some_left : (n : ℕ) (b : Bool) → b ≡ nat_eq n 0 → b ≡ false → 0 < n
 some_left n b told is = grind (arith, nat_tests)
 
 -- a call that a rank's process has not harvested, with the members whose posts its board lacks, of whom there are some

@@ -1,4 +1,6 @@
 //! A run that has ended, by what is left of it.
+ghost use Rattle.std.specs.Prelude.{◌≡◌, slice_get};
+ghost use Rattle.std.specs.Option.{option_copied};
 
 use mpx_eval::Complaint;
 use mpx_node::Node;
@@ -13,4 +15,11 @@ pub struct EndedRun<'r> {
     pub waiting: &'r [u8],
     pub lines: &'r [usize],
     pub nodes: &'r [&'r Node],
+}
+
+/// The node of a rank.
+pub(crate) fn node_at<'r>(run: &EndedRun<'r>, rank: u8) -> Option<&'r &'r Node>
+    ensures { option_copied result ≡ slice_get run.now.nodes.now rank }
+{
+    run.nodes.get(usize::from(rank))
 }

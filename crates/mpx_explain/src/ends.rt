@@ -1,11 +1,10 @@
 //! Where ranks wait at the end of a run that ended early, and whose posts they lack by what their own boards hold.
-ghost use Rattle.std.specs.Prelude.{◌≡◌, ◌++◌, ◌∷◌, [], IfOk, IfSome, OnOk, Some, map};
+ghost use Rattle.std.specs.Prelude.{◌≡◌, ◌++◌, ◌∷◌, [], IfOk, IfSome, OnOk, Some, map, slice_get};
 ghost use Rattle.std.specs.List.{All};
-ghost use Rattle.mpx_node.specs.Shown.{node_of};
 ghost use Rattle.mpx_explain.specs.declared.ended.EndedRun.{EndedRun as Ended};
-ghost use Rattle.mpx_explain.specs.RunEnds.{AreLacked, ComesFirst, IsThere, LacksPosts, TellsRun, process_of, waiting_there, waits_at, where_of};
+ghost use Rattle.mpx_explain.specs.RunEnds.{AreLacked, ComesFirst, IsThere, LacksPosts, TellsRun, waiting_there, waits_at, where_of};
 
-use crate::ended::EndedRun;
+use crate::ended::{EndedRun, node_at};
 use crate::lacking::lacking_call;
 use crate::standing::{is_marked, refused_in, waits_at};
 use crate::walk::{Awaited, Walk};
@@ -66,7 +65,8 @@ fn push_rank(
 {
     let refused = refused_in(alloc, run, rank)?;
     let place = waits_at(run, rank, &refused);
-    push_at(alloc, run, rank, place, &refused, end)
+    push_at(alloc, run, rank, place, &refused, end)?;
+    Ok(())
 }
 
 // Adds a rank that waits at the statement with this place, where there is one.
@@ -142,7 +142,7 @@ fn found_at(
     ensures lacked { IfOk result (λ found. AreLacked run.now found.waiting) }
     ensures earlier { OnOk result (All (ComesFirst run.now) earlier.old.items → All (ComesFirst run.now) earlier.new.items) }
 {
-    let Some(node) = run.nodes.get(usize::from(rank)) else {
+    let Some(node) = node_at(run, rank) else {
         return Ok(found_with(rank, statement, Vec::new(alloc), false));
     };
     let statements = run.script.statements(rank);
@@ -217,7 +217,7 @@ fn push_asked(
     earlier: &mut Vec<EarlierCall>,
 ) -> Result<Vec<MissingCall>, OutOfMemory>
     requires waits { waits_at run.now rank ≡ Some statement }
-    requires own { process_of run.now rank ≡ Some (node_of node.now) }
+    requires own { slice_get run.now.nodes.now rank ≡ Some node }
     ensures calls { IfOk result (λ calls. All (LacksPosts run.now rank) calls.items) }
     ensures earlier { OnOk result (All (ComesFirst run.now) earlier.old.items → All (ComesFirst run.now) earlier.new.items) }
 {
@@ -243,7 +243,7 @@ fn push_call(
     earlier: &mut Vec<EarlierCall>,
 ) -> Result<(), OutOfMemory>
     requires waits { waits_at run.now rank ≡ Some statement }
-    requires own { process_of run.now rank ≡ Some (node_of node.now) }
+    requires own { slice_get run.now.nodes.now rank ≡ Some node }
     ensures calls { OnOk result (All (LacksPosts run.now rank) calls.old.items → All (LacksPosts run.now rank) calls.new.items) }
     ensures earlier { OnOk result (All (ComesFirst run.now) earlier.old.items → All (ComesFirst run.now) earlier.new.items) }
 {
@@ -253,7 +253,10 @@ fn push_call(
     let found = lacking_call(alloc, run, node, rank, asked, asked.call)?;
     match found {
         Some(call) => Ok(calls.push(call)?),
-        None => push_earlier(alloc, run, node, rank, statement, asked, walk, earlier),
+        None => {
+            push_earlier(alloc, run, node, rank, statement, asked, walk, earlier)?;
+            Ok(())
+        }
     }
 }
 
@@ -269,7 +272,7 @@ fn push_earlier(
     earlier: &mut Vec<EarlierCall>,
 ) -> Result<(), OutOfMemory>
     requires waits { waits_at run.now rank ≡ Some statement }
-    requires own { process_of run.now rank ≡ Some (node_of node.now) }
+    requires own { slice_get run.now.nodes.now rank ≡ Some node }
     ensures { OnOk result (All (ComesFirst run.now) earlier.old.items → All (ComesFirst run.now) earlier.new.items) }
 {
     let Some(call) = first_lacking(alloc, run, node, rank, asked)? else {
@@ -305,7 +308,7 @@ fn first_lacking(
     rank: u8,
     asked: &Awaited,
 ) -> Result<Option<MissingCall>, OutOfMemory>
-    requires { process_of run.now rank ≡ Some (node_of node.now) }
+    requires { slice_get run.now.nodes.now rank ≡ Some node }
     ensures { IfOk result (λ found. IfSome found (λ c. LacksPosts run.now rank c)) }
 {
     for call in node.front(&asked.name)..asked.call {

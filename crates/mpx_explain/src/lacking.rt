@@ -1,10 +1,10 @@
 //! Whose posts to a call a process's own board lacks.
-ghost use Rattle.std.specs.Prelude.{◌≡◌, ◌++◌, IfOk, IfSome, OnOk, Some};
+ghost use Rattle.std.specs.Prelude.{◌≡◌, ◌++◌, IfOk, IfSome, OnOk, Some, slice_get};
 ghost use Rattle.std.specs.List.{flat_map};
 ghost use Rattle.mpx_node.specs.Shown.{node_of};
-ghost use Rattle.mpx_explain.specs.RunEnds.{LacksPosts, has_freed, lacked_by, lacked_of, member_of, process_of};
+ghost use Rattle.mpx_explain.specs.RunEnds.{LacksPosts, has_freed, lacked_by, lacked_of, member_of};
 
-use crate::ended::EndedRun;
+use crate::ended::{EndedRun, node_at};
 use crate::walk::Awaited;
 use join_core::{Exact, OutOfMemory};
 use mpx_eval::{MissingCall, MissingMember};
@@ -23,7 +23,7 @@ pub(crate) fn lacking_call(
     asked: &Awaited,
     call: u32,
 ) -> Result<Option<MissingCall>, OutOfMemory>
-    requires { process_of run.now rank ≡ Some (node_of node.now) }
+    requires { slice_get run.now.nodes.now rank ≡ Some node }
     ensures { IfOk result (λ found. IfSome found (λ c. LacksPosts run.now rank c)) }
 {
     if call < node.front(&asked.name) {
@@ -130,7 +130,7 @@ fn missing_member(run: &EndedRun<'_>, name: &Name, member: Proc) -> MissingMembe
 fn has_freed(run: &EndedRun<'_>, name: &Name, process: Proc) -> bool
     ensures { result ≡ has_freed run.now name.now process }
 {
-    match run.nodes.get(usize::from(process.number())) {
+    match node_at(run, process.number()) {
         Some(node) => node.has_freed(name),
         None => false,
     }

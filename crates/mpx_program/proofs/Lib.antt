@@ -1,4 +1,3 @@
 mod Answering
-mod Lists
 mod Telling
 mod Saying

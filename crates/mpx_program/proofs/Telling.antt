@@ -41,9 +41,9 @@ module _ (ops : List Operation) (script : ScriptView) (text : List ℕ) (waiting
   }
 
 -- what is told of a run is told of one of this script and these ranks
-pub told_of_run : {E : Type 0} (run : EndedRun) (script : ScriptView) (text ranks old new : List ℕ) (pushed : Result (Unit {0}) E) → run.script.now ≡ script → run.waiting.now ≡ ranks → OnOk pushed (IsRunTold text run old new) → OnOk pushed (IsToldOfRun script text ranks old new)
-told_of_run run script text ranks old new (Ok done) scripted waits told = record { run = run; scripted = scripted; waits = waits; told = told }
-told_of_run run script text ranks old new (Err e) scripted waits told = tt
+pub told_of_run : {E : Type 0} (run : EndedRun) (script : ScriptView) (text ranks old new : List ℕ) (pushed : Result (Unit {0}) E) → OnOk pushed (IsRunTold text run old new) → run.script.now ≡ script → run.waiting.now ≡ ranks → OnOk pushed (IsToldOfRun script text ranks old new)
+told_of_run run script text ranks old new (Ok done) told scripted waits = record { run = run; scripted = scripted; waits = waits; told = told }
+told_of_run run script text ranks old new (Err e) told scripted waits = tt
 
 -- what is told by what was found is of the script's evaluation, whatever the command
 pub found_tells : (ops : List Operation) (command : Command) (script : ScriptView) (text : List ℕ) (found : Found) (answer : Result End RunError) (more : List ℕ) → IsFound ops command script found → HasTold script text found answer more

@@ -143,7 +143,8 @@ fn fault_told(
 ) -> Result<Vec<u8>, OutOfMemory> {
     let mut told = Vec::new(alloc);
     push_reason(alloc, error, &mut told)?;
-    let early = early_told(alloc, prepared, left, &[], found)?;
+    let nobody = Vec::new(alloc);
+    let early = early_told(alloc, prepared, left, &nobody, found)?;
     told.extend_from_slice(&early)?;
     Ok(told)
 }
@@ -153,14 +154,15 @@ fn early_told(
     alloc: Global,
     prepared: &Prepared,
     left: &Left,
-    ranks: &[u8],
+    ranks: &Vec<u8>,
     found: &Findings,
 ) -> Result<Vec<u8>, OutOfMemory>
     ensures { IfOk result (λ told. (ops : List Operation) → AreFindings ops prepared.now.script (map waiting_view found.now.waiting.items) (map complaint_view found.now.complaints.items) (map complaint_view found.now.unheard.items)
-        → TellsEarly ops prepared.now.script prepared.now.text.items ranks.now told.items) }
+        → TellsEarly ops prepared.now.script prepared.now.text.items ranks.now.items told.items) }
 {
     let mut told = Vec::new(alloc);
-    push_run_end(alloc, prepared, left, ranks, found, &mut told)?;
+    let waiting = ranks.as_slice();
+    push_run_end(alloc, prepared, left, waiting, found, &mut told)?;
     let there = waits_told(alloc, prepared, found)?;
     push_behind(there.as_slice(), &mut told)?;
     drop(there);
@@ -209,15 +211,40 @@ fn push_run_end(
 ) -> Result<(), OutOfMemory>
     ensures { OnOk result (IsToldOfRun prepared.now.script prepared.now.text.items ranks.now told.old.items told.new.items) }
 {
-    let (text, script) = (prepared.text.as_slice(), &prepared.script);
-    let nodes = nodes_of(alloc, left, script.ranks())?;
+    let nodes = nodes_of(alloc, left, prepared.script.ranks())?;
     let lines = counts_of(alloc, left)?;
+    let text = prepared.text.as_slice();
+    push_run(
+        alloc,
+        text,
+        &prepared.script,
+        &found.complaints,
+        ranks,
+        &lines,
+        &nodes,
+        told,
+    )
+}
+
+// Where these ranks wait in a run of a script in which each rank has so many lines, by the nodes of all ranks as they stand then.
+fn push_run(
+    alloc: Global,
+    text: &[u8],
+    script: &Script,
+    complaints: &[Complaint],
+    ranks: &[u8],
+    lines: &[usize],
+    nodes: &[&Node],
+    told: &mut Vec<u8>,
+) -> Result<(), OutOfMemory>
+    ensures { OnOk result (IsToldOfRun script.now text.now ranks.now told.old.items told.new.items) }
+{
     let run = EndedRun {
         script,
-        complaints: &found.complaints,
+        complaints,
         waiting: ranks,
-        lines: &lines,
-        nodes: &nodes,
+        lines,
+        nodes,
     };
     explain_run(alloc, text, &run, told)
 }
