@@ -11,10 +11,10 @@ use Rattle.mpx_eval.specs.declared.missing.MissingMember.{MissingMember}
 use Rattle.mpx_explain.specs.declared.ended.EndedRun.{EndedRun}
 use Rattle.mpx_statement.specs.declared.statement.Statement.{Statement}
 use Rattle.mpx_script.specs.LinesGiven.{lines_given}
-use Rattle.mpx_waiting.specs.ToldLines.{line_at, start_text}
+use Rattle.mpx_waiting.specs.ToldLines.{line_at}
 use Rattle.mpx_explain.specs.declared.ends.EarlierCall.{EarlierCall}
 use Rattle.mpx_explain.specs.declared.ends.RunEnd.{RunEnd}
-use Rattle.mpx_explain.specs.RunEnds.{AreLacked, ComesFirst, IsLacking, IsRunTold, IsThere, LacksPosts, TellsRun, earlier_text, first_text, first_untold, lacked_by, lines_in, process_of, refused_in, run_text, statements_in, waiting_there, waiting_upto, waits_at, where_of}
+use Rattle.mpx_explain.specs.RunEnds.{AreLacked, ComesFirst, EarlierView, IsLacking, IsRunTold, IsThere, LacksPosts, TellsRun, earlier_text, earlier_view, first_untold, lacked_by, lines_in, process_of, refused_in, run_text, statements_in, waiting_there, waiting_upto, waits_at, where_of}
 
 -- a rank that waits does so where it stands, and one that doesn't, nowhere
 
@@ -69,15 +69,17 @@ tells_end text run end old new (Ok done) tells told = record { end = end; tells 
 tells_end text run end old new (Err e) tells told = tt
 
 -- the line of one more stands behind the others
-pub flat_more : {X : Type 0} (f : X → List ℕ) (xs : List X) (i : ℕ) (item : X) (had new whole : List ℕ) → i < length xs → item ≡ slice_index_or xs i item → new ≡ had ++ f item → had ++ flat_map f (drop i xs) ≡ whole → new ++ flat_map f (drop (i + 1) xs) ≡ whole
-flat_more {X} f xs i item had new whole within is told before =
+pub flat_more : {X Y : Type 0} (f : Y → List ℕ) (view : X → Y) (xs : List X) (i : ℕ) (item : X) (had new whole : List ℕ) → i < length xs → item ≡ slice_index_or xs i item → new ≡ had ++ f (view item) → had ++ flat_map f (map view (drop i xs)) ≡ whole
+    → new ++ flat_map f (map view (drop (i + 1) xs)) ≡ whole
+flat_more {X} f view xs i item had new whole within is told before =
     let k : suc i ≡ i + 1 = omega arith in
     let cut : drop i xs ≡ item ∷ drop (i + 1) xs = drop-cons xs i item within ∙ ap (λ (x : X). x ∷ drop (suc i) xs) (sym is) ∙ ap (λ (n : ℕ). item ∷ drop n xs) k in
-    ap (λ (zs : List ℕ). zs ++ flat_map f (drop (i + 1) xs)) told ∙ append_assoc had (f item) (flat_map f (drop (i + 1) xs)) ∙ ap (λ (zs : List X). had ++ flat_map f zs) (sym cut) ∙ before
+    let rest = flat_map f (map view (drop (i + 1) xs)) in
+    ap (λ (zs : List ℕ). zs ++ rest) told ∙ append_assoc had (f (view item)) rest ∙ ap (λ (zs : List X). had ++ flat_map f (map view zs)) (sym cut) ∙ before
 
 -- an earlier call is told by the lines of its statements
 pub told_at : {E : Type 0} (text : List ℕ) (places : List (ℕ × ℕ)) (e : EarlierCall) (line made : ℕ) (old new : List ℕ) (pushed : Result (Unit {0}) E) → line ≡ line_at (lines_given e.rank text) e.statement → made ≡ line_at (lines_given e.rank text) e.made
-    → OnOk pushed (new ≡ old ++ start_text e.rank line ++ first_text text places made (missing_view e.call)) → OnOk pushed (new ≡ old ++ earlier_text text places e)
+    → OnOk pushed (new ≡ old ++ earlier_text text places (record { rank = e.rank; line = line; made = made; call = missing_view e.call })) → OnOk pushed (new ≡ old ++ earlier_text text places (earlier_view text e))
 told_at text places e line made old new pushed this that told =
-    subst (λ (l : ℕ). OnOk pushed (new ≡ old ++ start_text e.rank l ++ first_text text places (line_at (lines_given e.rank text) e.made) (missing_view e.call))) this
-    (subst (λ (m : ℕ). OnOk pushed (new ≡ old ++ start_text e.rank line ++ first_text text places m (missing_view e.call))) that told)
+    let same : ◌≡◌ {A = EarlierView} (record { rank = e.rank; line = line; made = made; call = missing_view e.call }) (earlier_view text e) = λ j. record { rank = e.rank; line = this j; made = that j; call = missing_view e.call } in
+    subst (λ (v : EarlierView). OnOk pushed (new ≡ old ++ earlier_text text places v)) same told

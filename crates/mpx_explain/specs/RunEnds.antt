@@ -157,12 +157,22 @@ line_words text line = word_in text line 1 ++ codes " " ++ word_in text line 2
 abbrev pub number_words : (line call : ℕ) → List ℕ
 number_words line call = codes " of line " ++ decimal line ++ codes ", call " ++ decimal call ++ codes ": no post of "
 
+-- a rank that waits at a line, the line of the statement that made an earlier call, and whose posts of that are lacking
+pub record EarlierView : Type 0 where
+  pub rank : ℕ
+  pub line : ℕ
+  pub made : ℕ
+  pub call : MissingCallView
+
+abbrev pub earlier_view : (text : List ℕ) → EarlierCall → EarlierView
+earlier_view text e = record { rank = e.rank; line = line_at (lines_given e.rank text) e.statement; made = line_at (lines_given e.rank text) e.made; call = missing_view e.call }
+
 -- an earlier call by the line of its statement, and whose posts of it are lacking
 abbrev pub first_text : (text : List ℕ) → (places : List (ℕ × ℕ)) → (made : ℕ) → MissingCallView → List ℕ
 first_text text places made c = codes "first comes " ++ line_words text made ++ number_words made c.call ++ members_text places c.missing ++ codes "\n"
 
-abbrev pub earlier_text : (text : List ℕ) → (places : List (ℕ × ℕ)) → EarlierCall → List ℕ
-earlier_text text places e = start_text e.rank (line_at (lines_given e.rank text) e.statement) ++ first_text text places (line_at (lines_given e.rank text) e.made) (missing_view e.call)
+abbrev pub earlier_text : (text : List ℕ) → (places : List (ℕ × ℕ)) → EarlierView → List ℕ
+earlier_text text places e = start_text e.rank e.line ++ first_text text places e.made e.call
 
 -- a rank whose board lacks no post, and the place of its statement
 abbrev pub served_text : (text : List ℕ) → ℕ × ℕ → List ℕ
@@ -172,7 +182,7 @@ served_text text place = start_text place.0 (line_at (lines_given place.0 text) 
 abbrev pub run_text : (text : List ℕ) → EndedRun → RunEnd → List ℕ
 run_text text run end =
     waiting_told text run.script.now.statements (map waiting_view end.waiting.items)
-    ++ flat_map (earlier_text text (map (place_of text) (map waiting_view end.waiting.items))) end.earlier.items
+    ++ flat_map (earlier_text text (map (place_of text) (map waiting_view end.waiting.items))) (map (earlier_view text) end.earlier.items)
     ++ flat_map (served_text text) end.served.items
 
 -- these lines are told of a run behind others

@@ -3,8 +3,8 @@ ghost use Rattle.std.specs.Prelude.{◌≡◌, ◌++◌, OnOk, map};
 ghost use Rattle.std.specs.Fmt.{decimal};
 ghost use Rattle.std.specs.List.{flat_map};
 ghost use Rattle.mpx_eval.specs.Found.{missing_view, waiting_view};
-ghost use Rattle.mpx_waiting.specs.ToldLines.{place_of, start_text};
-ghost use Rattle.mpx_explain.specs.RunEnds.{IsRunTold, earlier_text, first_text, line_words, number_words, run_text, served_text};
+ghost use Rattle.mpx_waiting.specs.ToldLines.{place_of};
+ghost use Rattle.mpx_explain.specs.RunEnds.{IsRunTold, earlier_text, earlier_view, first_text, line_words, number_words, run_text, served_text};
 
 use crate::ended::EndedRun;
 use crate::ends::{EarlierCall, RunEnd, run_end};
@@ -54,7 +54,7 @@ fn push_earlier(
     waiting: &[WaitingRank],
     told: &mut Vec<u8>,
 ) -> Result<(), OutOfMemory>
-    ensures { OnOk result (told.new.items ≡ told.old.items ++ flat_map (earlier_text text.now (map (place_of text.now) (map waiting_view waiting.now))) earlier.now) }
+    ensures { OnOk result (told.new.items ≡ told.old.items ++ flat_map (earlier_text text.now (map (place_of text.now) (map waiting_view waiting.now))) (map (earlier_view text.now) earlier.now)) }
 {
     let places = places_of(alloc, text, waiting)?;
     let pushed = push_lines(alloc, text, places.as_slice(), earlier, told);
@@ -69,7 +69,7 @@ fn push_lines(
     earlier: &[EarlierCall],
     told: &mut Vec<u8>,
 ) -> Result<(), OutOfMemory>
-    ensures { OnOk result (told.new.items ≡ told.old.items ++ flat_map (earlier_text text.now places.now) earlier.now) }
+    ensures { OnOk result (told.new.items ≡ told.old.items ++ flat_map (earlier_text text.now places.now) (map (earlier_view text.now) earlier.now)) }
 {
     for one in earlier {
         push_line(alloc, text, places, one, told)?;
@@ -84,7 +84,7 @@ fn push_line(
     one: &EarlierCall,
     told: &mut Vec<u8>,
 ) -> Result<(), OutOfMemory>
-    ensures { OnOk result (told.new.items ≡ told.old.items ++ earlier_text text.now places.now one.now) }
+    ensures { OnOk result (told.new.items ≡ told.old.items ++ earlier_text text.now places.now (earlier_view text.now one.now)) }
 {
     let numbers = statement_lines(alloc, text, one.rank)?;
     let line = line_at(numbers.as_slice(), one.statement);
@@ -103,7 +103,7 @@ fn push_where(
     call: &MissingCall,
     told: &mut Vec<u8>,
 ) -> Result<(), OutOfMemory>
-    ensures { OnOk result (told.new.items ≡ told.old.items ++ start_text rank line ++ first_text text.now places.now made (missing_view call.now)) }
+    ensures { OnOk result (told.new.items ≡ told.old.items ++ earlier_text text.now places.now (record { rank = rank; line = line; made = made; call = missing_view call.now })) }
 {
     push_start(alloc, rank, line, told)?;
     push_first(alloc, text, places, made, call, told)
