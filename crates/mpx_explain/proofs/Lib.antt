@@ -1,2 +1,3 @@
+pub mod FoundEnds
 pub mod Summing
 pub mod Telling

@@ -1,2 +1,3 @@
 pub mod Findings
 pub mod Overflows
+pub mod RunEnds

@@ -1,13 +1,17 @@
 //! Where ranks wait at the end of a run that ended early, and whose posts they lack by what their own boards hold.
+ghost use Rattle.std.specs.Prelude.{◌≡◌, ◌++◌, ◌∷◌, [], IfOk, IfSome, OnOk, Some, map, slice_get};
+ghost use Rattle.std.specs.List.{All};
+ghost use Rattle.mpx_explain.specs.declared.ended.EndedRun.{EndedRun as Ended};
+ghost use Rattle.mpx_explain.specs.RunEnds.{AreLacked, ComesFirst, IsThere, LacksPosts, TellsRun, waiting_there, waits_at, where_of};
 
-use crate::numbering::marked;
+use crate::ended::{EndedRun, node_at};
+use crate::lacking::lacking_call;
+use crate::standing::{is_marked, refused_in, waits_at};
 use crate::walk::{Awaited, Walk};
-use join_core::{Exact, OutOfMemory};
-use mpx_eval::{Complaint, MissingCall, MissingMember, WaitingRank};
-use mpx_group::Proc;
+use join_core::OutOfMemory;
+use mpx_eval::{MissingCall, WaitingRank};
 use mpx_node::Node;
-use mpx_script::{Posting, Script, Statement, statement_lines, words_of_line};
-use mpx_waiting::{line_at, places_of, push_members, push_start};
+use mpx_script::Statement;
 use std::alloc::Global;
 
 /// Where ranks wait at the end of a run.
@@ -32,95 +36,141 @@ pub struct EarlierCall {
     pub call: MissingCall,
 }
 
-/// Where these ranks wait at the end of a run in which each rank has so many lines, by the nodes of all ranks as they stand then. The
-/// complaints are those of the script's evaluation, whose lines those of the run begin.
-pub fn run_end(
-    alloc: Global,
-    script: &Script,
-    complaints: &[Complaint],
-    waiting: &[u8],
-    lines: &[Vec<String>],
-    nodes: &[&Node],
-) -> Result<RunEnd, OutOfMemory> {
+/// Where ranks wait at the end of a run, in rank order.
+pub(crate) fn run_end(alloc: Global, run: &EndedRun<'_>) -> Result<RunEnd, OutOfMemory>
+    ensures { IfOk result (λ end. TellsRun run.now end) }
+{
     let mut end = RunEnd {
         waiting: Vec::new(alloc),
         earlier: Vec::new(alloc),
         served: Vec::new(alloc),
     };
-    for rank in waiting {
-        let count = match lines.get(usize::from(*rank)) {
-            Some(lines) => lines.len(),
-            None => 0,
-        };
-        push_rank(alloc, script, complaints, *rank, count, nodes, &mut end)?;
+    for rank in 0..run.script.ranks() {
+        push_rank(alloc, run, rank, &mut end)?;
     }
     Ok(end)
 }
 
-// Adds where a rank waits that has so many lines.
+// Adds where a rank waits, if it does.
 fn push_rank(
     alloc: Global,
-    script: &Script,
-    complaints: &[Complaint],
+    run: &EndedRun<'_>,
     rank: u8,
-    lines: usize,
-    nodes: &[&Node],
     end: &mut RunEnd,
-) -> Result<(), OutOfMemory> {
-    let Some(node) = nodes.get(usize::from(rank)) else {
-        return Ok(());
-    };
-    let statements = script.statements(rank);
-    let refused = marked(alloc, script, rank, complaints, b"refused ")?;
-    let Some(statement) = place_behind(statements, &refused, lines) else {
-        return Ok(());
-    };
-    let pushed = push_waiting(alloc, rank, statements, &refused, statement, nodes, end);
-    drop(refused);
-    pushed
+) -> Result<(), OutOfMemory>
+    ensures places { OnOk result (map where_of end.new.waiting.items ≡ map where_of end.old.waiting.items ++ waiting_there rank (waits_at run.now rank)) }
+    ensures lacked { OnOk result (All (AreLacked run.now) end.old.waiting.items → All (AreLacked run.now) end.new.waiting.items) }
+    ensures earlier { OnOk result (All (ComesFirst run.now) end.old.earlier.items → All (ComesFirst run.now) end.new.earlier.items) }
+    ensures served { OnOk result (All (IsThere run.now) end.old.served.items → All (IsThere run.now) end.new.served.items) }
+{
+    let refused = refused_in(alloc, run, rank)?;
+    let place = waits_at(run, rank, &refused);
+    push_at(alloc, run, rank, place, &refused, end)?;
+    Ok(())
 }
 
-// The place of the first statement that isn't done behind so many lines.
-fn place_behind(statements: &[Statement], refused: &[bool], lines: usize) -> Option<usize> {
-    let mut told = 0usize;
-    for (place, statement) in statements.iter().enumerate() {
-        let is_refused = refused.get(place).copied().unwrap_or(false);
-        let more = lines_of(statement, is_refused);
-        if more > 0 && told.saturating_add(more) > lines {
-            return Some(place);
-        }
-        told = told.saturating_add(more);
-    }
-    None
-}
-
-// How many lines a statement has that is done, be it refused.
-fn lines_of(statement: &Statement, is_refused: bool) -> usize {
-    match statement {
-        Statement::Post(Posting::Start { .. }) => usize::from(is_refused),
-        Statement::Post(_) => 1,
-        Statement::Wait(words) => words.as_slice().len(),
-        Statement::Ask(_) => 1,
+// Adds a rank that waits at the statement with this place, where there is one.
+fn push_at(
+    alloc: Global,
+    run: &EndedRun<'_>,
+    rank: u8,
+    place: Option<usize>,
+    refused: &[bool],
+    end: &mut RunEnd,
+) -> Result<(), OutOfMemory>
+    requires { waits_at run.now rank ≡ place }
+    ensures places { OnOk result (map where_of end.new.waiting.items ≡ map where_of end.old.waiting.items ++ waiting_there rank place) }
+    ensures lacked { OnOk result (All (AreLacked run.now) end.old.waiting.items → All (AreLacked run.now) end.new.waiting.items) }
+    ensures earlier { OnOk result (All (ComesFirst run.now) end.old.earlier.items → All (ComesFirst run.now) end.new.earlier.items) }
+    ensures served { OnOk result (All (IsThere run.now) end.old.served.items → All (IsThere run.now) end.new.served.items) }
+{
+    match place {
+        Some(statement) => push_waiting(alloc, run, rank, statement, refused, end),
+        None => Ok(()),
     }
 }
 
-// Adds a rank with these statements that waits at the one with this place.
+// Adds a rank that waits at the statement with this place.
 fn push_waiting(
     alloc: Global,
+    run: &EndedRun<'_>,
     rank: u8,
-    statements: &[Statement],
-    refused: &[bool],
     statement: usize,
-    nodes: &[&Node],
+    refused: &[bool],
     end: &mut RunEnd,
-) -> Result<(), OutOfMemory> {
-    let (Some(node), Some(next)) = (nodes.get(usize::from(rank)), statements.get(statement)) else {
+) -> Result<(), OutOfMemory>
+    requires { waits_at run.now rank ≡ Some statement }
+    ensures places { OnOk result (map where_of end.new.waiting.items ≡ map where_of end.old.waiting.items ++ (rank, statement) ∷ []) }
+    ensures lacked { OnOk result (All (AreLacked run.now) end.old.waiting.items → All (AreLacked run.now) end.new.waiting.items) }
+    ensures earlier { OnOk result (All (ComesFirst run.now) end.old.earlier.items → All (ComesFirst run.now) end.new.earlier.items) }
+    ensures served { OnOk result (All (IsThere run.now) end.old.served.items → All (IsThere run.now) end.new.served.items) }
+{
+    let Found { waiting, is_served } = found_at(
+        alloc,
+        run,
+        rank,
+        statement,
+        refused,
+        &mut end.earlier,
+    )?;
+    end.waiting.push(waiting)?;
+    if !is_served {
         return Ok(());
+    }
+    end.served.push((rank, statement))?;
+    Ok(())
+}
+
+// A rank that waits, and whether its board lacks no post.
+#[derive(Drop)]
+struct Found {
+    waiting: WaitingRank,
+    is_served: bool,
+}
+
+// What is found of a rank that waits at the statement with this place. The calls that come first are added to the earlier ones.
+fn found_at(
+    alloc: Global,
+    run: &EndedRun<'_>,
+    rank: u8,
+    statement: usize,
+    refused: &[bool],
+    earlier: &mut Vec<EarlierCall>,
+) -> Result<Found, OutOfMemory>
+    requires { waits_at run.now rank ≡ Some statement }
+    ensures place { IfOk result (λ found. where_of found.waiting ≡ (rank, statement)) }
+    ensures lacked { IfOk result (λ found. AreLacked run.now found.waiting) }
+    ensures earlier { OnOk result (All (ComesFirst run.now) earlier.old.items → All (ComesFirst run.now) earlier.new.items) }
+{
+    let Some(node) = node_at(run, rank) else {
+        return Ok(found_with(rank, statement, Vec::new(alloc), false));
     };
+    let statements = run.script.statements(rank);
     let mut walk = walk_to(alloc, node, statements, refused, statement)?;
-    let pushed = push_awaited(alloc, rank, statement, next, &mut walk, nodes, end);
-    drop(walk);
-    pushed
+    let asked = asked_at(alloc, node, statements, statement, &mut walk)?;
+    let many = earlier.len();
+    let calls = push_asked(alloc, run, node, rank, statement, &asked, &walk, earlier)?;
+    let served = is_served(&asked, &calls, earlier.len() == many);
+    Ok(found_with(rank, statement, calls, served))
+}
+
+fn found_with(rank: u8, statement: usize, calls: Vec<MissingCall>, is_served: bool) -> Found
+    ensures place { where_of result.waiting ≡ (rank, statement) }
+    ensures lacked { (run : Ended) → All (LacksPosts run rank) calls.items → AreLacked run result.waiting }
+{
+    Found {
+        waiting: WaitingRank {
+            rank,
+            statement,
+            calls,
+        },
+        is_served,
+    }
+}
+
+// Whether posts are lacking of none of the calls that are asked for, and of no earlier one.
+fn is_served(asked: &[Awaited], calls: &[MissingCall], no_earlier: bool) -> bool {
+    !asked.is_empty() && calls.is_empty() && no_earlier
 }
 
 // What a rank's words stand for before the statement at this place.
@@ -133,228 +183,139 @@ fn walk_to(
 ) -> Result<Walk, OutOfMemory> {
     let mut walk = Walk::new(alloc)?;
     for (at, statement) in statements.iter().enumerate().take(place) {
-        if !refused.get(at).copied().unwrap_or(false) {
+        if !is_marked(refused, at) {
             walk.pass(alloc, node, at, statement)?;
         }
     }
     Ok(walk)
 }
 
-// Adds a rank that waits at this statement.
-fn push_awaited(
+// The calls that the statement at this place waits for.
+fn asked_at(
     alloc: Global,
-    rank: u8,
+    node: &Node,
+    statements: &[Statement],
     place: usize,
-    statement: &Statement,
     walk: &mut Walk,
-    nodes: &[&Node],
-    end: &mut RunEnd,
-) -> Result<(), OutOfMemory> {
-    let Some(node) = nodes.get(usize::from(rank)) else {
-        return Ok(());
-    };
-    let awaited = walk.awaited(alloc, node, statement)?;
-    let pushed = push_calls(alloc, rank, place, &awaited, walk, nodes, end);
-    drop(awaited);
-    pushed
+) -> Result<Vec<Awaited>, OutOfMemory> {
+    match statements.get(place) {
+        Some(statement) => walk.awaited(alloc, node, statement),
+        None => Ok(Vec::new(alloc)),
+    }
 }
 
-// Adds a rank that waits for these calls at this place.
-fn push_calls(
+// Those of these calls of which the node's board lacks posts. Of one of which it lacks none the first call before that of which it does is
+// added to the earlier ones.
+fn push_asked(
     alloc: Global,
+    run: &EndedRun<'_>,
+    node: &Node,
     rank: u8,
     statement: usize,
-    awaited: &[Awaited],
+    asked: &[Awaited],
     walk: &Walk,
-    nodes: &[&Node],
-    end: &mut RunEnd,
-) -> Result<(), OutOfMemory> {
+    earlier: &mut Vec<EarlierCall>,
+) -> Result<Vec<MissingCall>, OutOfMemory>
+    requires waits { waits_at run.now rank ≡ Some statement }
+    requires own { slice_get run.now.nodes.now rank ≡ Some node }
+    ensures calls { IfOk result (λ calls. All (LacksPosts run.now rank) calls.items) }
+    ensures earlier { OnOk result (All (ComesFirst run.now) earlier.old.items → All (ComesFirst run.now) earlier.new.items) }
+{
     let mut calls = Vec::new(alloc);
-    let before = end.earlier.len();
-    for one in awaited {
-        if is_open(rank, one, nodes)
-            && !push_lacking(alloc, rank, one, one.call, nodes, &mut calls)?
-        {
-            push_earlier(alloc, rank, statement, one, walk, nodes, &mut end.earlier)?;
-        }
+    for one in asked {
+        push_call(
+            alloc, run, node, rank, statement, one, walk, &mut calls, earlier,
+        )?;
     }
-    if calls.is_empty() && end.earlier.len() == before && !awaited.is_empty() {
-        end.served.push((rank, statement))?;
-    }
-    end.waiting.push(WaitingRank {
-        rank,
-        statement,
-        calls,
-    })?;
-    Ok(())
+    Ok(calls)
 }
 
-// Whether a rank's node has no result of a call.
-fn is_open(rank: u8, awaited: &Awaited, nodes: &[&Node]) -> bool {
-    match nodes.get(usize::from(rank)) {
-        Some(node) => node.result(&awaited.name, awaited.call).is_none(),
-        None => false,
+// Adds a call, where the node has no result of it and its board lacks posts of it, or the first one before it.
+fn push_call(
+    alloc: Global,
+    run: &EndedRun<'_>,
+    node: &Node,
+    rank: u8,
+    statement: usize,
+    asked: &Awaited,
+    walk: &Walk,
+    calls: &mut Vec<MissingCall>,
+    earlier: &mut Vec<EarlierCall>,
+) -> Result<(), OutOfMemory>
+    requires waits { waits_at run.now rank ≡ Some statement }
+    requires own { slice_get run.now.nodes.now rank ≡ Some node }
+    ensures calls { OnOk result (All (LacksPosts run.now rank) calls.old.items → All (LacksPosts run.now rank) calls.new.items) }
+    ensures earlier { OnOk result (All (ComesFirst run.now) earlier.old.items → All (ComesFirst run.now) earlier.new.items) }
+{
+    if asked.call < node.front(&asked.name) {
+        return Ok(());
+    }
+    let found = lacking_call(alloc, run, node, rank, asked, asked.call)?;
+    match found {
+        Some(call) => Ok(calls.push(call)?),
+        None => {
+            push_earlier(alloc, run, node, rank, statement, asked, walk, earlier)?;
+            Ok(())
+        }
     }
 }
 
 // Adds the first call before that of which a rank's board lacks posts, where there is one, and it isn't told already.
 fn push_earlier(
     alloc: Global,
+    run: &EndedRun<'_>,
+    node: &Node,
     rank: u8,
     statement: usize,
-    awaited: &Awaited,
+    asked: &Awaited,
     walk: &Walk,
-    nodes: &[&Node],
     earlier: &mut Vec<EarlierCall>,
-) -> Result<(), OutOfMemory> {
-    let Some(node) = nodes.get(usize::from(rank)) else {
+) -> Result<(), OutOfMemory>
+    requires waits { waits_at run.now rank ≡ Some statement }
+    requires own { slice_get run.now.nodes.now rank ≡ Some node }
+    ensures { OnOk result (All (ComesFirst run.now) earlier.old.items → All (ComesFirst run.now) earlier.new.items) }
+{
+    let Some(call) = first_lacking(alloc, run, node, rank, asked)? else {
         return Ok(());
     };
-    let mut calls = Vec::new(alloc);
-    for call in node.front(&awaited.name)..awaited.call {
-        if push_lacking(alloc, rank, awaited, call, nodes, &mut calls)? {
-            break;
-        }
-    }
-    match calls.pop() {
-        Some(call) => push_first(rank, statement, call, walk, earlier),
-        None => Ok(()),
-    }
-}
-
-fn push_first(
-    rank: u8,
-    statement: usize,
-    call: MissingCall,
-    walk: &Walk,
-    earlier: &mut Vec<EarlierCall>,
-) -> Result<(), OutOfMemory> {
-    let made = walk.statement_of(&call.name, call.call);
-    let is_told = earlier
-        .iter()
-        .any(|one| one.rank == rank && Some(one.made) == made);
-    match made {
-        Some(made) if !is_told => Ok(earlier.push(EarlierCall {
-            rank,
-            statement,
-            made,
-            call,
-        })?),
-        _ => Ok(()),
-    }
-}
-
-// Adds the call with this number, where posts of it are lacking. It answers whether some are.
-fn push_lacking(
-    alloc: Global,
-    rank: u8,
-    awaited: &Awaited,
-    call: u32,
-    nodes: &[&Node],
-    calls: &mut Vec<MissingCall>,
-) -> Result<bool, OutOfMemory> {
-    let Some(node) = nodes.get(usize::from(rank)) else {
-        return Ok(false);
+    let Some(made) = walk.statement_of(&call.name, call.call) else {
+        return Ok(());
     };
-    let missing = lacking(alloc, node, awaited, call, nodes)?;
-    if missing.is_empty() {
-        return Ok(false);
+    if is_told(earlier, rank, made) {
+        return Ok(());
     }
-    let request = match &awaited.request {
-        Some(word) => Some(word.copy(alloc)?),
-        None => None,
-    };
-    calls.push(MissingCall {
-        request,
-        name: awaited.name.copy(alloc)?,
+    earlier.push(EarlierCall {
+        rank,
+        statement,
+        made,
         call,
-        missing,
     })?;
-    Ok(true)
+    Ok(())
 }
 
-// The members whose posts to the call with this number the node's board lacks.
-fn lacking(
+// Whether the call that a rank's statement at this place made is told already.
+fn is_told(earlier: &[EarlierCall], rank: u8, made: usize) -> bool {
+    earlier
+        .iter()
+        .any(|one| one.rank == rank && one.made == made)
+}
+
+// The first call before that of which a node's board lacks posts.
+fn first_lacking(
     alloc: Global,
+    run: &EndedRun<'_>,
     node: &Node,
-    awaited: &Awaited,
-    call: u32,
-    nodes: &[&Node],
-) -> Result<Vec<MissingMember>, OutOfMemory> {
-    let mut missing = Vec::new(alloc);
-    let Some(birth) = node.board().birth(&awaited.name) else {
-        return Ok(missing);
-    };
-    for member in birth.members() {
-        if node.board().holds(&awaited.name, call, *member).is_none() {
-            missing.push(missing_member(*member, awaited, nodes))?;
+    rank: u8,
+    asked: &Awaited,
+) -> Result<Option<MissingCall>, OutOfMemory>
+    requires { slice_get run.now.nodes.now rank ≡ Some node }
+    ensures { IfOk result (λ found. IfSome found (λ c. LacksPosts run.now rank c)) }
+{
+    for call in node.front(&asked.name)..asked.call {
+        let found = lacking_call(alloc, run, node, rank, asked, call)?;
+        if found.is_some() {
+            return Ok(found);
         }
     }
-    Ok(missing)
-}
-
-fn missing_member(member: Proc, awaited: &Awaited, nodes: &[&Node]) -> MissingMember {
-    let closed = match nodes.get(usize::from(member.number())) {
-        Some(node) => node.has_freed(&awaited.name),
-        None => false,
-    };
-    MissingMember {
-        rank: member.number(),
-        closed,
-    }
-}
-
-/// Adds a line for each of these calls: an earlier one comes first, and whose posts of it the board lacks. The ranks that wait are these.
-pub fn explain_earlier(
-    alloc: Global,
-    text: &[u8],
-    earlier: &[EarlierCall],
-    waiting: &[WaitingRank],
-    told: &mut Vec<u8>,
-) -> Result<(), OutOfMemory> {
-    let places = places_of(alloc, text, waiting)?;
-    for one in earlier {
-        push_line(alloc, text, &places, one, told)?;
-    }
-    Ok(())
-}
-
-fn push_line(
-    alloc: Global,
-    text: &[u8],
-    places: &[(u8, u32)],
-    one: &EarlierCall,
-    told: &mut Vec<u8>,
-) -> Result<(), OutOfMemory> {
-    let lines = statement_lines(alloc, text, one.rank)?;
-    push_start(alloc, one.rank, line_at(&lines, one.statement), told)?;
-    let (made, call) = (line_at(&lines, one.made), one.call.call);
-    let (word, on) = words_of_line(text, made);
-    told.extend_from_slice(b"first comes ")?;
-    told.extend_from_slice(word.unwrap_or(&[]))?;
-    told.extend_from_slice(b" ")?;
-    told.extend_from_slice(on.unwrap_or(&[]))?;
-    let what = format!(in alloc; " of line {made}, call {call}: no post of ")?;
-    told.extend_from_slice(what.as_bytes())?;
-    push_members(alloc, places, &one.call.missing, told)?;
-    told.push(b'\n')?;
-    Ok(())
-}
-
-/// Adds a line for each of these ranks and the places of their statements: the board lacks no post.
-pub fn explain_served(
-    alloc: Global,
-    text: &[u8],
-    served: &[(u8, usize)],
-    told: &mut Vec<u8>,
-) -> Result<(), OutOfMemory> {
-    for (rank, statement) in served {
-        let lines = statement_lines(alloc, text, *rank)?;
-        let line = lines.get(*statement).copied().unwrap_or(0);
-        let text = format!(in alloc;
-            "rank {rank}, line {line}: all posts have come, and the run ended before it went on\n"
-        )?;
-        told.extend_from_slice(text.as_bytes())?;
-    }
-    Ok(())
+    Ok(None)
 }

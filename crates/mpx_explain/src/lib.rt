@@ -3,7 +3,8 @@
 //! [`word_to_blame`] finds the word of a refused line that is to blame. [`explain_refusals`] tells each refused line of a script, and which
 //! word is missing, one too many or wrong. [`explain_calls`] tells each call that was refused or is a fault, with its line and what its
 //! statement gives, and [`explain_unheard`] each fault that no line tells: `specs/Findings.antt` says which. [`explain_results`] tells each
-//! result that is past its signed type. [`run_end`] finds where ranks wait in a run that ended early.
+//! result that is past its signed type. [`explain_run`] tells where ranks wait in a run that ended early, by what
+//! is left of it (an [`EndedRun`]): `specs/RunEnds.antt`.
 #![tactic(auto)]
 
 mod amounts;
@@ -12,11 +13,14 @@ mod blame;
 mod calls;
 mod counts_given;
 mod detail;
+mod end_lines;
+mod ended;
 mod ends;
 mod exact;
 mod faults;
 mod forms;
 mod given;
+mod lacking;
 mod lines;
 mod making_given;
 mod meant;
@@ -27,10 +31,13 @@ mod overflows;
 mod past;
 mod reasons;
 mod size;
+mod standing;
 mod walk;
 
 pub use blame::{Blamed, word_to_blame};
 pub use calls::{explain_calls, explain_unheard};
-pub use ends::{EarlierCall, RunEnd, explain_earlier, explain_served, run_end};
+pub use end_lines::explain_run;
+pub use ended::EndedRun;
+pub use ends::{EarlierCall, RunEnd};
 pub use lines::explain_refusals;
 pub use overflows::explain_results;

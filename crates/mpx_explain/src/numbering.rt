@@ -1,4 +1,7 @@
 //! The numbers of calls on `world`.
+ghost use Rattle.std.specs.Prelude.{◌≡◌, [], IfOk, length, map, slice_index_or};
+ghost use Rattle.mpx_eval.specs.Found.{complaint_view};
+ghost use Rattle.mpx_explain.specs.RunEnds.{is_of, marked_by, marks_of, with_mark};
 
 use join_core::OutOfMemory;
 use mpx_eval::Complaint;
@@ -51,20 +54,34 @@ pub(crate) fn marked(
     rank: u8,
     all: &[Complaint],
     start: &[u8],
-) -> Result<Vec<bool>, OutOfMemory> {
-    let mut marks = Vec::new(alloc);
-    for _ in script.statements(rank) {
-        marks.push(false)?;
-    }
+) -> Result<Vec<bool>, OutOfMemory>
+    ensures { IfOk result (λ marks. marks.items ≡ marks_of (length (slice_index_or script.now.statements rank [])) rank start.now (map complaint_view all.now)) }
+{
+    let mut marks = vec![in alloc; false; script.statements(rank).len()]?;
     for complaint in all {
-        if complaint.rank == rank && complaint.text.as_bytes().starts_with(start) {
-            mark(&mut marks, complaint.statement);
-        }
+        mark(rank, start, complaint, &mut marks);
     }
     Ok(marks)
 }
 
-fn mark(marks: &mut [bool], place: usize) {
+// Marks the statement of a line that is this rank's and begins so.
+fn mark(rank: u8, start: &[u8], complaint: &Complaint, marks: &mut Vec<bool>)
+    ensures { marks.new.items ≡ marked_by rank start.now marks.old.items (complaint_view complaint.now) }
+{
+    if is_of(rank, start, complaint) {
+        mark_place(complaint.statement, marks);
+    }
+}
+
+fn is_of(rank: u8, start: &[u8], complaint: &Complaint) -> bool
+    ensures { result ≡ is_of rank start.now (complaint_view complaint.now) }
+{
+    complaint.rank == rank && complaint.text.as_bytes().starts_with(start)
+}
+
+fn mark_place(place: usize, marks: &mut Vec<bool>)
+    ensures { marks.new.items ≡ with_mark place marks.old.items }
+{
     if place < marks.len() {
         marks[place] = true;
     }

@@ -1,5 +1,5 @@
 -- What a call does with the text that a reader gives.
-use Rattle.std.proofs.Common.{◌≡◌, ℕ, Bool, false, List, [], Option, Some, None, Result, Ok, Err, inl, inr, refl, subst, sym}
+use Rattle.std.proofs.Common.{◌≡◌, ℕ, Bool, true, false, List, [], Option, Some, None, Result, Ok, Err, inl, inr, refl, subst, sym}
 use Rattle.std.proofs.lemmas.Result.{IfOk-weaker}
 use Rattle.std.specs.Prelude.{◌≢◌, ◌⊎◌}
 use Rattle.std.specs.Io.KnownBytes.{Keeps}
@@ -19,7 +19,7 @@ use Rattle.mpx_run.specs.Reports.{IsPrinted}
 use Rattle.mpx_run.proofs.Less.{runs_printed}
 use Rattle.mpx_run.proofs.Pieces.{gated_prints, prints_ungated, runs_ungated, written_prints}
 use Rattle.mpx_program.proofs.Telling.{found_tells}
-use Rattle.mpx_program.specs.Explained.{HasTold, IsFound}
+use Rattle.mpx_program.specs.Explained.{HasTold, IsFound, TellsOf, unexplained}
 use Rattle.mpx_program.specs.Jobs.{AnswersText, DoesJobWith, Exits, ExplainsOn, FailsBefore, StrictBy, StrictOn, TellsRead}
 use Rattle.mpx_program.specs.Strict.{IsStrict}
 use Rattle.mpx_program.specs.declared.found.Found.{Found}
@@ -50,17 +50,21 @@ does_nothing ops call there left old why more code Says fails exits = record {
   exits = exits;
 }
 
--- what is told of a script is told of a text that is read so; where memory was wanting, nothing is
-explained : (ops : List Operation) (call : Invocation) (text : List ℕ) (script : ScriptView) (found : Found) (read : reading ops text ≡ Ok script) (is : IsFound ops call.job.command script found) (answer : Result End RunError) (more : List ℕ)
-    → (more ≡ []) ⊎ HasTold script text found answer more → ExplainsOn ops call text answer more
+-- what is told of a script is told of a text that is read so, or that memory was wanting for it
+by_found : (ops : List Operation) (call : Invocation) (text : List ℕ) (script : ScriptView) (found : Found) (is : IsFound ops call.job.command script found) (end : End) (more : List ℕ)
+    → (more ≡ unexplained) ⊎ HasTold script text found (Ok end) more → (more ≡ unexplained) ⊎ TellsOf ops call.job.command script text end more
+by_found ops call text script found is end more (inl wanting) = inl wanting
+by_found ops call text script found is end more (inr told) = inr (found_tells ops call.job.command script text found (Ok end) more is told)
+
+explained : (ops : List Operation) (call : Invocation) (text : List ℕ) (script : ScriptView) (found : Found) (read : reading ops text ≡ Ok script) (is : call.flags.explain ≡ true → IsFound ops call.job.command script found) (answer : Result End RunError) (more : List ℕ)
+    → (call.flags.explain ≡ true → (more ≡ unexplained) ⊎ HasTold script text found answer more) → ExplainsOn ops call text answer more
 explained ops call text script found read is (Err error) more told = tt
-explained ops call text script found read is (Ok end) more (inl none) = subst (λ r. TellsRead ops call.job.command r text end more) (sym read) (inl none)
-explained ops call text script found read is (Ok end) more (inr told) = subst (λ r. TellsRead ops call.job.command r text end more) (sym read) (found_tells ops call.job.command script text found (Ok end) more is told)
+explained ops call text script found read is (Ok end) more told = subst (λ r. TellsRead call.flags.explain ops call.job.command r text end more) (sym read) (λ on. by_found ops call text script found (is on) end more (told on))
 
 -- what is answered is what is written of a script
-module _ (ops : List Operation) (call : Invocation) (text : List ℕ) (script : ScriptView) (complains : Bool) (read : reading ops text ≡ Ok script) (strict : IsStrict ops call text complains) (found : Found) (is_found : IsFound ops call.job.command script found) (old new : Option (List ℕ)) (more : List ℕ) (code : ℕ) (Says : List ℕ → Type 0) where
+module _ (ops : List Operation) (call : Invocation) (text : List ℕ) (script : ScriptView) (complains : Bool) (read : reading ops text ≡ Ok script) (strict : IsStrict ops call text complains) (found : Found) (is_found : call.flags.explain ≡ true → IsFound ops call.job.command script found) (old new : Option (List ℕ)) (more : List ℕ) (code : ℕ) (Says : List ℕ → Type 0) where
   abbrev Told : Result End RunError → Type 0
-  Told answer = (more ≡ []) ⊎ HasTold script text found answer more
+  Told answer = call.flags.explain ≡ true → (more ≡ unexplained) ⊎ HasTold script text found answer more
 
   strict_on : (answer : Result End RunError) → StrictOn ops call text answer complains
   strict_on (Ok end) = strict
@@ -70,20 +74,20 @@ module _ (ops : List Operation) (call : Invocation) (text : List ℕ) (script : 
   is_ungated (Ok end) p = λ e. cc e
   is_ungated (Err error) p = λ e. subst (λ a. PrintsUngated IsFounded ops call.job text old new a) e p
 
-  answers : (answer : Result End RunError) → PrintsUngated IsFounded ops call.job text old new answer → Told answer → Exits answer complains call.flags.explain more code Says → AnswersText IsFounded ops call text old new code Says
-  answers answer prints told exits = record {
+  answers : (answer : Result End RunError) → PrintsUngated IsFounded ops call.job text old new answer → ExplainsOn ops call text answer more → Exits answer complains call.flags.explain more code Says → AnswersText IsFounded ops call text old new code Says
+  answers answer prints explains exits = record {
     answer = answer;
     prints = gated_prints IsFounded ops nowhere call.job text old new answer prints;
     ungated = is_ungated answer prints;
     complains = complains;
     strict = strict_on answer;
     more = more;
-    explains = explained ops call text script found read is_found answer more told;
+    explains = explains;
     exits = exits;
   }
 
   pub answers_written : (out : List ℕ) (end : End) (answer : Result End RunError) → ComesTo IsFounded ops call.job.command call.job.options script end out → IsWritten old new out end answer → Told answer → Exits answer complains call.flags.explain more code Says → AnswersText IsFounded ops call text old new code Says
-  answers_written out end answer comes written = answers answer (written_prints IsFounded ops call.job text script old new out end answer read comes written)
+  answers_written out end answer comes written told = answers answer (written_prints IsFounded ops call.job text script old new out end answer read comes written) (explained ops call text script found read is_found answer more told)
 
 -- what is done with a text is done with what the reader gives
 pub does_text : (ops : List Operation) (call : Invocation) (there left old new : Option (List ℕ)) (text now : List ℕ) (code : ℕ) (Says : List ℕ → Type 0) → TakesInput there left text → now ≡ text → AnswersText IsFounded ops call now old new code Says
@@ -95,7 +99,7 @@ does_text ops call there left old new text now code Says taken same a = record {
   complains = a.complains;
   strict = by_answer a.answer a.complains a.strict;
   more = a.more;
-  explains = IfOk-weaker a.answer _ _ (λ end told. (text, taken, subst (λ xs. TellsRead ops call.job.command (reading ops xs) xs end a.more) same told)) a.explains;
+  explains = IfOk-weaker a.answer _ _ (λ end told. (text, taken, subst (λ xs. TellsRead call.flags.explain ops call.job.command (reading ops xs) xs end a.more) same told)) a.explains;
   exits = a.exits;
 } where
   by_answer : (answer : Result End RunError) (complains : Bool) → StrictOn ops call now answer complains → StrictBy ops call there left answer complains

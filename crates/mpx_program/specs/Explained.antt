@@ -1,5 +1,6 @@
 -- What `--explain` tells of a script's evaluation.
-use Rattle.std.specs.Prelude.{◌≡◌, ◌⊎◌, ℕ, List, [], ◌++◌, codes, map, Result, IfOk}
+use Rattle.std.specs.Prelude.{◌≡◌, ◌⊎◌, ◌<◌, ◌==◌, ℕ, Bool, true, false, List, [], ◌++◌, codes, length, map, Result, IfOk}
+use Rattle.std.specs.List.{ends_with}
 use Rattle.mpx_num.specs.declared.own.Operation.{Operation}
 use Rattle.mpx_statement.specs.declared.job.Command.{Command}
 use Rattle.mpx_statement.specs.declared.job.Command.TheVariants.{Check}
@@ -14,6 +15,8 @@ use Rattle.mpx_eval.specs.Unheard.{unheard_in}
 use Rattle.mpx_eval.specs.Waiting.{waiting_in_full}
 use Rattle.mpx_explain.specs.Findings.{AreTold}
 use Rattle.mpx_explain.specs.Overflows.{AreOverflows}
+use Rattle.mpx_explain.specs.RunEnds.{IsRunTold}
+use Rattle.mpx_explain.specs.declared.ended.EndedRun.{EndedRun}
 use Rattle.mpx_run.specs.declared.end.Cause.TheVariants.{InEveryRun}
 use Rattle.mpx_run.specs.declared.end.End.{End}
 use Rattle.mpx_run.specs.declared.end.End.TheVariants.{Finished, Waiting}
@@ -37,21 +40,36 @@ pub record TellsEvaluation (ops : List Operation) (script : ScriptView) (text mo
   pub calls : AreCalls text script.statements (complaints_in script.statements script.ranks end) (unheard_in ops script.statements script.ranks end)
       (waiting_told text script.statements (waiting_in_full ops script.statements script.ranks end)) more
 
--- the lines of the evaluation's waits stand behind those of a run, or it is said that they are the same
-abbrev pub IsBehind : (here there more : List ℕ) → Type 0
-IsBehind here there more = ((there ≡ []) × (more ≡ here))
-    ⊎ ((here ≡ there) × (more ≡ here ++ codes "in the evaluation these ranks wait there too\n"))
+-- lines of waits of which there are more than are told
+abbrev pub is_cut : List ℕ → Bool
+is_cut waits = ends_with ◌==◌ waits (codes " more\n")
+
+-- it is said that waits that are told in full are the same, or they stand behind a heading
+abbrev pub SaysOrHeads : (here there more : List ℕ) → Type 0
+SaysOrHeads here there more = ((here ≡ there) × ((is_cut there ≡ false) × (more ≡ here ++ codes "in the evaluation these ranks wait there too\n")))
     ⊎ (more ≡ (here ++ codes "in the evaluation ranks wait here:\n") ++ there)
+
+-- the lines of the evaluation's waits, where there are some, stand behind those of a run, or it is said that they are the same
+abbrev pub IsBehind : (here there more : List ℕ) → Type 0
+IsBehind here there more = ((there ≡ []) × (more ≡ here)) ⊎ ((0 < length there) × SaysOrHeads here there more)
 
 -- the lines of calls stand behind a heading, where there are some
 abbrev pub IsHeaded : (before calls more : List ℕ) → Type 0
-IsHeaded before calls more = ((calls ≡ []) × (more ≡ before)) ⊎ (more ≡ (before ++ codes "in the evaluation:\n") ++ calls)
+IsHeaded before calls more = ((calls ≡ []) × (more ≡ before)) ⊎ ((0 < length calls) × (more ≡ (before ++ codes "in the evaluation:\n") ++ calls))
 
--- behind lines of the run itself, which ended early, the same of the evaluation
-pub record TellsEarly (ops : List Operation) (script : ScriptView) (text more : List ℕ) : Type 0 where
+-- what is told of a run of this script itself in which these ranks wait, behind other lines
+pub record IsToldOfRun (script : ScriptView) (text : List ℕ) (ranks : List ℕ) (old new : List ℕ) : Type 0 where
+  pub run : EndedRun
+  pub scripted : run.script.now ≡ script
+  pub waits : run.waiting.now ≡ ranks
+  pub told : IsRunTold text run old new
+
+-- behind lines of the run itself, which ended early with these ranks waiting, the same of the evaluation
+pub record TellsEarly (ops : List Operation) (script : ScriptView) (text : List ℕ) (ranks : List ℕ) (more : List ℕ) : Type 0 where
   pub end : State
   pub evaluation : IsEvaluation ops script.statements script.ranks end
   pub here : List ℕ
+  pub itself : IsToldOfRun script text ranks [] here
   pub waits : List ℕ
   pub behind : IsBehind here (waiting_told text script.statements (waiting_in_full ops script.statements script.ranks end)) waits
   pub lines : List ℕ
@@ -62,28 +80,34 @@ pub record TellsEarly (ops : List Operation) (script : ScriptView) (text more : 
 abbrev pub TellsEnd : List Operation → ScriptView → (text : List ℕ) → End → (more : List ℕ) → Type 0
 TellsEnd ops script text Finished more = TellsEvaluation ops script text more
 TellsEnd ops script text (Waiting ranks InEveryRun) more = TellsEvaluation ops script text more
-TellsEnd ops script text (Waiting ranks cause) more = TellsEarly ops script text more
+TellsEnd ops script text (Waiting ranks cause) more = TellsEarly ops script text ranks.items more
 
 -- of one that checks, the calls that are refused for certain
 abbrev pub TellsOf : List Operation → Command → ScriptView → (text : List ℕ) → End → (more : List ℕ) → Type 0
 TellsOf ops Check script text end more = AreTold text (certain_in ops script) [] more
 TellsOf ops command script text end more = TellsEnd ops script text end more
 
--- that, or nothing where memory is wanting
-abbrev pub TellsMore : List Operation → Command → ScriptView → (text : List ℕ) → End → (more : List ℕ) → Type 0
-TellsMore ops command script text end more = (more ≡ []) ⊎ TellsOf ops command script text end more
+-- what is told in the place of that where memory is wanting
+abbrev pub unexplained : List ℕ
+unexplained = codes "out of memory: no more is explained\n"
 
--- what is found in a script for a job of this command
+-- where more is asked for, that is told, or that memory is wanting for it
+abbrev pub TellsMore : (explains : Bool) → List Operation → Command → ScriptView → (text : List ℕ) → End → (more : List ℕ) → Type 0
+TellsMore explains ops command script text end more = explains ≡ true → (more ≡ unexplained) ⊎ TellsOf ops command script text end more
+
+-- what is found in a script for a job of this command, where that is asked for
 abbrev pub IsFound : List Operation → Command → ScriptView → Found → Type 0
-IsFound ops command script F.Nothing = Unit {0}
+IsFound ops command script F.Nothing = ⊥
+IsFound ops command script F.Wanting = Unit {0}
 IsFound ops Check script (F.Certain found) = map complaint_view found.items ≡ certain_in ops script
 IsFound ops command script (F.Certain found) = ⊥
 IsFound ops Check script (F.InEvaluation found) = ⊥
 IsFound ops command script (F.InEvaluation found) = AreFindings ops script (map waiting_view found.waiting.items) (map complaint_view found.complaints.items) (map complaint_view found.unheard.items)
 
--- what is told by what was found, where a job came to this
+-- what is told by what was found, where a job came to this: nothing where nothing was, or no memory was there for it
 abbrev pub HasTold : ScriptView → (text : List ℕ) → Found → Result End RunError → (more : List ℕ) → Type 0
 HasTold script text F.Nothing answer more = more ≡ []
+HasTold script text F.Wanting answer more = ⊥
 HasTold script text (F.Certain found) answer more = AreTold text (map complaint_view found.items) [] more
 HasTold script text (F.InEvaluation found) answer more = IfOk answer (λ end. (ops : List Operation)
     → AreFindings ops script (map waiting_view found.waiting.items) (map complaint_view found.complaints.items) (map complaint_view found.unheard.items) → TellsEnd ops script text end more)

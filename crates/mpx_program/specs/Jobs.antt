@@ -42,12 +42,12 @@ StrictOn ops call text (Err error) complains = Unit {0}
 
 -- where a job comes to an end, what is told more is of a script's evaluation
 
-abbrev pub TellsRead : List Operation → Command → Result ScriptView ScriptError → (text : List ℕ) → End → (more : List ℕ) → Type 0
-TellsRead ops command (Ok script) text end more = TellsMore ops command script text end more
-TellsRead ops command (Err refusal) text end more = Unit {0}
+abbrev pub TellsRead : (explains : Bool) → List Operation → Command → Result ScriptView ScriptError → (text : List ℕ) → End → (more : List ℕ) → Type 0
+TellsRead explains ops command (Ok script) text end more = TellsMore explains ops command script text end more
+TellsRead explains ops command (Err refusal) text end more = Unit {0}
 
 abbrev pub ExplainsOn : List Operation → Invocation → (text : List ℕ) → Result End RunError → (more : List ℕ) → Type 0
-ExplainsOn ops call text answer more = IfOk answer (λ end. TellsRead ops call.job.command (reading ops text) text end more)
+ExplainsOn ops call text answer more = IfOk answer (λ end. TellsRead call.flags.explain ops call.job.command (reading ops text) text end more)
 
 -- a call's job is done with a text by the job's own operations, and no gate ends it
 pub record AnswersText (Is : OfRuns) (ops : List Operation) (call : Invocation) (text : List ℕ) (old new : Option (List ℕ)) (code : ℕ) (Says : List ℕ → Type 0) : Type 0 where
@@ -66,7 +66,7 @@ StrictBy ops call there left (Ok end) complains = (text : List ℕ) × TakesInpu
 StrictBy ops call there left (Err error) complains = Unit {0}
 
 abbrev pub ExplainsBy : List Operation → Invocation → (there left : Option (List ℕ)) → Result End RunError → (more : List ℕ) → Type 0
-ExplainsBy ops call there left answer more = IfOk answer (λ end. (text : List ℕ) × TakesInput there left text × TellsRead ops call.job.command (reading ops text) text end more)
+ExplainsBy ops call there left answer more = IfOk answer (λ end. (text : List ℕ) × TakesInput there left text × TellsRead call.flags.explain ops call.job.command (reading ops text) text end more)
 
 -- a reader gives a text that is read as this script, and whether it has calls to complain of is as `--strict` asks
 pub record IsPrepared (ops : List Operation) (call : Invocation) (there left : Option (List ℕ)) (text : List ℕ) (script : ScriptView) (complains : Bool) : Type 0 where

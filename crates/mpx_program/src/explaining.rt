@@ -1,11 +1,11 @@
 //! What `--explain` tells beside why a run ended.
-ghost use Rattle.std.specs.Prelude.{◌≡◌, ◌⊎◌, [], IfOk, List, OnOk, false, map};
+ghost use Rattle.std.specs.Prelude.{◌≡◌, [], IfErr, IfOk, List, OnOk, false, map, true};
 ghost use Rattle.mpx_num.specs.declared.own.Operation.{Operation};
 ghost use Rattle.mpx_eval.specs.Findings.{AreFindings};
 ghost use Rattle.mpx_eval.specs.Found.{complaint_view, waiting_view};
 ghost use Rattle.mpx_explain.specs.Findings.{AreTold};
 ghost use Rattle.mpx_waiting.specs.ToldLines.{waiting_told};
-ghost use Rattle.mpx_program.specs.Explained.{AreCalls, HasTold, IsBehind, IsHeaded, TellsEarly, TellsEnd, TellsEvaluation};
+ghost use Rattle.mpx_program.specs.Explained.{AreCalls, HasTold, IsBehind, IsHeaded, IsToldOfRun, TellsEarly, TellsEnd, TellsEvaluation, unexplained};
 
 use crate::found::Found;
 use crate::prepared::Prepared;
@@ -13,8 +13,7 @@ use crate::reason::push_reason;
 use join_core::OutOfMemory;
 use mpx_eval::{Complaint, Findings};
 use mpx_explain::{
-    explain_calls, explain_earlier, explain_refusals, explain_results, explain_served,
-    explain_unheard, run_end,
+    EndedRun, explain_calls, explain_refusals, explain_results, explain_run, explain_unheard,
 };
 use mpx_node::Node;
 use mpx_num::Ops;
@@ -27,26 +26,31 @@ use std::alloc::Global;
 /// Further lines, where `--explain` is asked for: of a job that came to an end for whose posts ranks wait, calls that are refused or are faults,
 /// and results that are past their types. Where a run ended early, these lines are of the evaluation and stand behind a heading that says so;
 /// before it stands where ranks wait in this run, and whose posts they lack. So they do where the text couldn't be written, behind the system's
-/// reason. Where memory is wanting, nothing.
+/// reason. An `Err` is want of memory, be it in the script's examination.
 pub(crate) fn explained(
     alloc: Global,
     call: &Invocation,
     prepared: &Prepared,
     answer: &Result<End, RunError>,
-    left: Option<&Left>,
-) -> Vec<u8>
-    ensures off { call.now.flags.explain ≡ false → result.items ≡ [] }
-    ensures on { (result.items ≡ []) ⊎ HasTold prepared.now.script prepared.now.text.items prepared.now.found answer.now result.items }
+    left: &Left,
+) -> Result<Vec<u8>, OutOfMemory>
+    ensures off { call.now.flags.explain ≡ false → IfOk result (λ told. told.items ≡ []) }
+    ensures on { call.now.flags.explain ≡ true → IfOk result (λ told. HasTold prepared.now.script prepared.now.text.items prepared.now.found answer.now told.items) }
 {
     if !call.flags.explain {
-        return Vec::new(alloc);
+        return Ok(Vec::new(alloc));
     }
-    let Some(left) = left else {
-        return Vec::new(alloc);
-    };
-    match found_told(alloc, prepared, answer, left) {
-        Ok(told) => told,
-        Err(OutOfMemory) => Vec::new(alloc),
+    found_told(alloc, prepared, answer, left)
+}
+
+/// What the standard error is told of that: the lines, or that memory was wanting for them.
+pub(crate) fn more_of(told: &Result<Vec<u8>, OutOfMemory>) -> &[u8]
+    ensures ok { IfOk told.now (λ lines. result.now ≡ lines.items) }
+    ensures err { IfErr told.now (λ e. result.now ≡ unexplained) }
+{
+    match told {
+        Ok(lines) => lines.as_slice(),
+        Err(OutOfMemory) => b"out of memory: no more is explained\n".as_slice(),
     }
 }
 
@@ -86,6 +90,7 @@ fn found_told(
 {
     match &prepared.found {
         Found::Nothing => Ok(Vec::new(alloc)),
+        Found::Wanting => Err(OutOfMemory),
         Found::Certain(found) => certain_told(alloc, &prepared.text, &prepared.script, found),
         Found::InEvaluation(found) => end_told(alloc, prepared, found, answer, left),
     }
@@ -138,7 +143,8 @@ fn fault_told(
 ) -> Result<Vec<u8>, OutOfMemory> {
     let mut told = Vec::new(alloc);
     push_reason(alloc, error, &mut told)?;
-    let early = early_told(alloc, prepared, left, &[], found)?;
+    let nobody = Vec::new(alloc);
+    let early = early_told(alloc, prepared, left, &nobody, found)?;
     told.extend_from_slice(&early)?;
     Ok(told)
 }
@@ -148,14 +154,15 @@ fn early_told(
     alloc: Global,
     prepared: &Prepared,
     left: &Left,
-    ranks: &[u8],
+    ranks: &Vec<u8>,
     found: &Findings,
 ) -> Result<Vec<u8>, OutOfMemory>
     ensures { IfOk result (λ told. (ops : List Operation) → AreFindings ops prepared.now.script (map waiting_view found.now.waiting.items) (map complaint_view found.now.complaints.items) (map complaint_view found.now.unheard.items)
-        → TellsEarly ops prepared.now.script prepared.now.text.items told.items) }
+        → TellsEarly ops prepared.now.script prepared.now.text.items ranks.now.items told.items) }
 {
     let mut told = Vec::new(alloc);
-    push_run_end(alloc, prepared, left, ranks, found, &mut told)?;
+    let waiting = ranks.as_slice();
+    push_run_end(alloc, prepared, left, waiting, found, &mut told)?;
     let there = waits_told(alloc, prepared, found)?;
     push_behind(there.as_slice(), &mut told)?;
     drop(there);
@@ -201,14 +208,54 @@ fn push_run_end(
     ranks: &[u8],
     found: &Findings,
     told: &mut Vec<u8>,
-) -> Result<(), OutOfMemory> {
-    let (text, script) = (prepared.text.as_slice(), &prepared.script);
-    let nodes = nodes_of(alloc, left, script.ranks())?;
-    let lines = left.transcripts.as_slice();
-    let end = run_end(alloc, script, &found.complaints, ranks, lines, &nodes)?;
-    push_waiting(alloc, text, script, end.waiting.as_slice(), told)?;
-    explain_earlier(alloc, text, &end.earlier, &end.waiting, told)?;
-    explain_served(alloc, text, end.served.as_slice(), told)
+) -> Result<(), OutOfMemory>
+    ensures { OnOk result (IsToldOfRun prepared.now.script prepared.now.text.items ranks.now told.old.items told.new.items) }
+{
+    let nodes = nodes_of(alloc, left, prepared.script.ranks())?;
+    let lines = counts_of(alloc, left)?;
+    let text = prepared.text.as_slice();
+    push_run(
+        alloc,
+        text,
+        &prepared.script,
+        &found.complaints,
+        ranks,
+        &lines,
+        &nodes,
+        told,
+    )
+}
+
+// Where these ranks wait in a run of a script in which each rank has so many lines, by the nodes of all ranks as they stand then.
+fn push_run(
+    alloc: Global,
+    text: &[u8],
+    script: &Script,
+    complaints: &[Complaint],
+    ranks: &[u8],
+    lines: &[usize],
+    nodes: &[&Node],
+    told: &mut Vec<u8>,
+) -> Result<(), OutOfMemory>
+    ensures { OnOk result (IsToldOfRun script.now text.now ranks.now told.old.items told.new.items) }
+{
+    let run = EndedRun {
+        script,
+        complaints,
+        waiting: ranks,
+        lines,
+        nodes,
+    };
+    explain_run(alloc, text, &run, told)
+}
+
+// How many lines each rank has at the end of a run.
+fn counts_of(alloc: Global, left: &Left) -> Result<Vec<usize>, OutOfMemory> {
+    let mut counts = Vec::new(alloc);
+    for lines in &left.transcripts {
+        counts.push(lines.len())?;
+    }
+    Ok(counts)
 }
 
 // The nodes of so many ranks at the end of a run.

@@ -1,5 +1,5 @@
 //! What is found in a script beside the job, for `--strict` and for `--explain`: once.
-ghost use Rattle.std.specs.Prelude.{IfOk};
+ghost use Rattle.std.specs.Prelude.{◌≡◌, IfOk, true};
 ghost use Rattle.mpx_program.specs.Explained.{IsFound};
 ghost use Rattle.mpx_program.specs.Strict.{Complains, ComplainsIn, IsAsked};
 
@@ -14,8 +14,10 @@ use std::alloc::Global;
 /// What was looked for in a script, and found.
 #[derive(Drop)]
 pub(crate) enum Found {
-    /// Nothing was asked for, or there was no memory for what is only explained.
+    /// Nothing was asked for.
     Nothing,
+    /// There was no memory for what is only explained.
+    Wanting,
     /// Of a script that is run or evaluated: who waits in its evaluation, and which calls are refused or are faults.
     InEvaluation(Findings),
     /// Of a script that is read alone: the calls on `world` that are refused for certain.
@@ -38,7 +40,7 @@ pub(crate) fn examine_script(
     script: &Script,
     ops: &Ops,
 ) -> Result<Examined, OutOfMemory>
-    ensures found { IfOk result (λ examined. IsFound (⟦<Ops as Listing>⟧.operations ops.now) call.now.job.command script.now examined.found) }
+    ensures found { IfOk result (λ examined. call.now.flags.explain ≡ true → IsFound (⟦<Ops as Listing>⟧.operations ops.now) call.now.job.command script.now examined.found) }
     ensures strict { IfOk result (λ examined. IsAsked call.now.flags.strict (Complains (⟦<Ops as Listing>⟧.operations ops.now) call.now.job.command script.now examined.complains) examined.complains) }
 {
     if call.flags.strict {
@@ -61,7 +63,7 @@ fn found_for_lines(alloc: Global, command: Command, script: &Script, ops: &Ops) 
 {
     match found_in(alloc, command, script, ops) {
         Ok(examined) => examined.found,
-        Err(OutOfMemory) => Found::Nothing,
+        Err(OutOfMemory) => Found::Wanting,
     }
 }
 

@@ -9,7 +9,7 @@ ghost use Rattle.mpx_program.specs.Explained.{IsFound};
 ghost use Rattle.mpx_program.specs.Jobs.{AnswersText, DoesJobWith, Exits, IsRefused, Tells};
 ghost use Rattle.mpx_program.specs.Strict.{IsStrict};
 
-use crate::explaining::explained;
+use crate::explaining::{explained, more_of};
 use crate::prepared::{Prepared, prepare};
 use crate::status::{refusal_status, status_of, write_refusal, write_said};
 use mpx_num::{Listing, Ops};
@@ -118,7 +118,7 @@ fn answer<W: Write, E: Write>(
 ) -> Exit
     requires read { reading (⟦<Ops as Listing>⟧.operations ops.now) prepared.now.text.items ≡ Ok prepared.now.script }
     requires strict { IsStrict (⟦<Ops as Listing>⟧.operations ops.now) call.now prepared.now.text.items prepared.now.complains }
-    requires found { IsFound (⟦<Ops as Listing>⟧.operations ops.now) call.now.job.command prepared.now.script prepared.now.found }
+    requires found { call.now.flags.explain ≡ true → IsFound (⟦<Ops as Listing>⟧.operations ops.now) call.now.job.command prepared.now.script prepared.now.found }
     requires comes { IfOk printed (λ p. ComesTo IsFounded (⟦<Ops as Listing>⟧.operations ops.now) call.now.job.command call.now.job.options prepared.now.script p.end (string_bytes p.text)) }
     requires refused { IfErr printed (λ e. IsRefusedFor call.now.job prepared.now.script e) }
     ensures { AnswersText IsFounded (⟦<Ops as Listing>⟧.operations ops.now) call.now prepared.now.text.items (W.contents out.old) (W.contents out.new) result.status (Tells (E.contents err.old) (E.contents err.new) result.told) }
@@ -127,13 +127,13 @@ fn answer<W: Write, E: Write>(
         Ok(printed) => {
             let Printed { text, end, left } = printed;
             let answer = write_printed(text.as_bytes(), end, out);
-            let more = explained(alloc, call, prepared, &answer, Some(&left));
-            exit_of(&answer, prepared.complains, call.flags.explain, &more, err)
+            let told = explained(alloc, call, prepared, &answer, &left);
+            let explains = call.flags.explain;
+            exit_of(&answer, prepared.complains, explains, more_of(&told), err)
         }
         Err(error) => {
             let answer = Err(error);
-            let more = explained(alloc, call, prepared, &answer, None);
-            exit_of(&answer, prepared.complains, call.flags.explain, &more, err)
+            exit_of(&answer, prepared.complains, call.flags.explain, &[], err)
         }
     }
 }

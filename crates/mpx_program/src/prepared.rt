@@ -1,5 +1,5 @@
 //! A call's script, which is read once, and examined once at most.
-ghost use Rattle.std.specs.Prelude.{◌≡◌, Err, IfErr, IfOk, Ok, Option, List, ℕ};
+ghost use Rattle.std.specs.Prelude.{◌≡◌, Err, IfErr, IfOk, Ok, Option, List, ℕ, true};
 ghost use Rattle.mpx_script.specs.Reading.{reading};
 ghost use Rattle.mpx_run.specs.Founded.{IsFounded};
 ghost use Rattle.mpx_run.specs.Texts.{PrintsUngated};
@@ -42,7 +42,7 @@ pub(crate) fn prepare<R: Read>(
     ops: &Ops,
 ) -> Result<Prepared, Failed>
     ensures ok { IfOk result (λ p. IsPrepared (⟦<Ops as Listing>⟧.operations ops.now) call.now (R.remaining reader.old) (R.remaining reader.new) p.text.items p.script p.complains) }
-    ensures found { IfOk result (λ p. IsFound (⟦<Ops as Listing>⟧.operations ops.now) call.now.job.command p.script p.found) }
+    ensures found { IfOk result (λ p. call.now.flags.explain ≡ true → IsFound (⟦<Ops as Listing>⟧.operations ops.now) call.now.job.command p.script p.found) }
     ensures err { IfErr result (λ f. FailsBefore (⟦<Ops as Listing>⟧.operations ops.now) call.now.job (R.remaining reader.old) (R.remaining reader.new) f.error) }
 {
     match read_bytes(alloc, reader) {
@@ -87,7 +87,7 @@ fn with_script(
 ) -> Result<WithScript, Failed>
     ensures read { IfOk result (λ w. reading (⟦<Ops as Listing>⟧.operations ops.now) text.now ≡ Ok w.script) }
     ensures strict { IfOk result (λ w. IsStrict (⟦<Ops as Listing>⟧.operations ops.now) call.now text.now w.examined.complains) }
-    ensures found { IfOk result (λ w. IsFound (⟦<Ops as Listing>⟧.operations ops.now) call.now.job.command w.script w.examined.found) }
+    ensures found { IfOk result (λ w. call.now.flags.explain ≡ true → IsFound (⟦<Ops as Listing>⟧.operations ops.now) call.now.job.command w.script w.examined.found) }
     ensures err { IfErr result (λ f. (old : Option (List ℕ)) → PrintsUngated IsFounded (⟦<Ops as Listing>⟧.operations ops.now) call.now.job text.now old old (Err f.error)) }
 {
     match read_script(alloc, text, ops) {

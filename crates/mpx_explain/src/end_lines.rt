@@ -1,0 +1,189 @@
+//! The lines that tell where ranks wait at the end of a run.
+ghost use Rattle.std.specs.Prelude.{◌≡◌, ◌++◌, OnOk, map};
+ghost use Rattle.std.specs.Fmt.{decimal};
+ghost use Rattle.std.specs.List.{flat_map};
+ghost use Rattle.mpx_eval.specs.Found.{missing_view, waiting_view};
+ghost use Rattle.mpx_waiting.specs.ToldLines.{place_of};
+ghost use Rattle.mpx_explain.specs.RunEnds.{IsRunTold, earlier_text, earlier_view, first_text, line_words, number_words, run_text, served_text};
+
+use crate::ended::EndedRun;
+use crate::ends::{EarlierCall, RunEnd, run_end};
+use join_core::OutOfMemory;
+use mpx_eval::{MissingCall, WaitingRank};
+use mpx_script::{statement_lines, words_of_line};
+use mpx_waiting::{line_at, places_of, push_members, push_start, push_waiting};
+use std::alloc::Global;
+
+/// Adds where ranks wait at the end of a run: a line for each call of which a rank's board lacks posts, at most a hundred; one for each earlier
+/// call that comes first; and one for each rank whose board lacks no post. An `Err` is want of memory, and leaves the lines so far.
+pub fn explain_run(
+    alloc: Global,
+    text: &[u8],
+    run: &EndedRun<'_>,
+    told: &mut Vec<u8>,
+) -> Result<(), OutOfMemory>
+    ensures { OnOk result (IsRunTold text.now run.now told.old.items told.new.items) }
+{
+    let end = run_end(alloc, run)?;
+    let pushed = push_end(alloc, text, run, &end, told);
+    drop(end);
+    pushed
+}
+
+// Adds the lines of what was found.
+fn push_end(
+    alloc: Global,
+    text: &[u8],
+    run: &EndedRun<'_>,
+    end: &RunEnd,
+    told: &mut Vec<u8>,
+) -> Result<(), OutOfMemory>
+    ensures { OnOk result (told.new.items ≡ told.old.items ++ run_text text.now run.now end.now) }
+{
+    let waiting = end.waiting.as_slice();
+    push_waiting(alloc, text, run.script, waiting, told)?;
+    push_earlier(alloc, text, end.earlier.as_slice(), waiting, told)?;
+    push_served(alloc, text, end.served.as_slice(), told)
+}
+
+// Adds a line for each of these calls: an earlier one comes first, and whose posts of it the board lacks. The ranks that wait are these.
+fn push_earlier(
+    alloc: Global,
+    text: &[u8],
+    earlier: &[EarlierCall],
+    waiting: &[WaitingRank],
+    told: &mut Vec<u8>,
+) -> Result<(), OutOfMemory>
+    ensures { OnOk result (told.new.items ≡ told.old.items ++ flat_map (earlier_text text.now (map (place_of text.now) (map waiting_view waiting.now))) (map (earlier_view text.now) earlier.now)) }
+{
+    let places = places_of(alloc, text, waiting)?;
+    let pushed = push_lines(alloc, text, places.as_slice(), earlier, told);
+    drop(places);
+    pushed
+}
+
+fn push_lines(
+    alloc: Global,
+    text: &[u8],
+    places: &[(u8, u32)],
+    earlier: &[EarlierCall],
+    told: &mut Vec<u8>,
+) -> Result<(), OutOfMemory>
+    ensures { OnOk result (told.new.items ≡ told.old.items ++ flat_map (earlier_text text.now places.now) (map (earlier_view text.now) earlier.now)) }
+{
+    for one in earlier {
+        push_line(alloc, text, places, one, told)?;
+    }
+    Ok(())
+}
+
+fn push_line(
+    alloc: Global,
+    text: &[u8],
+    places: &[(u8, u32)],
+    one: &EarlierCall,
+    told: &mut Vec<u8>,
+) -> Result<(), OutOfMemory>
+    ensures { OnOk result (told.new.items ≡ told.old.items ++ earlier_text text.now places.now (earlier_view text.now one.now)) }
+{
+    let numbers = statement_lines(alloc, text, one.rank)?;
+    let line = line_at(numbers.as_slice(), one.statement);
+    let made = line_at(numbers.as_slice(), one.made);
+    push_where(alloc, text, places, one.rank, line, made, &one.call, told)
+}
+
+// Adds a rank at a line, and the call that comes first.
+fn push_where(
+    alloc: Global,
+    text: &[u8],
+    places: &[(u8, u32)],
+    rank: u8,
+    line: u32,
+    made: u32,
+    call: &MissingCall,
+    told: &mut Vec<u8>,
+) -> Result<(), OutOfMemory>
+    ensures { OnOk result (told.new.items ≡ told.old.items ++ earlier_text text.now places.now (record { rank = rank; line = line; made = made; call = missing_view call.now })) }
+{
+    push_start(alloc, rank, line, told)?;
+    push_first(alloc, text, places, made, call, told)
+}
+
+// Adds the call of the statement that stands in a line, and whose posts of it are lacking.
+fn push_first(
+    alloc: Global,
+    text: &[u8],
+    places: &[(u8, u32)],
+    made: u32,
+    call: &MissingCall,
+    told: &mut Vec<u8>,
+) -> Result<(), OutOfMemory>
+    ensures { OnOk result (told.new.items ≡ told.old.items ++ first_text text.now places.now made (missing_view call.now)) }
+{
+    told.extend_from_slice(b"first comes ")?;
+    push_words(text, made, told)?;
+    push_number(alloc, made, call.call, told)?;
+    push_members(alloc, places, call.missing.as_slice(), told)?;
+    told.extend_from_slice(b"\n")?;
+    Ok(())
+}
+
+// Adds the second and the third word of a line.
+fn push_words(text: &[u8], line: u32, told: &mut Vec<u8>) -> Result<(), OutOfMemory>
+    ensures { OnOk result (told.new.items ≡ told.old.items ++ line_words text.now line) }
+{
+    let (second, third) = words_of_line(text, line);
+    told.extend_from_slice(second.unwrap_or(&[]))?;
+    told.extend_from_slice(b" ")?;
+    told.extend_from_slice(third.unwrap_or(&[]))?;
+    Ok(())
+}
+
+// Adds the line and the number of a call.
+fn push_number(alloc: Global, line: u32, call: u32, told: &mut Vec<u8>) -> Result<(), OutOfMemory>
+    ensures { OnOk result (told.new.items ≡ told.old.items ++ number_words line call) }
+{
+    told.extend_from_slice(b" of line ")?;
+    push_decimal(alloc, told, line)?;
+    told.extend_from_slice(b", call ")?;
+    push_decimal(alloc, told, call)?;
+    told.extend_from_slice(b": no post of ")?;
+    Ok(())
+}
+
+fn push_decimal(alloc: Global, told: &mut Vec<u8>, number: u32) -> Result<(), OutOfMemory>
+    ensures { OnOk result (told.new.items ≡ told.old.items ++ decimal number) }
+{
+    let digits = format!(in alloc; "{number}")?;
+    told.extend_from_slice(digits.as_bytes())?;
+    Ok(())
+}
+
+// Adds a line for each of these ranks and the places of their statements: the board lacks no post.
+fn push_served(
+    alloc: Global,
+    text: &[u8],
+    served: &[(u8, usize)],
+    told: &mut Vec<u8>,
+) -> Result<(), OutOfMemory>
+    ensures { OnOk result (told.new.items ≡ told.old.items ++ flat_map (served_text text.now) served.now) }
+{
+    for place in served {
+        push_served_rank(alloc, text, *place, told)?;
+    }
+    Ok(())
+}
+
+fn push_served_rank(
+    alloc: Global,
+    text: &[u8],
+    place: (u8, usize),
+    told: &mut Vec<u8>,
+) -> Result<(), OutOfMemory>
+    ensures { OnOk result (told.new.items ≡ told.old.items ++ served_text text.now place) }
+{
+    let numbers = statement_lines(alloc, text, place.0)?;
+    push_start(alloc, place.0, line_at(numbers.as_slice(), place.1), told)?;
+    told.extend_from_slice(b"all posts have come, and the run ended before it went on\n")?;
+    Ok(())
+}
