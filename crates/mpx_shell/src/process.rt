@@ -1,12 +1,15 @@
 //! What a program's `main` calls: the words of its process, and what it exits with.
-ghost use Rattle.std.specs.Prelude.{◌≡◌, IfErr, IfOk, IsOkAnd, OnErr, map, string_bytes};
+ghost use Rattle.std.specs.Prelude.{◌≡◌, ◌&&◌, ◌⊎◌, IfErr, IfOk, IsOkAnd, OnErr, false, map, not, string_bytes};
 ghost use Rattle.std.specs.Vec.Iter.{into_iter_items};
 ghost use Rattle.std.specs.Process.{exit_status};
 ghost use Rattle.clap.specs.Words.{kind_of};
+ghost use Rattle.clap.specs.declared.error.kind.ErrorKind.TheVariants.{InvalidValue, OutOfMemory};
 ghost use Rattle.mpx_run.specs.Founded.{IsFounded};
 ghost use Rattle.mpx_run.specs.Reports.{IsPrinted};
 ghost use Rattle.mpx_program.specs.Jobs.{IsRefused};
+ghost use Rattle.mpx_words.specs.Words.{flags_behind};
 ghost use Rattle.mpx_shell.specs.Answers.{Answers, EndsBy};
+ghost use Rattle.mpx_shell.specs.Showing.{shown_on, shows_lines, shows_rows};
 
 use crate::answering::answer_words;
 use crate::seen::Seen;
@@ -22,13 +25,18 @@ use std::time::Clock;
 use std::{env, io};
 
 /// The words that the process was called with. No contract of std says what `env::args` gives: what is made of it says [`handed_on`].
-pub fn words_of(rt: &HostRuntime) -> Result<Vec<String>, clap::Error> {
+///
+/// A refusal is for a word that is no text, or for want of memory.
+pub fn words_of(rt: &HostRuntime) -> Result<Vec<String>, clap::Error>
+    ensures { IfErr result (λ why. (kind_of why ≡ InvalidValue) ⊎ (kind_of why ≡ OutOfMemory)) }
+{
     handed_on(rt.alloc(), env::args(rt))
 }
 
 // All of these words in their order, where there are words and memory for them.
 fn handed_on(alloc: Global, args: io::Result<env::Args>) -> Result<Vec<String>, clap::Error>
-    ensures { IfOk result (λ words. IsOkAnd args (λ args. words.items ≡ into_iter_items args)) }
+    ensures words { IfOk result (λ words. IsOkAnd args (λ args. words.items ≡ into_iter_items args)) }
+    ensures refused { IfErr result (λ why. (kind_of why ≡ InvalidValue) ⊎ (kind_of why ≡ OutOfMemory)) }
 {
     match args {
         Ok(args) => Ok(in_order(alloc, args)?),
@@ -47,13 +55,18 @@ fn in_order(alloc: Global, args: env::Args) -> Result<Vec<String>, AllocError>
     Ok(words)
 }
 
-/// Who looks on, by what these words ask for.
+/// Who looks on, by what these words ask for; where there are no words, how far a run is.
 pub fn seen_by<'a, C: Clock, S: Write + IsTerminal>(
     words: &Result<Vec<String>, clap::Error>,
     alloc: Global,
     clock: &'a C,
     out: S,
-) -> Seen<'a, C, S> {
+) -> Seen<'a, C, S>
+    ensures trace { IfOk words.now (λ words. shows_lines result ≡ (flags_behind (map string_bytes words.items)).trace) }
+    ensures table { IfOk words.now (λ words. shows_rows result ≡ (not (flags_behind (map string_bytes words.items)).trace && (flags_behind (map string_bytes words.items)).table)) }
+    ensures far { OnErr words.now ((shows_lines result ≡ false) × (shows_rows result ≡ false)) }
+    ensures on { shown_on result ≡ out }
+{
     match words {
         Ok(words) => Seen::of(words, alloc, clock, out),
         Err(_) => Seen::of(&[], alloc, clock, out),

@@ -33,7 +33,9 @@ impl<'a, C: Clock, S: Write + IsTerminal> HowFar<'a, C, S> {
     }
 
     /// Gives the writer back.
-    pub(crate) fn into_writer(self) -> S {
+    pub(crate) fn into_writer(self) -> S
+        ensures { result ≡ self.entry.out }
+    {
         self.out
     }
 

@@ -38,8 +38,10 @@ impl<'a, C: Clock, S: Write + IsTerminal> Seen<'a, C, S> {
         }
     }
 
-    /// Gives the writer back.
-    pub fn into_writer(self) -> S {
+    /// Gives the writer back: that which it is shown on, as it is then.
+    pub fn into_writer(self) -> S
+        ensures { result ≡ shown_on self.entry }
+    {
         match self {
             Seen::Lines(trace) => trace.into_writer(),
             Seen::Rows(table) => table.into_writer(),

@@ -1,6 +1,6 @@
 //! The program's commands and options, as clap explains them.
-ghost use Rattle.std.specs.Prelude.{◌≡◌, [], ◌∷◌, IfOk, IsOkAnd, Some, codes, false, true};
-ghost use Rattle.clap.specs.Words.{AddsArg, AddsSubcommand, app_of, new_rule, rule_of, shape_of};
+ghost use Rattle.std.specs.Prelude.{◌≡◌, [], ◌∷◌, ◌++◌, IfOk, IsOkAnd, Some, codes, false, true};
+ghost use Rattle.clap.specs.Words.{AddsArg, AddsSubcommand, Shape, app_of, new_rule, rule_of, shape_of};
 ghost use Rattle.clap.specs.declared.builder.command.Command.TheViews.{out-Command as fields_of};
 ghost use Rattle.clap.specs.Simple.{new_shape};
 ghost use Rattle.mpx_words.specs.Usage.{bare_usage, common, flag, plain, run, run_draws, run_flags, usage, valued};
@@ -12,11 +12,8 @@ pub(crate) fn program<'a>(alloc: Global) -> Result<Command<'a>, AllocError>
     ensures { IfOk result (λ c. app_of c ≡ usage) }
 {
     with_command(
-        with_command(
-            with_command(bare_program(alloc), run(alloc)),
-            plain(alloc, "eval", EVAL, STRICT, EXPLAIN),
-        ),
-        plain(alloc, "check", CHECK, CERTAIN, EXPLAIN_CHECK),
+        with_command(with_command(bare_program(alloc), run(alloc)), eval(alloc)),
+        check(alloc),
     )
 }
 
@@ -67,16 +64,42 @@ fn with_option<'a>(
     }
 }
 
+// A command with one flag more, where it could be made.
+fn with_flag<'a>(
+    alloc: Global,
+    made: Result<Command<'a>, AllocError>,
+    name: &'a str,
+    help: &'a str,
+) -> Result<Command<'a>, AllocError>
+    ensures shape { (s : Shape) → IfOk made.entry (λ m. shape_of m ≡ s) → IfOk result (λ c. shape_of c ≡ record s { rules = s.rules ++ flag name.entry.now ∷ [] }) }
+    ensures local { IfOk made.entry (λ m. (fields_of m).has_globals ≡ false) → IfOk result (λ c. (fields_of c).has_globals ≡ false) }
+{
+    with_option(made, flag(alloc, name, help))
+}
+
+// A command with one more option that is followed by a value, where it could be made.
+fn with_valued<'a>(
+    alloc: Global,
+    made: Result<Command<'a>, AllocError>,
+    name: &'a str,
+    help: &'a str,
+) -> Result<Command<'a>, AllocError>
+    ensures shape { (s : Shape) → IfOk made.entry (λ m. shape_of m ≡ s) → IfOk result (λ c. shape_of c ≡ record s { rules = s.rules ++ valued name.entry.now ∷ [] }) }
+    ensures local { IfOk made.entry (λ m. (fields_of m).has_globals ≡ false) → IfOk result (λ c. (fields_of c).has_globals ≡ false) }
+{
+    with_option(made, option(alloc, name, help))
+}
+
 /// The command of that name by itself, for its usage; the whole program, where there is none.
 pub(crate) fn named<'a>(alloc: Global, name: &[u8]) -> Result<Command<'a>, AllocError> {
     if name == b"run".as_slice() {
         return run(alloc)?.bin_name("gossipmpi run");
     }
     if name == b"eval".as_slice() {
-        return plain(alloc, "eval", EVAL, STRICT, EXPLAIN)?.bin_name("gossipmpi eval");
+        return eval(alloc)?.bin_name("gossipmpi eval");
     }
     if name == b"check".as_slice() {
-        return plain(alloc, "check", CHECK, CERTAIN, EXPLAIN_CHECK)?.bin_name("gossipmpi check");
+        return check(alloc)?.bin_name("gossipmpi check");
     }
     program(alloc)
 }
@@ -103,9 +126,17 @@ fn run<'a>(alloc: Global) -> Result<Command<'a>, AllocError>
     ensures shape { IfOk result (λ c. shape_of c ≡ run) }
     ensures local { IfOk result (λ c. (fields_of c).has_globals ≡ false) }
 {
-    let relays = with_option(with_draws(alloc), option(alloc, "relays", RELAYS));
-    let turns = with_option(relays, option(alloc, "turns", TURNS));
-    with_option(turns, option(alloc, "workers", WORKERS))
+    with_valued(
+        alloc,
+        with_valued(
+            alloc,
+            with_valued(alloc, with_draws(alloc), "relays", RELAYS),
+            "turns",
+            TURNS,
+        ),
+        "workers",
+        WORKERS,
+    )
 }
 
 // `run` with its flags, and with what it draws from.
@@ -113,8 +144,12 @@ fn with_draws<'a>(alloc: Global) -> Result<Command<'a>, AllocError>
     ensures shape { IfOk result (λ c. shape_of c ≡ record (new_shape (codes "run")) { rules = run_draws }) }
     ensures local { IfOk result (λ c. (fields_of c).has_globals ≡ false) }
 {
-    let seed = with_option(with_run_flags(alloc), option(alloc, "seed", SEED));
-    with_option(seed, option(alloc, "loss", LOSS))
+    with_valued(
+        alloc,
+        with_valued(alloc, with_run_flags(alloc), "seed", SEED),
+        "loss",
+        LOSS,
+    )
 }
 
 // `run` without the options that are followed by a number.
@@ -122,9 +157,17 @@ fn with_run_flags<'a>(alloc: Global) -> Result<Command<'a>, AllocError>
     ensures shape { IfOk result (λ c. shape_of c ≡ record (new_shape (codes "run")) { rules = run_flags }) }
     ensures local { IfOk result (λ c. (fields_of c).has_globals ≡ false) }
 {
-    let trace = with_option(helped_run(alloc), flag(alloc, "trace", TRACE));
-    let table = with_option(trace, flag(alloc, "table", TABLE));
-    with_option(table, flag(alloc, "threads", THREADS))
+    with_flag(
+        alloc,
+        with_flag(
+            alloc,
+            with_flag(alloc, helped_run(alloc), "trace", TRACE),
+            "table",
+            TABLE,
+        ),
+        "threads",
+        THREADS,
+    )
 }
 
 // `run` with the options of each command alone, and with what its help says behind these.
@@ -143,6 +186,20 @@ const RUN: &str =
 
 const BEHIND_HELP: &str =
     "An option that has a number is followed by it: --seed 7, or --seed=7. The script says how many ranks there are.";
+
+fn eval<'a>(alloc: Global) -> Result<Command<'a>, AllocError>
+    ensures shape { IfOk result (λ c. shape_of c ≡ plain (codes "eval")) }
+    ensures local { IfOk result (λ c. (fields_of c).has_globals ≡ false) }
+{
+    plain(alloc, "eval", EVAL, STRICT, EXPLAIN)
+}
+
+fn check<'a>(alloc: Global) -> Result<Command<'a>, AllocError>
+    ensures shape { IfOk result (λ c. shape_of c ≡ plain (codes "check")) }
+    ensures local { IfOk result (λ c. (fields_of c).has_globals ≡ false) }
+{
+    plain(alloc, "check", CHECK, CERTAIN, EXPLAIN_CHECK)
+}
 
 // A command that has no options but those of each command.
 fn plain<'a>(

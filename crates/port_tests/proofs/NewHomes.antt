@@ -1,6 +1,6 @@
 -- The ports of a new bus are at home there.
-use Rattle.std.proofs.Common.{◌≡◌, ℕ, List, All, get_or, sym, ap}
-use Rattle.std.proofs.lemmas.Option.{slice_get-get_or}
+use Rattle.std.proofs.Common.{◌≡◌, ℕ, List, All, Some, get_or, slice_get, sym, ap, subst}
+use Rattle.std.proofs.lemmas.Option.{get_or_from_slice_get, slice_get-get_or, slice_get_within}
 use Rattle.mpx_bus.specs.declared.act.Setup.{Setup}
 use Rattle.mpx_bus.specs.declared.port.Bus.{Bus}
 use Rattle.mpx_bus.specs.Ports.{PortView, IsFleet}
@@ -16,3 +16,7 @@ at_home bus ranks ports fleet k d lt =
       plan = ap (λ (s : Setup). s.planned) new.setup_is;
       list = sym (ap (λ (s : Setup). s.operations) new.setup_is);
     }
+
+-- what is so of all is so of the one at a place
+pub home_at : (bus : Bus) (ranks : ℕ) (ports : List PortView) → All (IsHome bus ranks) ports → (i : ℕ) (b : PortView) → slice_get ports i ≡ Some b → IsHome bus ranks b
+home_at bus ranks ports all i b there = subst (IsHome bus ranks) (get_or_from_slice_get ports i b b there) (all i b (slice_get_within ports i b there))

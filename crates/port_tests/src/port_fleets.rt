@@ -5,7 +5,7 @@ ghost use Rattle.mpx_bus.specs.Ports.{IsSamePort};
 ghost use Rattle.mpx_bus.specs.Buses.{table_of};
 ghost use Rattle.port_tests.specs.Homes.{IsHome};
 
-use crate::ports::{Act, LIMIT, does, harvests};
+use crate::ports::{Act, LIMIT, does, harvests, sum_at};
 use join_core::OutOfMemory;
 use mpx_bus::{Bus, Port};
 use mpx_num::{Listing, Ops};
@@ -165,4 +165,57 @@ pub fn both_finish<R: Threads + Wait + Sync>(
     let both = last_two_meet(rt, alloc, &bus, ranks, ports, turns, ops);
     drop(bus);
     if did? { Ok(both) } else { Ok(None) }
+}
+
+// Whether ports that meet leave a node each, which has the first sum of all, and that is this.
+fn meet_with_sum(
+    alloc: Global,
+    bus: &Bus,
+    ranks: u8,
+    first: Port,
+    others: Vec<Port>,
+    sum: i128,
+) -> Result<bool, OutOfMemory>
+    requires first { IsHome bus.now ranks first }
+    requires others { All (IsHome bus.now ranks) others.items }
+{
+    let nodes = bus.meet_all::<Brand>(alloc, first, others)?;
+    let mut all = nodes.len() == ranks as usize;
+    for node in nodes.as_slice() {
+        all = sum_at(alloc, node, 0) == Some(sum) && all;
+    }
+    Ok(all)
+}
+
+// The same of all these ports, the last one first.
+fn all_meet_with_sum(
+    alloc: Global,
+    bus: &Bus,
+    ranks: u8,
+    mut ports: Vec<Port>,
+    sum: i128,
+) -> Result<bool, OutOfMemory>
+    requires { All (IsHome bus.now ranks) ports.items }
+{
+    let Some(first) = ports.pop() else {
+        return Ok(false);
+    };
+    meet_with_sum(alloc, bus, ranks, first, ports, sum)
+}
+
+/// Whether eight ports of a new bus do all that, and then meet, each with this sum of all.
+pub fn all_meet<R: Wait>(
+    rt: &R,
+    alloc: Global,
+    acts: &[(u32, Act)],
+    sum: i128,
+    ops: &Ops,
+) -> Result<bool, Fail>
+    requires list { ⟦<Ops as Listing>⟧.operations ops.now ≡ [] }
+{
+    let (bus, mut ports) = Bus::new::<Brand>(alloc, 256, 8, 8)?;
+    let did = go_on(rt, alloc, &bus, 8, ports.as_mut_slice(), acts, ops);
+    let met = all_meet_with_sum(alloc, &bus, 8, ports, sum);
+    drop(bus);
+    Ok(did? && met?)
 }

@@ -1,5 +1,6 @@
 //! What ports and shared ports come to.
-use crate::port_fleets::{Fleet, both_finish};
+use crate::let_go::is_told_as_let_go;
+use crate::port_fleets::{Fleet, all_meet, both_finish};
 use crate::ports::Act;
 use crate::shared_pairs::meet;
 use mpx_num::Ops;
@@ -62,5 +63,19 @@ fn two_ports_meet_with_what_both_finished(rt: HostRuntime) -> Result<(), Fail> {
 fn two_shared_ports_have_one_sum(rt: HostRuntime) -> Result<(), Fail> {
     let ops = Ops::none(rt.alloc());
     assert!(rt; meet(&rt, rt.alloc(), &ops)?);
+    Ok(())
+}
+
+#[test]
+fn eight_ports_meet_with_one_sum(rt: HostRuntime) -> Result<(), Fail> {
+    let ops = Ops::none(rt.alloc());
+    assert!(rt; all_meet(&rt, rt.alloc(), SUM_OF_EIGHT, 28, &ops)?);
+    Ok(())
+}
+
+#[test]
+fn result_let_go_between_two_locks_is_told_so(rt: HostRuntime) -> Result<(), Fail> {
+    let ops = Ops::none(rt.alloc());
+    assert!(rt; is_told_as_let_go(&rt, rt.alloc(), &ops)?);
     Ok(())
 }

@@ -1,7 +1,7 @@
 //! Desks: requests that are tested, the own post, posts before a birth, deltas, and frames that no process sent.
 ghost use Rattle.std.specs.Prelude.{◌<◌, ◌≤◌};
 
-use crate::boards::{give, swap};
+use crate::boards::{By, give, swap};
 use crate::desks::{Act, Member, Told, does};
 use crate::looks::Look;
 use join_core::OutOfMemory;
@@ -23,9 +23,9 @@ enum Row {
     Right(Act),
     // Each takes the other's board.
     Swap,
-    // The other one takes all boards of the one's deltas, of which so many have the first post of process 0.
-    ToRight(usize),
-    ToLeft(usize),
+    // The other one takes all boards or frames of the one's deltas, of which so many have the first post of process 0.
+    ToRight(By, usize),
+    ToLeft(By, usize),
 }
 
 const NOT_MEMBER: Act = Act::MayNot(PostError::NotMember);
@@ -101,10 +101,21 @@ const EARLY: &[Row] = &[
 // A post that both have is in no delta any more, and stays on the board.
 const DELTAS: &[Row] = &[
     Row::Left(Act::Calls(kinds::BARRIER)),
-    Row::ToRight(1),
-    Row::ToLeft(0),
-    Row::ToRight(0),
-    Row::ToLeft(0),
+    Row::ToRight(By::Boards, 1),
+    Row::ToLeft(By::Boards, 0),
+    Row::ToRight(By::Boards, 0),
+    Row::ToLeft(By::Boards, 0),
+    Row::Left(Act::Sees(WORLD, Look::Holds(0, 0))),
+];
+
+// Nor is it in a frame. Until the other one says that it has the post, each list of frames has it, be it made ahead or not.
+const FRAMES: &[Row] = &[
+    Row::Left(Act::Calls(kinds::BARRIER)),
+    Row::ToRight(By::FramesAhead, 1),
+    Row::ToRight(By::Frames, 1),
+    Row::Right(Act::Sees(WORLD, Look::Holds(0, 0))),
+    Row::ToLeft(By::Frames, 0),
+    Row::ToRight(By::FramesAhead, 0),
     Row::Left(Act::Sees(WORLD, Look::Holds(0, 0))),
 ];
 
@@ -182,6 +193,8 @@ const LET_GO: &[Row] = &[
     Row::Left(Act::TestsAll(Told::LetGo)),
     Row::Left(Act::WaitsAll(Told::LetGo)),
     Row::Left(Act::Starts(100)),
+    Row::Left(Act::TestsAll(Told::LetGo)),
+    Row::Left(Act::WaitsAll(Told::LetGo)),
     Row::Left(Act::WaitsAndForgets(2, Told::NotYet)),
     Row::Right(Act::Starts(200)),
     Row::Swap,
@@ -204,12 +217,13 @@ const LET_GO: &[Row] = &[
 ];
 
 // What the rows show, how many ranks there are, and the rows.
-const DESKS: [(&str, u8, &[Row]); 8] = [
+const DESKS: [(&str, u8, &[Row]); 9] = [
     ("tests close all or none", 2, TESTED),
     ("results have the own post", 2, OWN),
     ("results are let go", 2, LET_GO),
     ("posts come before a birth", 3, EARLY),
     ("what both acknowledge is not sent again", 2, DELTAS),
+    ("nor is it in frames", 2, FRAMES),
     ("another post", 2, OTHER_POST),
     ("another birth", 2, OTHER_BIRTH),
     ("a dead context", 2, DEAD_EARLY),
@@ -239,8 +253,8 @@ fn is_so(
         Row::Left(act) => does(alloc, left, act, ops),
         Row::Right(act) => does(alloc, right, act, ops),
         Row::Swap => Ok(swap(alloc, &mut left.desk, &mut right.desk)?),
-        Row::ToRight(posts) => Ok(give(alloc, &mut left.desk, &mut right.desk)? == posts),
-        Row::ToLeft(posts) => Ok(give(alloc, &mut right.desk, &mut left.desk)? == posts),
+        Row::ToRight(by, posts) => Ok(give(alloc, &mut left.desk, &mut right.desk, by)? == posts),
+        Row::ToLeft(by, posts) => Ok(give(alloc, &mut right.desk, &mut left.desk, by)? == posts),
     }
 }
 

@@ -3,4 +3,6 @@
 #![tactic(auto)]
 
 #[cfg(test)]
+mod had;
+#[cfg(test)]
 mod jobs;

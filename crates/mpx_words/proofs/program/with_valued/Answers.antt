@@ -1,0 +1,8 @@
+use Rattle.mpx_words.proofs.Commands.{has_rule_made, stays_local_made}
+use Rattle.mpx_words.proofs.program.with_valued.Goals as goal
+
+pub returns : goal.returns
+returns c = record {
+  shape = λ s is. has_rule_made c.args.made c.with_option.result _ s _ is c.option.ensures.local c.option.ensures.rule c.with_option.ensures;
+  local = λ is. stays_local_made c.args.made c.with_option.result _ is c.option.ensures.local c.with_option.ensures;
+}
