@@ -4,10 +4,13 @@
     bench/gate.py            runs `rt ci` at the top; the table comes behind its output, and then its last line once more
     bench/gate.py COMMAND..  another command in its place, as `rt must-fail mpx_fold`
 
-It looks once a second at what the command started, so that each process's last second is missed: three in a hundred. The exit status is the command's."""
+It starts as many checks at once as there are processors, where 5 GB are free for each: the toolchain's own plan counts some 8 for a large crate, where 4 is
+the most that was seen, and so leaves processors idle. `RT_JOBS` says another number. It looks once a second at what the command started, so that each
+process's last second is missed: three in a hundred. The exit status is the command's."""
 import collections
 import os
 import pathlib
+import re
 import subprocess
 import sys
 import threading
@@ -76,9 +79,16 @@ def watch(running, works, spent):
         time.sleep(1)
 
 
+def lanes():
+    """How many checks there may be at once."""
+    free = int(re.search(r"MemAvailable:\s+(\d+)", pathlib.Path("/proc/meminfo").read_text())[1])
+    return max(1, min(len(os.sched_getaffinity(0)), free // 5_000_000))
+
+
 def main(words):
     began = time.time()
-    running = subprocess.Popen(words or ["rt", "ci"], cwd=TOP, stdout=subprocess.PIPE, stderr=subprocess.STDOUT, stdin=subprocess.DEVNULL, universal_newlines=True, errors="replace")
+    said = {"RT_JOBS": str(lanes()), **os.environ}
+    running = subprocess.Popen(words or ["rt", "ci"], cwd=TOP, env=said, stdout=subprocess.PIPE, stderr=subprocess.STDOUT, stdin=subprocess.DEVNULL, universal_newlines=True, errors="replace")
     works, spent, last = {}, {}, ""
     watching = threading.Thread(target=watch, args=(running, works, spent))
     watching.start()

@@ -3,9 +3,9 @@
 
     bench/plan.py [--processors 4] [--memory 22] [--times 1.0] < TABLE
 
-The memory is what is free when the gate begins, in GB. `--times` multiplies the minutes, for a faster or slower machine. A task is simulated with the
-minutes of one processor, also where the toolchain would give it several: so the time is an upper bound. Running programs and tests, some two minutes,
-isn't in it. Crates that the table lacks count nothing, and are told."""
+The memory is what is free when the gate begins, in GB; 1000 shows the plan of bench/gate.py, which doesn't wait for memory. `--times` multiplies the
+minutes, for a faster or slower machine. A task is simulated with the minutes of one processor, also where the toolchain would give it several: so the
+time is an upper bound. Running programs and tests, some two minutes, isn't in it. Crates that the table lacks count nothing, and are told."""
 import argparse
 import re
 import sys
