@@ -7,7 +7,3 @@ returns-in-Ok-clause-had g c =
 pub returns-in-Ok-clause-stays : goal.returns-in-Ok-clause-stays
 returns-in-Ok-clause-stays g c =
     c.waits_keep_what_was_had.ensures.waits c.args.desk.now.host c.wait_and_forget.new.self.host c.args.request _ c.wait_and_forget.result c.args.desk.now.requests.keys c.wait_and_forget.new.self.requests.keys c.wait_and_forget.ensures.waits
-
-pub returns-in-Err-clause-stays : goal.returns-in-Err-clause-stays
-returns-in-Err-clause-stays g c =
-    c.waits_keep_what_was_had.ensures.waits c.args.desk.now.host c.wait_and_forget.new.self.host c.args.request _ c.wait_and_forget.result c.args.desk.now.requests.keys c.wait_and_forget.new.self.requests.keys c.wait_and_forget.ensures.waits
