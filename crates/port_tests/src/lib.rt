@@ -3,8 +3,6 @@
 #![tactic(auto)]
 
 #[cfg(test)]
-mod let_go;
-#[cfg(test)]
 mod port_fleets;
 #[cfg(test)]
 mod ports;
