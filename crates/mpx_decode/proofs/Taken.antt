@@ -1,10 +1,13 @@
 -- The parts of a board joined as they are read: the contexts, and then the acknowledgements.
-use Rattle.std.proofs.Common.{◌≡◌, ◌≢◌, ℕ, true, List, [], None, Result, Ok, Err, IfOk, OnErr, refl, sym, ap, ◌∙◌, subst}
+use Rattle.std.proofs.Common.{◌≡◌, ◌≢◌, ℕ, true, List, [], map, None, Result, Ok, Err, IfOk, OnErr, refl, sym, ap, ◌∙◌, subst}
+use Rattle.std.proofs.lemmas.Simd.{map-map}
 use Rattle.std.specs.declared.cmp.Ordering.{Ordering}
-use Rattle.std.specs.FinMap.{FinMap, from_sorted}
+use Rattle.std.specs.FinMap.{FinMap, entries, from_sorted, is_sorted}
 use Rattle.join_core.specs.Joins.{Joining, JoinLaws}
 use Rattle.join_nest.specs.Between.{keyed_between}
 use Rattle.join_nest.specs.Keyed.{keyed_joining}
+use Rattle.join_nest.specs.Seen.{keyed_view, seen}
+use Rattle.join_nest.proofs.Views.{entries_of}
 use Rattle.mpx_board.specs.Parts.{PartsView, parts_between, parts_joining}
 use Rattle.mpx_board.specs.Tidy.{is_tidy}
 use Rattle.mpx_board.proofs.Left.{tidy_left}
@@ -24,6 +27,20 @@ if_ok (Err e) P Q f h = tt
 pub if_err : {T E P Q : Type 0} (r : Result T E) → (P → Q) → OnErr r P → OnErr r Q
 if_err (Ok x) f h = tt
 if_err (Err e) f h = f h
+
+-- WHAT A MAP SAYS BY ANOTHER VIEW, which follows from the first
+
+module _ {K J V W : Type 0} (R : K → K → Ordering) (view : J → V) (other : J → W) (of : V → W) (is : (x : J) → other x ≡ of (view x)) where
+  seen_by_other : (es : List (K × J)) → seen other es ≡ map (λ (e : K × V). (e.0, of e.1)) (seen view es)
+  seen_by_other es =
+      let each : seen other es ≡ map (λ (e : K × J). (e.0, of (view e.1))) es = λ i. map (λ (e : K × J). (e.0, is e.1 i)) es in
+      each ∙ sym (map-map (λ (e : K × V). (e.0, of e.1)) (λ (e : K × J). (e.0, view e.1)) es)
+
+  -- maps that are alike by the one are alike by the other
+  pub alike_by_other : (a b : List (K × J)) → is_sorted R a ≡ true → is_sorted R b ≡ true → keyed_view R view a ≡ keyed_view R view b → keyed_view R other a ≡ keyed_view R other b
+  alike_by_other a b ha hb e =
+      let same : seen view a ≡ seen view b = sym (entries_of R view a ha) ∙ ap entries e ∙ entries_of R view b hb in
+      ap (λ (es : List (K × W)). from_sorted {R = R} es) (seen_by_other a ∙ ap (map (λ (e : K × V). (e.0, of e.1))) same ∙ sym (seen_by_other b))
 
 -- A MAP BEHIND ITS COUNT
 

@@ -22,7 +22,7 @@ use crate::big_endian::{read_u8, read_u32};
 use crate::entries::WireValue;
 use crate::fields::{read_some_byte, read_some_calls, read_some_names};
 use crate::join_numbers::raise_numbers;
-use crate::join_rows::{FrontKey, WireJoin, raise_entries};
+use crate::join_rows::{FrontKey, WireJoin, raise_map};
 use crate::process_numbers::front_row;
 use join_core::{Max, OutOfMemory};
 use join_nest::Keyed;
@@ -279,12 +279,7 @@ impl WireJoin for Acks {
     ) -> Result<&'a [u8], OutOfMemory> {
         match read_some_names(bytes) {
             Err(_) => unreachable!(),
-            Ok((count, rest)) => {
-                let mut entries = mem::replace(self, Keyed::new(source.alloc())).into_entries();
-                let raised = raise_entries(version, source, &mut entries, count as usize, rest);
-                *self = Keyed::from_rising(entries);
-                raised
-            }
+            Ok((count, rest)) => raise_map(version, source, self, count as usize, rest),
         }
     }
 

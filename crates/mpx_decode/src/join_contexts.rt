@@ -27,7 +27,7 @@ use crate::entries::WireValue;
 use crate::fields::{read_call, read_name_count, read_some_byte};
 use crate::front_posts::behind_told;
 use crate::join_births::raise_birth;
-use crate::join_rows::{WireJoin, raise_entries};
+use crate::join_rows::{WireJoin, raise_map};
 use join_core::{Flat, Join, OutOfMemory, Pair};
 use join_nest::{Keyed, Lift, Trunc};
 use mpx_birth::Birth;
@@ -36,7 +36,6 @@ use mpx_format::{ReadError, Version};
 use mpx_name::Name;
 use mpx_post::Post;
 use mpx_rope::Source;
-use std::mem;
 
 impl WireJoin for Flat<Post> {
     ghost View = { FlatView Given };
@@ -107,12 +106,7 @@ impl WireJoin for CallPosts {
     ) -> Result<&'a [u8], OutOfMemory> {
         match read_some_byte(bytes) {
             Err(_) => unreachable!(),
-            Ok((count, rest)) => {
-                let mut entries = mem::replace(self, Keyed::new(source.alloc())).into_entries();
-                let raised = raise_entries(version, source, &mut entries, count as usize, rest);
-                *self = Keyed::from_rising(entries);
-                raised
-            }
+            Ok((count, rest)) => raise_map(version, source, self, count as usize, rest),
         }
     }
 
@@ -228,12 +222,7 @@ fn raise_fronts<'a>(
 {
     match read_u8(bytes) {
         Err(_) => unreachable!(),
-        Ok((count, rest)) => {
-            let mut entries = mem::replace(fronts, Keyed::new(source.alloc())).into_entries();
-            let raised = raise_entries(version, source, &mut entries, count as usize, rest);
-            *fronts = Keyed::from_rising(entries);
-            raised
-        }
+        Ok((count, rest)) => raise_map(version, source, fronts, count as usize, rest),
     }
 }
 
@@ -367,11 +356,6 @@ pub fn raise_contexts<'a>(
 {
     match read_name_count(bytes) {
         Err(_) => unreachable!(),
-        Ok((count, rest)) => {
-            let mut entries = mem::replace(contexts, Keyed::new(source.alloc())).into_entries();
-            let raised = raise_entries(version, source, &mut entries, count as usize, rest);
-            *contexts = Keyed::from_rising(entries);
-            raised
-        }
+        Ok((count, rest)) => raise_map(version, source, contexts, count as usize, rest),
     }
 }

@@ -10,10 +10,11 @@ ghost use Rattle.mpx_format.specs.Format.{Format, Gives};
 ghost use Rattle.mpx_decode.specs.Raising.{IsChangedAt, JoinsFront, RaisesRow, StandsInFront, StopsBetween, StopsRow, row, rows};
 
 use crate::entries::WireKey;
-use join_core::{Key, OutOfMemory};
-use join_nest::place_of_key;
+use join_core::{Exact, Key, OutOfMemory};
+use join_nest::{Keyed, place_of_key};
 use mpx_format::{ReadError, Version};
 use mpx_rope::Source;
+use std::mem;
 
 /// A key that is known without being read.
 pub trait FrontKey: WireKey {
@@ -57,6 +58,29 @@ pub trait WireJoin: Drop {
     ghost laws: { JoinLaws joining };
 
     ghost between_laws: { BetweenLaws joining between };
+}
+
+// Joins so many entries at the front to those of the map. They are taken out of it, and put back whatever is answered. A `Keyed` tells what
+// `Exact` sees of its values: what is seen of them here has to follow from that.
+pub fn raise_map<'a, K: Key + FrontKey, J: WireJoin + Exact>(
+    version: Version,
+    source: Source<'_>,
+    map: &mut Keyed<K, J>,
+    count: usize,
+    bytes: &'a [u8],
+) -> Result<&'a [u8], OutOfMemory>
+    requires follows { (of : J.Exact.View → J.WireJoin.View) × ((x : J) → J.WireJoin.view x ≡ of (J.Exact.view x)) }
+    requires spelled { StandsInFront (rows K.cmp K.format (J.wire version) count) bytes.now }
+    ensures ok { IfOk result (λ rest. JoinsFront (rows K.cmp K.format (J.wire version) count) (keyed_joining J.WireJoin.joining) bytes.now rest.now
+        (keyed_view K.cmp J.WireJoin.view map.old.entries.items) (keyed_view K.cmp J.WireJoin.view map.new.entries.items)) }
+    ensures err { OnErr result (StopsBetween (rows K.cmp K.format (J.wire version) count) (keyed_between J.WireJoin.between) bytes.now
+        (keyed_view K.cmp J.WireJoin.view map.old.entries.items) (keyed_view K.cmp J.WireJoin.view map.new.entries.items)) }
+    ensures some { OnErr result (0 < count) }
+{
+    let mut entries = mem::replace(map, Keyed::new(source.alloc())).into_entries();
+    let raised = raise_entries(version, source, &mut entries, count, bytes);
+    *map = Keyed::from_rising(entries);
+    raised
 }
 
 // Joins so many entries at the front, one after the other. Where the taker has the same keys, each is found at once.

@@ -1,16 +1,18 @@
-use Rattle.std.proofs.Common.{ap, sym, ◌∙◌}
+use Rattle.std.proofs.Common.{refl}
 use Rattle.std.specs.Ordering.{nat_cmp}
 use Rattle.join_core.specs.Joins.{old_or_joined}
 use Rattle.join_core.specs.Max.{max_joining}
-use Rattle.mpx_board.specs.Views.{view_of_numbers}
 use Rattle.mpx_format.specs.Fields.{fronts, process, some_calls}
 use Rattle.mpx_format.specs.Format.{byte}
 use Rattle.mpx_decode.proofs.Taken.{count_stands, map_raised, map_stops, rows_stand}
 use Rattle.mpx_decode.proofs.join_contexts.raise_fronts.Goals as goal
 
-pub raise_entries-raised-requires-clause-spelled : goal.raise_entries-raised-requires-clause-spelled
+pub raise_map-requires-clause-follows : goal.raise_map-requires-clause-follows
+raise_map-requires-clause-follows c = (λ v. v, λ x. refl)
+
+pub raise_map-requires-clause-spelled : goal.raise_map-requires-clause-spelled
 unfolding fronts
-raise_entries-raised-requires-clause-spelled c = rows_stand nat_cmp byte process some_calls c.args.bytes.now c.in-Ok.count c.in-Ok.rest.now c.in-Ok.ensures.gives c.requires
+raise_map-requires-clause-spelled c = rows_stand nat_cmp byte process some_calls c.args.bytes.now c.in-Ok.count c.in-Ok.rest.now c.in-Ok.ensures.gives c.requires
 
 pub unreachable-requires : goal.unreachable-requires
 unfolding fronts
@@ -19,11 +21,9 @@ unreachable-requires c = count_stands nat_cmp byte process some_calls c.args.byt
 pub returns-clause-ok : goal.returns-clause-ok
 unfolding fronts
 returns-clause-ok c =
-    let was = ap (λ m. view_of_numbers m) (sym c.replace.ensures.value) ∙ c.into_entries-entries.ensures.entries in
-    map_raised nat_cmp byte process some_calls c.args.bytes.now c.in-Ok.count c.in-Ok.rest.now c.in-Ok.ensures.gives c.raise_entries-raised.result (λ x. x.now) _ _ _ _ was c.from_rising.ensures max_joining c.raise_entries-raised.ensures.ok
+    map_raised nat_cmp byte process some_calls c.args.bytes.now c.in-Ok.count c.in-Ok.rest.now c.in-Ok.ensures.gives c.raise_map.result (λ x. x.now) _ _ _ _ refl refl max_joining c.raise_map.ensures.ok
 
 pub returns-clause-err : goal.returns-clause-err
 unfolding fronts
 returns-clause-err c =
-    let was = ap (λ m. view_of_numbers m) (sym c.replace.ensures.value) ∙ c.into_entries-entries.ensures.entries in
-    map_stops nat_cmp byte process some_calls c.args.bytes.now c.in-Ok.count c.in-Ok.rest.now c.in-Ok.ensures.gives c.raise_entries-raised.result (λ x. x.now) _ _ _ _ was c.from_rising.ensures (old_or_joined max_joining) c.raise_entries-raised.ensures.err
+    map_stops nat_cmp byte process some_calls c.args.bytes.now c.in-Ok.count c.in-Ok.rest.now c.in-Ok.ensures.gives c.raise_map.result (λ x. x.now) _ _ _ _ refl refl (old_or_joined max_joining) c.raise_map.ensures.err
