@@ -2,7 +2,7 @@
 use Rattle.std.proofs.Common.{◌≡◌, ◌<◌, ◌≤◌, ℕ, suc, ◌+◌, ◌==◌, Bool, true, false, cond, List, ◌∷◌, ◌++◌, append_assoc, drop, drop-cons, Option, Some, None, Result, Ok, Err, length, map, nat_eq, arith, ap, subst, sym, ◌∙◌}
 use Rattle.std.specs.List.{All, flat_map, list_any}
 use Rattle.std.specs.Prelude.{IsSomeAnd, OnOk, slice_index_or}
-use Rattle.std.proofs.lemmas.Bool.Decides.{nat_tests}
+use Rattle.join_core.specs.laws.Cases.{some_left}
 use Rattle.mpx_name.specs.Name.{Name}
 use Rattle.mpx_node.specs.Nodes.{NodeView, front_on}
 use Rattle.mpx_eval.specs.Found.{missing_view}
@@ -49,9 +49,6 @@ pub upto_more : (run : EndedRun) (n : ℕ) (had new : List (ℕ × ℕ)) → had
 upto_more run n had new is more =
     let k : suc n ≡ n + 1 = omega arith in
     more ∙ ap (λ xs. xs ++ waiting_there n (waits_at run n)) is ∙ ap (waiting_upto run) k
-
-pub some_left : (n : ℕ) (b : Bool) → b ≡ nat_eq n 0 → b ≡ false → 0 < n
-some_left n b told is = grind (arith, nat_tests)
 
 -- a call that a rank's process has not harvested, with the members whose posts its board lacks, of whom there are some
 pub lacks_of : (run : EndedRun) (rank : ℕ) (node : NodeView) (c : MissingCall) (name : Name) (call : ℕ) (missing : List MissingMember) (none : Bool) → process_of run rank ≡ Some node → front_on node name ≤ call
