@@ -2,18 +2,18 @@
 //! script's evaluation, or how much the script has.
 #![tactic(auto)]
 
-use mpx_shell::{exit_code, seen_by, words_of};
-use std::io;
+use mpx_shell::{asked_of, exit_code, seen_by};
 use std::process::ExitCode;
+use std::{env, io};
 
 /// Hands on the words of the call and the standard streams.
 fn main(rt: HostRuntime) -> ExitCode {
-    let words = words_of(&rt);
-    let mut seen = seen_by(&words, rt.alloc(), &rt, rt.stderr());
+    let asked = asked_of(rt.alloc(), env::args(&rt));
+    let mut seen = seen_by(&asked, rt.alloc(), &rt, rt.stderr());
     exit_code(
         &rt,
         rt.alloc(),
-        &words,
+        &asked,
         &mut rt.reader(),
         &mut io::writer(&rt),
         &mut rt.stderr(),

@@ -1,6 +1,7 @@
 //! The program's own call, as its `main` makes it, over streams in memory.
 use crate::terminals::{Leaping, Shown};
 use mpx_shell::{exit_code, seen_by};
+use mpx_words::call_of;
 use std::alloc::Global;
 use std::io::{Read, Write};
 use std::process::ExitCode;
@@ -31,9 +32,13 @@ pub fn call_program<T: Threads + Wait + Sync, R: Read, W: Write>(
         is_terminal,
     };
     let clock = Leaping::new();
-    let mut seen = seen_by(&words, alloc, &clock, shown);
-    let code = exit_code(rt, alloc, &words, reader, out, said, &mut seen);
-    drop(words);
+    let asked = match words {
+        Ok(words) => call_of(alloc, &words),
+        Err(why) => Err(why),
+    };
+    let mut seen = seen_by(&asked, alloc, &clock, shown);
+    let code = exit_code(rt, alloc, &asked, reader, out, said, &mut seen);
+    drop(asked);
     Exited {
         status: number_of(code),
         shown: seen.into_writer().text,

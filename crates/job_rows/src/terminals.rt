@@ -2,6 +2,7 @@
 use crate::gates::UntilTold;
 use mpx_run::{Observer, Progress};
 use mpx_shell::Seen;
+use mpx_words::flags_behind;
 use std::alloc::Global;
 use std::cell::Cell;
 use std::io::{self, IsTerminal, Write};
@@ -73,7 +74,7 @@ impl<'a> AllBegun<'a> {
             is_terminal: true,
         };
         AllBegun {
-            seen: Seen::of(&[], alloc, clock, shown),
+            seen: Seen::of(flags_behind(&[]), alloc, clock, shown),
             gate,
         }
     }

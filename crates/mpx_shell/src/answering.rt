@@ -1,10 +1,10 @@
 //! What is done with what a call asks for.
-ghost use Rattle.std.specs.Prelude.{◌≡◌, false, map, string_bytes, true};
+ghost use Rattle.std.specs.Prelude.{◌≡◌, false, true};
 ghost use Rattle.mpx_run.specs.Founded.{IsFounded};
 ghost use Rattle.mpx_run.specs.Reports.{IsPrinted};
 ghost use Rattle.mpx_run.specs.Texts.{is_in_threads};
 ghost use Rattle.mpx_program.specs.Jobs.{IsRefused, Tells};
-ghost use Rattle.mpx_shell.specs.Answers.{Answers, AnswersCall};
+ghost use Rattle.mpx_shell.specs.Answers.{AnswersCall};
 
 use clap::error::ErrorKind;
 use mpx_affine::Affine;
@@ -12,7 +12,7 @@ use mpx_num::{Ops, OwnOp};
 use mpx_program::{Exit, refuse, run_job, run_job_in_threads};
 use mpx_run::{Command, Job};
 use mpx_sim::Observer;
-use mpx_words::{Invocation, call_of};
+use mpx_words::Invocation;
 use std::alloc::{AllocError, Global};
 use std::io::{Read, Write};
 use std::sync::Wait;
@@ -35,27 +35,8 @@ macro_rules! own_operations {
     }};
 }
 
-/// Does what words ask for, or tells why they ask for nothing.
-pub(crate) fn answer_words<T: Threads + Wait + Sync, R: Read, W: Write, E: Write>(
-    rt: &T,
-    alloc: Global,
-    words: &[String],
-    reader: &mut R,
-    out: &mut W,
-    err: &mut E,
-    observer: &mut dyn Observer,
-) -> Exit
-    ensures prints { Answers IsPrinted (map string_bytes words.now) (R.remaining reader.old) (R.remaining reader.new) (W.contents out.old) (W.contents out.new) result.status (Tells (E.contents err.old) (E.contents err.new) result.told) }
-    ensures founded { Answers IsFounded (map string_bytes words.now) (R.remaining reader.old) (R.remaining reader.new) (W.contents out.old) (W.contents out.new) result.status (Tells (E.contents err.old) (E.contents err.new) result.told) }
-{
-    match call_of(alloc, words) {
-        Ok(call) => answer_call(rt, alloc, &call, reader, out, err, observer),
-        Err(refusal) => refuse(&refusal, err),
-    }
-}
-
-// Does what a call asks for. Only a run in threads goes by functions that may wait.
-fn answer_call<T: Threads + Wait + Sync, R: Read, W: Write, E: Write>(
+/// Does what a call asks for. Only a run in threads goes by functions that may wait.
+pub(crate) fn answer_call<T: Threads + Wait + Sync, R: Read, W: Write, E: Write>(
     rt: &T,
     alloc: Global,
     call: &Invocation,

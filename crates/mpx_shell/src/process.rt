@@ -1,5 +1,5 @@
-//! What a program's `main` calls: the words of its process, and what it exits with.
-ghost use Rattle.std.specs.Prelude.{◌≡◌, ◌&&◌, ◌⊎◌, IfErr, IfOk, IsOkAnd, OnErr, false, map, not, string_bytes};
+//! What a program's `main` calls: what the words of its process ask for, who looks on, and what it exits with.
+ghost use Rattle.std.specs.Prelude.{◌≡◌, ◌&&◌, ◌⊎◌, ℕ, IfErr, IfOk, IsErrAnd, List, OnErr, false, map, not, string_bytes};
 ghost use Rattle.std.specs.Vec.Iter.{into_iter_items};
 ghost use Rattle.std.specs.Process.{exit_status};
 ghost use Rattle.clap.specs.Words.{kind_of};
@@ -7,15 +7,15 @@ ghost use Rattle.clap.specs.declared.error.kind.ErrorKind.TheVariants.{InvalidVa
 ghost use Rattle.mpx_run.specs.Founded.{IsFounded};
 ghost use Rattle.mpx_run.specs.Reports.{IsPrinted};
 ghost use Rattle.mpx_program.specs.Jobs.{IsRefused};
-ghost use Rattle.mpx_words.specs.Words.{flags_behind};
-ghost use Rattle.mpx_shell.specs.Answers.{Answers, EndsBy};
+ghost use Rattle.mpx_shell.specs.Answers.{Answers, AskFor, EndsBy};
 ghost use Rattle.mpx_shell.specs.Showing.{shown_on, shows_lines, shows_rows};
 
-use crate::answering::answer_words;
+use crate::answering::answer_call;
+use crate::progress::HowFar;
 use crate::seen::Seen;
 use mpx_program::refuse;
 use mpx_sim::Observer;
-use mpx_words::not_text;
+use mpx_words::{Invocation, call_of, not_text};
 use std::alloc::{AllocError, Global};
 use std::io::{IsTerminal, Read, Write};
 use std::process::ExitCode;
@@ -24,27 +24,24 @@ use std::thread::Threads;
 use std::time::Clock;
 use std::{env, io};
 
-/// The words that the process was called with. No contract of std says what `env::args` gives: what is made of it says [`handed_on`].
+/// What the words of the process ask for. They are read once: by this a call is answered, and shown.
 ///
-/// A refusal is for a word that is no text, or for want of memory.
-pub fn words_of(rt: &HostRuntime) -> Result<Vec<String>, clap::Error>
-    ensures { IfErr result (λ why. (kind_of why ≡ InvalidValue) ⊎ (kind_of why ≡ OutOfMemory)) }
-{
-    handed_on(rt.alloc(), env::args(rt))
-}
-
-// All of these words in their order, where there are words and memory for them.
-fn handed_on(alloc: Global, args: io::Result<env::Args>) -> Result<Vec<String>, clap::Error>
-    ensures words { IfOk result (λ words. IsOkAnd args (λ args. words.items ≡ into_iter_items args)) }
-    ensures refused { IfErr result (λ why. (kind_of why ≡ InvalidValue) ⊎ (kind_of why ≡ OutOfMemory)) }
+/// A refusal is for words that ask for nothing, for a word that is no text, or for want of memory.
+pub fn asked_of(alloc: Global, args: io::Result<env::Args>) -> Result<Invocation, clap::Error>
+    ensures asks { IfOk args (λ args. AskFor (map string_bytes (into_iter_items args)) result) }
+    ensures refused { OnErr args (IsErrAnd result (λ why. (kind_of why ≡ InvalidValue) ⊎ (kind_of why ≡ OutOfMemory))) }
 {
     match args {
-        Ok(args) => Ok(in_order(alloc, args)?),
+        Ok(args) => {
+            let words = in_order(alloc, args)?;
+            call_of(alloc, &words)
+        }
         Err(error) if error.kind() == io::ErrorKind::OutOfMemory => Err(AllocError.into()),
         Err(_) => Err(not_text(alloc)),
     }
 }
 
+// All of these words in their order.
 fn in_order(alloc: Global, args: env::Args) -> Result<Vec<String>, AllocError>
     ensures { IfOk result (λ words. words.items ≡ into_iter_items args) }
 {
@@ -55,45 +52,45 @@ fn in_order(alloc: Global, args: env::Args) -> Result<Vec<String>, AllocError>
     Ok(words)
 }
 
-/// Who looks on, by what these words ask for; where there are no words, how far a run is.
+/// Who looks on, by what the words ask for; where they ask for nothing, how far a run is.
 pub fn seen_by<'a, C: Clock, S: Write + IsTerminal>(
-    words: &Result<Vec<String>, clap::Error>,
+    asked: &Result<Invocation, clap::Error>,
     alloc: Global,
     clock: &'a C,
     out: S,
 ) -> Seen<'a, C, S>
-    ensures trace { IfOk words.now (λ words. shows_lines result ≡ (flags_behind (map string_bytes words.items)).trace) }
-    ensures table { IfOk words.now (λ words. shows_rows result ≡ (not (flags_behind (map string_bytes words.items)).trace && (flags_behind (map string_bytes words.items)).table)) }
-    ensures far { OnErr words.now ((shows_lines result ≡ false) × (shows_rows result ≡ false)) }
+    ensures trace { IfOk asked.now (λ call. shows_lines result ≡ call.flags.trace) }
+    ensures table { IfOk asked.now (λ call. shows_rows result ≡ (not call.flags.trace && call.flags.table)) }
+    ensures far { OnErr asked.now ((shows_lines result ≡ false) × (shows_rows result ≡ false)) }
     ensures on { shown_on result ≡ out }
 {
-    match words {
-        Ok(words) => Seen::of(words, alloc, clock, out),
-        Err(_) => Seen::of(&[], alloc, clock, out),
+    match asked {
+        Ok(call) => Seen::of(call.flags, alloc, clock, out),
+        Err(_) => Seen::Progress(HowFar::new(clock, out)),
     }
 }
 
-/// Answers a call with these words, and gives its status as the process's. What fails on the standard error is let go: the status stands.
+/// Answers what the words of a process ask for, and gives its status as the process's. What fails on the standard error is let go: the status stands.
 ///
 /// Only words that ask for a run in threads go by functions that may wait. It has their bound `Wait` itself, so it owes no return.
 pub fn exit_code<T: Threads + Wait + Sync, R: Read, W: Write, E: Write>(
     rt: &T,
     alloc: Global,
-    words: &Result<Vec<String>, clap::Error>,
+    asked: &Result<Invocation, clap::Error>,
     reader: &mut R,
     out: &mut W,
     err: &mut E,
     observer: &mut dyn Observer,
 ) -> ExitCode
-    ensures answers { IfOk words.now (λ words. EndsBy (Answers IsPrinted (map string_bytes words.items) (R.remaining reader.old) (R.remaining reader.new) (W.contents out.old) (W.contents out.new)) (E.contents err.old) (E.contents err.new) (exit_status result)) }
-    ensures founded { IfOk words.now (λ words. EndsBy (Answers IsFounded (map string_bytes words.items) (R.remaining reader.old) (R.remaining reader.new) (W.contents out.old) (W.contents out.new)) (E.contents err.old) (E.contents err.new) (exit_status result)) }
-    ensures refused { IfErr words.now (λ why. EndsBy (IsRefused (kind_of why)) (E.contents err.old) (E.contents err.new) (exit_status result)) }
-    ensures unread { OnErr words.now (R.remaining reader.new ≡ R.remaining reader.old) }
-    ensures unwritten { OnErr words.now (W.contents out.new ≡ W.contents out.old) }
+    ensures answers { (words : List (List ℕ)) → AskFor words asked.now → EndsBy (Answers IsPrinted words (R.remaining reader.old) (R.remaining reader.new) (W.contents out.old) (W.contents out.new)) (E.contents err.old) (E.contents err.new) (exit_status result) }
+    ensures founded { (words : List (List ℕ)) → AskFor words asked.now → EndsBy (Answers IsFounded words (R.remaining reader.old) (R.remaining reader.new) (W.contents out.old) (W.contents out.new)) (E.contents err.old) (E.contents err.new) (exit_status result) }
+    ensures refused { IfErr asked.now (λ why. EndsBy (IsRefused (kind_of why)) (E.contents err.old) (E.contents err.new) (exit_status result)) }
+    ensures unread { OnErr asked.now (R.remaining reader.new ≡ R.remaining reader.old) }
+    ensures unwritten { OnErr asked.now (W.contents out.new ≡ W.contents out.old) }
 {
-    match words {
-        Ok(words) => {
-            let exit = answer_words(rt, alloc, words, reader, out, err, observer);
+    match asked {
+        Ok(call) => {
+            let exit = answer_call(rt, alloc, call, reader, out, err, observer);
             ExitCode::from(exit.status)
         }
         Err(why) => ExitCode::from(refuse(why, err).status),

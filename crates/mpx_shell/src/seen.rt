@@ -1,13 +1,12 @@
-//! Who looks on at a run, by what the words of the call ask for.
-ghost use Rattle.std.specs.Prelude.{◌≡◌, ◌&&◌, map, not, string_bytes};
-ghost use Rattle.mpx_words.specs.Words.{flags_behind};
+//! Who looks on at a run, by what is asked for beside it.
+ghost use Rattle.std.specs.Prelude.{◌≡◌, ◌&&◌, not};
 ghost use Rattle.mpx_shell.specs.Showing.{shown_on, shows_lines, shows_rows};
 
 use crate::progress::HowFar;
 use mpx_node::Node;
 use mpx_sim::{FrameSeen, Observer, Progress};
 use mpx_trace::{Table, Trace};
-use mpx_words::flags_behind;
+use mpx_words::Flags;
 use std::alloc::Global;
 use std::io::{IsTerminal, Write};
 use std::time::Clock;
@@ -22,13 +21,12 @@ pub enum Seen<'a, C: Clock, S: Write + IsTerminal> {
 }
 
 impl<'a, C: Clock, S: Write + IsTerminal> Seen<'a, C, S> {
-    /// What these words ask for.
-    pub fn of(words: &[String], alloc: Global, clock: &'a C, out: S) -> Seen<'a, C, S>
-        ensures trace { shows_lines result ≡ (flags_behind (map string_bytes words.now)).trace }
-        ensures table { shows_rows result ≡ (not (flags_behind (map string_bytes words.now)).trace && (flags_behind (map string_bytes words.now)).table) }
+    /// What is asked for.
+    pub fn of(flags: Flags, alloc: Global, clock: &'a C, out: S) -> Seen<'a, C, S>
+        ensures trace { shows_lines result ≡ flags.trace }
+        ensures table { shows_rows result ≡ (not flags.trace && flags.table) }
         ensures on { shown_on result ≡ out }
     {
-        let flags = flags_behind(words);
         if flags.trace {
             Seen::Lines(Trace::new(alloc, out))
         } else if flags.table {

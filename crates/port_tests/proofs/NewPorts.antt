@@ -3,11 +3,16 @@ use Rattle.std.proofs.Common.{◌≡◌, ◌+◌, ℕ, List, [], ◌∷◌, ◌+
 use Rattle.atomic_table.specs.Seated.{TableId}
 use Rattle.mpx_bus.specs.declared.act.Setup.{Setup}
 use Rattle.mpx_num.specs.declared.own.Operation.{Operation}
-use Rattle.mpx_bus.specs.Ports.{PortView, IsFleet, IsNew}
+use Rattle.mpx_bus.specs.Ports.{PortView, PortGoesOn, IsFleet, IsNew, KeepsPlan}
+use Rattle.mpx_bus.specs.Rule.{Stood}
 use Rattle.mpx_bus.proofs.Makes.{fleet_before, fleet_last}
 use Rattle.mpx_shared.specs.LawfulPorts.{IsLawful}
 use Rattle.mpx_shared.proofs.LawfulPorts.{new_lawful, new_none}
 use Rattle.port_tests.specs.Fresh.{ArePair, IsFresh}
+
+-- a lawful port that goes on is lawful by its own queue and setup
+pub lawful_later : {table : TableId} {setup : Setup} {me : ℕ} (a b : PortView) → IsLawful table setup me a → PortGoesOn a b → (KeepsPlan b → Stood b.setup b.me b.journal) → IsLawful b.table b.setup me b
+lawful_later a b lawful goes stood = record { table_is = refl; setup_is = refl; me_is = goes.same.me ∙ lawful.me_is; planned = goes.plan lawful.planned; stood = stood (goes.plan lawful.planned) }
 
 module _ (setup : Setup) (table : TableId) (unplanned : setup.planned ≡ false) (ops : List Operation) (lent : ops ≡ setup.operations) where
   new_fresh : (me : ℕ) (b : PortView) → IsNew setup table me b → IsFresh ops table me b
@@ -24,7 +29,7 @@ module _ (setup : Setup) (table : TableId) (unplanned : setup.planned ≡ false)
   one_more : (ports rest : List PortView) (b : PortView) → ports ≡ rest ++ b ∷ [] → length ports ≡ length rest + 1
   one_more ports rest b is = ap length is ∙ length-append rest (b ∷ [])
 
-  fresh_last : (me n : ℕ) (ports rest : List PortView) (b : PortView) → n ≡ me + 1 → IsFleet setup table n ports → ports ≡ rest ++ b ∷ [] → IsFresh ops table me b
+  pub fresh_last : (me n : ℕ) (ports rest : List PortView) (b : PortView) → n ≡ me + 1 → IsFleet setup table n ports → ports ≡ rest ++ b ∷ [] → IsFresh ops table me b
   fresh_last me n ports rest b count fleet is =
       let more = one_more ports rest b is in
       fresh_at me (length rest) b (omega (arith, count, fleet.count, more)) (fleet_last setup table n ports rest b fleet is)

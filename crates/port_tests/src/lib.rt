@@ -3,6 +3,8 @@
 #![tactic(auto)]
 
 #[cfg(test)]
+mod let_go;
+#[cfg(test)]
 mod port_fleets;
 #[cfg(test)]
 mod ports;

@@ -1,4 +1,5 @@
 //! What ports and shared ports come to.
+use crate::let_go::is_told_as_let_go;
 use crate::port_fleets::{Fleet, all_meet, both_finish};
 use crate::ports::Act;
 use crate::shared_pairs::meet;
@@ -69,5 +70,12 @@ fn two_shared_ports_have_one_sum(rt: HostRuntime) -> Result<(), Fail> {
 fn eight_ports_meet_with_one_sum(rt: HostRuntime) -> Result<(), Fail> {
     let ops = Ops::none(rt.alloc());
     assert!(rt; all_meet(&rt, rt.alloc(), SUM_OF_EIGHT, 28, &ops)?);
+    Ok(())
+}
+
+#[test]
+fn result_let_go_between_two_locks_is_told_so(rt: HostRuntime) -> Result<(), Fail> {
+    let ops = Ops::none(rt.alloc());
+    assert!(rt; is_told_as_let_go(&rt, rt.alloc(), &ops)?);
     Ok(())
 }

@@ -1,7 +1,7 @@
 //! A sum in flight while a group is made: what a rank may ask of its requests, and of a communicator.
 use crate::TURNS;
 use crate::flight::post;
-use crate::why::Why;
+use crate::why::{Around, Why};
 use mpx_comm::{Comm, Desk, Host, Request};
 use mpx_num::{Numbers, Op, Ops};
 use mpx_ranks::Program;
@@ -19,7 +19,8 @@ impl Program for Asks {
         world: &Comm,
         ops: &Ops,
     ) -> Result<String, Why> {
-        post(alloc, desk, world, Op::Sum, ops)?;
+        let around = Around { alloc, world, ops };
+        drop(post(desk, &around, Op::Sum)?);
         let request = start_group(alloc, desk, world, ops)?;
         let done = both_done(alloc, desk, ops)?;
         let is_done = desk.status(alloc, &request, ops)?;

@@ -1,7 +1,7 @@
 //! Two reductions in flight beside a rank's own work.
 use crate::TURNS;
-use crate::why::Why;
-use mpx_comm::{Comm, Desk, Host, integer_of};
+use crate::why::{Around, Why};
+use mpx_comm::{Comm, Desk, Host, Request, integer_of};
 use mpx_num::{Numbers, Op, Ops, Ty};
 use mpx_ranks::Program;
 use std::alloc::Global;
@@ -18,11 +18,11 @@ impl Program for Flight {
         world: &Comm,
         ops: &Ops,
     ) -> Result<String, Why> {
-        post(alloc, desk, world, Op::Sum, ops)?;
-        post(alloc, desk, world, Op::Max, ops)?;
-        let mut pieces = 0;
-        let sum = polled(alloc, desk, &mut pieces, ops)?;
-        let most = next_done(alloc, desk, ops)?;
+        let around = Around { alloc, world, ops };
+        drop(post(desk, &around, Op::Sum)?);
+        drop(post(desk, &around, Op::Max)?);
+        let sum = polled(desk, &around)?;
+        let most = next_done(desk, &around)?;
         Ok(format!(in alloc; "sum {sum}, most {most}")?)
     }
 
@@ -32,40 +32,25 @@ impl Program for Flight {
 }
 
 /// Posts the rank's number. It waits for nobody.
-pub fn post<H: Host>(
-    alloc: Global,
-    desk: &mut Desk<H>,
-    world: &Comm,
-    op: Op,
-    ops: &Ops,
-) -> Result<(), Why> {
-    let mine = Numbers::one(i128::from(world.rank()) + 3);
-    drop(desk.iallreduce(alloc, world, op, Ty::I32, mine, ops)?);
-    Ok(())
+pub fn post<H: Host>(desk: &mut Desk<H>, at: &Around<'_>, op: Op) -> Result<Request, Why> {
+    let mine = Numbers::one(i128::from(at.world.rank()) + 3);
+    Ok(desk.iallreduce(at.alloc, at.world, op, Ty::I32, mine, at.ops)?)
 }
 
-// The number of the first open call that is done. Until then the rank does a piece of its own work behind each look, and lets its host make
-// one turn.
-fn polled<H: Host>(
-    alloc: Global,
-    desk: &mut Desk<H>,
-    pieces: &mut u64,
-    ops: &Ops,
-) -> Result<i32, Why> {
-    for _ in 0..TURNS {
-        if let Some((_request, finished)) = desk.testany(alloc, ops)? {
+// The number of the first open call that is done. Behind each look the rank may do a piece of its own work; then it lets its host make one turn.
+fn polled<H: Host>(desk: &mut Desk<H>, at: &Around<'_>) -> Result<i32, Why> {
+    for _piece in 0..TURNS {
+        if let Some((_request, finished)) = desk.testany(at.alloc, at.ops)? {
             return integer_of(&finished).ok_or(Why::NoAnswer);
         }
-        *pieces = pieces.wrapping_add(1);
-        desk.turn(alloc, 1)?;
+        desk.turn(at.alloc, 1)?;
     }
     Err(Why::NoAnswer)
 }
 
 // The number of the next open call that is done.
-fn next_done<H: Host>(alloc: Global, desk: &mut Desk<H>, ops: &Ops) -> Result<i32, Why> {
-    match desk.waitany(alloc, TURNS, ops)? {
-        Some((_request, finished)) => integer_of(&finished).ok_or(Why::NoAnswer),
-        None => Err(Why::NoAnswer),
-    }
+fn next_done<H: Host>(desk: &mut Desk<H>, at: &Around<'_>) -> Result<i32, Why> {
+    let done = desk.waitany(at.alloc, TURNS, at.ops)?;
+    let (_request, finished) = done.ok_or(Why::NoAnswer)?;
+    integer_of(&finished).ok_or(Why::NoAnswer)
 }

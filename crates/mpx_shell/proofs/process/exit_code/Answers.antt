@@ -1,25 +1,41 @@
-use Rattle.std.proofs.Common.{map, string_bytes}
+use Rattle.std.proofs.Common.{subst}
 use Rattle.mpx_run.specs.Founded.{IsFounded}
 use Rattle.mpx_run.specs.Reports.{IsPrinted}
-use Rattle.mpx_shell.specs.Answers.{Answers}
-use Rattle.mpx_shell.proofs.Ending.{ends_by, if_err, if_ok}
+use Rattle.mpx_shell.specs.Answers.{AskFor}
+use Rattle.mpx_shell.proofs.Ending.{if_err, refused_words}
 use Rattle.mpx_shell.proofs.process.exit_code.Goals as goal
 
 pub returns-in-Ok-clause-answers : goal.returns-in-Ok-clause-answers
-returns-in-Ok-clause-answers g c =
-    if_ok c.args.words.now c.in-Ok.words _ c.in-Ok.is
-    (ends_by (λ words. Answers IsPrinted (map string_bytes words) (g.R.Read.remaining c.args.reader.now) (g.R.Read.remaining c.answer_words-exit.new.reader) (g.W.Write.contents c.args.out.now) (g.W.Write.contents c.answer_words-exit.new.out))
-    _ _ _ _ c.answer_words-exit.result _ c.deref.ensures.value c.answer_words-exit.ensures.prints c.from.ensures)
+returns-in-Ok-clause-answers g c = λ words asks. record {
+  exit = c.answer_call-exit.result;
+  does = c.answer_call-exit.ensures.prints words (subst (AskFor words) c.in-Ok.is asks);
+  ends = c.from.ensures;
+}
 
 pub returns-in-Ok-clause-founded : goal.returns-in-Ok-clause-founded
-returns-in-Ok-clause-founded g c =
-    if_ok c.args.words.now c.in-Ok.words _ c.in-Ok.is
-    (ends_by (λ words. Answers IsFounded (map string_bytes words) (g.R.Read.remaining c.args.reader.now) (g.R.Read.remaining c.answer_words-exit.new.reader) (g.W.Write.contents c.args.out.now) (g.W.Write.contents c.answer_words-exit.new.out))
-    _ _ _ _ c.answer_words-exit.result _ c.deref.ensures.value c.answer_words-exit.ensures.founded c.from.ensures)
+returns-in-Ok-clause-founded g c = λ words asks. record {
+  exit = c.answer_call-exit.result;
+  does = c.answer_call-exit.ensures.founded words (subst (AskFor words) c.in-Ok.is asks);
+  ends = c.from.ensures;
+}
+
+pub returns-in-Err-clause-answers : goal.returns-in-Err-clause-answers
+returns-in-Err-clause-answers g c = λ words asks. record {
+  exit = c.refuse.result;
+  does = refused_words IsPrinted words c.in-Err.why _ _ _ _ (subst (AskFor words) c.in-Err.is asks) c.refuse.ensures;
+  ends = c.from-in-Err.ensures;
+}
+
+pub returns-in-Err-clause-founded : goal.returns-in-Err-clause-founded
+returns-in-Err-clause-founded g c = λ words asks. record {
+  exit = c.refuse.result;
+  does = refused_words IsFounded words c.in-Err.why _ _ _ _ (subst (AskFor words) c.in-Err.is asks) c.refuse.ensures;
+  ends = c.from-in-Err.ensures;
+}
 
 pub returns-in-Err-clause-refused : goal.returns-in-Err-clause-refused
 returns-in-Err-clause-refused g c =
-    if_err c.args.words.now c.in-Err.why _ c.in-Err.is (record {
+    if_err c.args.asked.now c.in-Err.why _ c.in-Err.is (record {
       exit = c.refuse.result;
       does = c.refuse.ensures;
       ends = c.from-in-Err.ensures;
