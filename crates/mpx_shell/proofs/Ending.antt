@@ -1,10 +1,14 @@
 -- What a process ends with.
-use Rattle.std.proofs.Common.{◌≡◌, ℕ, List, [], Option, Result, Ok, Err, IfOk, inl, inr, refl, subst, sym}
+use Rattle.std.proofs.Common.{◌≡◌, ℕ, List, [], Option, Some, None, Result, Ok, Err, IfOk, inl, inr, refl, subst, sym}
 use Rattle.std.specs.Prelude.{IfErr}
+use Rattle.clap.specs.Kinds.{HasKind}
 use Rattle.clap.specs.Words.{kind_of}
 use Rattle.clap.specs.declared.error.Error.{Error}
 use Rattle.mpx_run.specs.Texts.{OfRuns}
 use Rattle.mpx_program.specs.Jobs.{IsRefused}
+use Rattle.mpx_words.specs.Usage.{refusal_kinds}
+use Rattle.mpx_words.specs.Words.{invocation_in}
+use Rattle.mpx_words.specs.declared.invocation.Invocation.{Invocation}
 use Rattle.mpx_shell.specs.Answers.{Answers, AskFor}
 
 -- of a result that is the value
@@ -13,6 +17,11 @@ if_ok result value Holds is holds = subst (λ r. IfOk r Holds) (sym is) holds
 
 pub if_err : {T E : Type 0} (result : Result T E) (error : E) (Holds : E → Type 0) → result ≡ Err error → Holds error → IfErr result Holds
 if_err result error Holds is holds = subst (λ r. IfErr r Holds) (sym is) holds
+
+-- what is read in words is what they ask for
+pub ask_for : (words now : List (List ℕ)) (asked : Result Invocation Error) → now ≡ words → IfOk asked (λ call. invocation_in now ≡ Some call) → IfErr asked (λ why. invocation_in now ≡ None) → IfErr asked (HasKind (refusal_kinds now)) → AskFor words asked
+ask_for words now (Ok call) same ok err kinds = subst (λ ws. invocation_in ws ≡ Some call) same ok
+ask_for words now (Err why) same ok err kinds = inl (subst (λ ws. (invocation_in ws ≡ None) × HasKind (refusal_kinds ws) why) same (err, kinds))
 
 -- words that ask for nothing are refused, and nothing is read or written
 pub refused_words : (Is : OfRuns) (words : List (List ℕ)) (refusal : Error) (there old : Option (List ℕ)) (code : ℕ) (Says : List ℕ → Type 0) → AskFor words (Err refusal) → IsRefused (kind_of refusal) code Says → Answers Is words there there old old code Says

@@ -71,6 +71,7 @@ pub fn seen_by<'a, C: Clock, S: Write + IsTerminal>(
 }
 
 /// Answers what the words of a process ask for, and gives its status as the process's. What fails on the standard error is let go: the status stands.
+/// Of a call that no words ask for it promises nothing.
 ///
 /// Only words that ask for a run in threads go by functions that may wait. It has their bound `Wait` itself, so it owes no return.
 pub fn exit_code<T: Threads + Wait + Sync, R: Read, W: Write, E: Write>(

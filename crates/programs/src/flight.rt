@@ -37,12 +37,13 @@ pub fn post<H: Host>(desk: &mut Desk<H>, at: &Around<'_>, op: Op) -> Result<Requ
     Ok(desk.iallreduce(at.alloc, at.world, op, Ty::I32, mine, at.ops)?)
 }
 
-// The number of the first open call that is done. Behind each look the rank may do a piece of its own work; then it lets its host make one turn.
+// The number of the first open call that is done. Behind each look the rank does a piece of its own work, and lets its host make one turn.
 fn polled<H: Host>(desk: &mut Desk<H>, at: &Around<'_>) -> Result<i32, Why> {
-    for _piece in 0..TURNS {
+    for _ in 0..TURNS {
         if let Some((_request, finished)) = desk.testany(at.alloc, at.ops)? {
             return integer_of(&finished).ok_or(Why::NoAnswer);
         }
+        // here stands a piece of the rank's own work
         desk.turn(at.alloc, 1)?;
     }
     Err(Why::NoAnswer)
