@@ -1,6 +1,6 @@
 use Rattle.std.proofs.Common.{◌≡◌, ◌∙◌, ◌++◌, true, inl, inr, ap, sym, nat_eq}
 use Rattle.std.specs.Cmp.Lexicographic.{pointwise, bytes_decides}
-use Rattle.mpx_explain.proofs.FoundEnds.{some_left}
+use Rattle.join_core.specs.laws.Cases.{some_left}
 use Rattle.mpx_program.proofs.explaining.push_behind.Goals as goal
 
 pub returns-then-not-ends_with : goal.returns-then-not-ends_with

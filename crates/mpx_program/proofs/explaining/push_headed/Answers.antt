@@ -1,5 +1,5 @@
 use Rattle.std.proofs.Common.{◌∙◌, ◌++◌, inr, ap}
-use Rattle.mpx_explain.proofs.FoundEnds.{some_left}
+use Rattle.join_core.specs.laws.Cases.{some_left}
 use Rattle.mpx_program.proofs.explaining.push_headed.Goals as goal
 
 pub returns : goal.returns
