@@ -1,6 +1,5 @@
 -- What a call does with the text that a reader gives.
-use Rattle.std.proofs.Common.{◌≡◌, ℕ, Bool, true, false, List, [], Option, Some, None, Result, Ok, Err, inl, inr, refl, subst, sym}
-use Rattle.std.proofs.lemmas.Result.{IfOk-weaker}
+use Rattle.std.proofs.Common.{◌≡◌, ℕ, Bool, true, false, List, Option, Some, None, Result, Ok, Err, inl, inr, refl, subst, sym}
 use Rattle.std.specs.Prelude.{◌≢◌, ◌⊎◌}
 use Rattle.std.specs.Io.KnownBytes.{Keeps}
 use Rattle.mpx_num.specs.declared.own.Operation.{Operation}
@@ -12,15 +11,17 @@ use Rattle.mpx_run.specs.Texts.{ComesTo, IsWritten, Prints, PrintsUngated, RunsU
 use Rattle.mpx_run.specs.declared.streams.ReadFault.{ReadFault}
 use Rattle.mpx_run.specs.declared.streams.ReadFault.TheVariants as F
 use Rattle.mpx_run.specs.declared.end.End.{End}
+use Rattle.mpx_run.specs.declared.report.Left.{Left}
 use Rattle.mpx_run.specs.declared.texts.RunError.{RunError}
 use Rattle.mpx_run.specs.declared.texts.RunError.TheVariants.{GateGaveUp}
 use Rattle.mpx_run.specs.Founded.{IsFounded}
+use Rattle.mpx_run.specs.Left.{Leaves}
 use Rattle.mpx_run.specs.Reports.{IsPrinted}
 use Rattle.mpx_run.proofs.Less.{runs_printed}
 use Rattle.mpx_run.proofs.Pieces.{gated_prints, prints_ungated, runs_ungated, written_prints}
 use Rattle.mpx_program.proofs.Telling.{found_tells}
 use Rattle.mpx_program.specs.Explained.{HasTold, IsFound, TellsOf, unexplained}
-use Rattle.mpx_program.specs.Jobs.{AnswersText, DoesJobWith, Exits, ExplainsOn, FailsBefore, StrictBy, StrictOn, TellsRead}
+use Rattle.mpx_program.specs.Jobs.{AnswersText, DoesJobWith, Exits, ExplainsBy, ExplainsOn, FailsBefore, StrictBy, StrictOn, TellsRead}
 use Rattle.mpx_program.specs.Strict.{IsStrict}
 use Rattle.mpx_program.specs.declared.found.Found.{Found}
 use Rattle.mpx_words.specs.declared.invocation.Invocation.{Invocation}
@@ -50,21 +51,28 @@ does_nothing ops call there left old why more code Says fails exits = record {
   exits = exits;
 }
 
--- what is told of a script is told of a text that is read so, or that memory was wanting for it
-by_found : (ops : List Operation) (call : Invocation) (text : List ℕ) (script : ScriptView) (found : Found) (is : IsFound ops call.job.command script found) (end : End) (more : List ℕ)
-    → (more ≡ unexplained) ⊎ HasTold script text found (Ok end) more → (more ≡ unexplained) ⊎ TellsOf ops call.job.command script text end more
-by_found ops call text script found is end more (inl wanting) = inl wanting
-by_found ops call text script found is end more (inr told) = inr (found_tells ops call.job.command script text found (Ok end) more is told)
+-- what is told of a script is told of a text that is read so, and of the job that printed this, or that memory was wanting for it
+module _ (ops : List Operation) (call : Invocation) (text : List ℕ) (script : ScriptView) (found : Found) (left : Left) (out : List ℕ) where
+  by_found : (end : End) (more : List ℕ) → IsFound ops call.job.command script found → ComesTo IsFounded ops call.job.command call.job.options script end out → Leaves ops call.job.command call.job.options script end out left
+      → (more ≡ unexplained) ⊎ HasTold script text found left (Ok end) more → (more ≡ unexplained) ⊎ TellsOf ops call.job.command call.job.options script text end out more
+  by_found end more is comes leaves (inl wanting) = inl wanting
+  by_found end more is comes leaves (inr told) = inr (found_tells ops call.job.command call.job.options script text found left end out more is comes leaves told)
 
-explained : (ops : List Operation) (call : Invocation) (text : List ℕ) (script : ScriptView) (found : Found) (read : reading ops text ≡ Ok script) (is : call.flags.explain ≡ true → IsFound ops call.job.command script found) (answer : Result End RunError) (more : List ℕ)
-    → (call.flags.explain ≡ true → (more ≡ unexplained) ⊎ HasTold script text found answer more) → ExplainsOn ops call text answer more
-explained ops call text script found read is (Err error) more told = tt
-explained ops call text script found read is (Ok end) more told = subst (λ r. TellsRead call.flags.explain ops call.job.command r text end more) (sym read) (λ on. by_found ops call text script found (is on) end more (told on))
+  explained : (old new : Option (List ℕ)) (end : End) (answer : Result End RunError) (more : List ℕ) → reading ops text ≡ Ok script → (call.flags.explain ≡ true → IsFound ops call.job.command script found)
+      → ComesTo IsFounded ops call.job.command call.job.options script end out → Leaves ops call.job.command call.job.options script end out left → IsWritten old new out end answer
+      → (call.flags.explain ≡ true → (more ≡ unexplained) ⊎ HasTold script text found left answer more) → ExplainsOn ops call text old new answer more
+  explained old new end (Err error) more read is comes leaves written told = tt
+  explained old new end (Ok ended) more read is comes leaves written told = (
+    out,
+    written.1,
+    subst (λ r. TellsRead call.flags.explain ops call.job r text ended out more) (sym read) (λ on. by_found ended more (is on)
+        (subst (λ e. ComesTo IsFounded ops call.job.command call.job.options script e out) (sym written.0) comes) (subst (λ e. Leaves ops call.job.command call.job.options script e out left) (sym written.0) leaves) (told on)),
+  )
 
 -- what is answered is what is written of a script
 module _ (ops : List Operation) (call : Invocation) (text : List ℕ) (script : ScriptView) (complains : Bool) (read : reading ops text ≡ Ok script) (strict : IsStrict ops call text complains) (found : Found) (is_found : call.flags.explain ≡ true → IsFound ops call.job.command script found) (old new : Option (List ℕ)) (more : List ℕ) (code : ℕ) (Says : List ℕ → Type 0) where
-  abbrev Told : Result End RunError → Type 0
-  Told answer = call.flags.explain ≡ true → (more ≡ unexplained) ⊎ HasTold script text found answer more
+  abbrev Told : Left → Result End RunError → Type 0
+  Told left answer = call.flags.explain ≡ true → (more ≡ unexplained) ⊎ HasTold script text found left answer more
 
   strict_on : (answer : Result End RunError) → StrictOn ops call text answer complains
   strict_on (Ok end) = strict
@@ -74,7 +82,7 @@ module _ (ops : List Operation) (call : Invocation) (text : List ℕ) (script : 
   is_ungated (Ok end) p = λ e. cc e
   is_ungated (Err error) p = λ e. subst (λ a. PrintsUngated IsFounded ops call.job text old new a) e p
 
-  answers : (answer : Result End RunError) → PrintsUngated IsFounded ops call.job text old new answer → ExplainsOn ops call text answer more → Exits answer complains call.flags.explain more code Says → AnswersText IsFounded ops call text old new code Says
+  answers : (answer : Result End RunError) → PrintsUngated IsFounded ops call.job text old new answer → ExplainsOn ops call text old new answer more → Exits answer complains call.flags.explain more code Says → AnswersText IsFounded ops call text old new code Says
   answers answer prints explains exits = record {
     answer = answer;
     prints = gated_prints IsFounded ops nowhere call.job text old new answer prints;
@@ -86,8 +94,10 @@ module _ (ops : List Operation) (call : Invocation) (text : List ℕ) (script : 
     exits = exits;
   }
 
-  pub answers_written : (out : List ℕ) (end : End) (answer : Result End RunError) → ComesTo IsFounded ops call.job.command call.job.options script end out → IsWritten old new out end answer → Told answer → Exits answer complains call.flags.explain more code Says → AnswersText IsFounded ops call text old new code Says
-  answers_written out end answer comes written told = answers answer (written_prints IsFounded ops call.job text script old new out end answer read comes written) (explained ops call text script found read is_found answer more told)
+  pub answers_written : (out : List ℕ) (end : End) (left : Left) (answer : Result End RunError) → ComesTo IsFounded ops call.job.command call.job.options script end out → Leaves ops call.job.command call.job.options script end out left
+      → IsWritten old new out end answer → Told left answer → Exits answer complains call.flags.explain more code Says → AnswersText IsFounded ops call text old new code Says
+  answers_written out end left answer comes leaves written told =
+      answers answer (written_prints IsFounded ops call.job text script old new out end answer read comes written) (explained ops call text script found left out old new end answer more read is_found comes leaves written told)
 
 -- what is done with a text is done with what the reader gives
 pub does_text : (ops : List Operation) (call : Invocation) (there left old new : Option (List ℕ)) (text now : List ℕ) (code : ℕ) (Says : List ℕ → Type 0) → TakesInput there left text → now ≡ text → AnswersText IsFounded ops call now old new code Says
@@ -99,12 +109,16 @@ does_text ops call there left old new text now code Says taken same a = record {
   complains = a.complains;
   strict = by_answer a.answer a.complains a.strict;
   more = a.more;
-  explains = IfOk-weaker a.answer _ _ (λ end told. (text, taken, subst (λ xs. TellsRead call.flags.explain ops call.job.command (reading ops xs) xs end a.more) same told)) a.explains;
+  explains = explains_by a.answer a.explains;
   exits = a.exits;
 } where
   by_answer : (answer : Result End RunError) (complains : Bool) → StrictOn ops call now answer complains → StrictBy ops call there left answer complains
   by_answer (Ok end) complains s = (text, taken, subst (λ xs. IsStrict ops call xs complains) same s)
   by_answer (Err error) complains s = tt
+
+  explains_by : (answer : Result End RunError) → ExplainsOn ops call now old new answer a.more → ExplainsBy ops call there left old new answer a.more
+  explains_by (Ok end) e = (text, taken, e.0, e.1, subst (λ xs. TellsRead call.flags.explain ops call.job (reading ops xs) xs end e.0 a.more) same e.2)
+  explains_by (Err error) e = tt
 
 -- what is printed, without that on which it stands
 pub does_printed : (ops : List Operation) (call : Invocation) (there left old new : Option (List ℕ)) (code : ℕ) (Says : List ℕ → Type 0) → DoesJobWith IsFounded ops call there left old new code Says → DoesJobWith IsPrinted ops call there left old new code Says

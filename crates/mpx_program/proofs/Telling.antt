@@ -1,9 +1,12 @@
--- What is told of what was found in a script.
-use Rattle.std.proofs.Common.{◌≡◌, ℕ, List, [], Bool, true, Result, Ok, Err, IfOk, inl, inr, subst, sym}
-use Rattle.std.specs.Prelude.{◌⊎◌, IfErr, OnOk}
+-- What is told of what was found in a script, and of what is left of a run.
+use Rattle.std.proofs.Common.{◌≡◌, ℕ, ◌≤◌, List, [], length, map, take, Bool, true, Result, Ok, Err, IfOk, inl, inr, ap, ◌∙◌, subst, sym}
+use Rattle.std.specs.Prelude.{◌⊎◌, IfErr, IfSome, OnOk}
+use Rattle.std.proofs.lemmas.List.{take_all, take-map}
 use Rattle.mpx_num.specs.declared.own.Operation.{Operation}
+use Rattle.mpx_node.specs.Nodes.{NodeView}
 use Rattle.mpx_statement.specs.declared.job.Command.{Command}
 use Rattle.mpx_statement.specs.declared.job.Command.TheVariants.{Run, Eval, Check}
+use Rattle.mpx_statement.specs.declared.job.Options.{Options}
 use Rattle.mpx_script.specs.ScriptView.{ScriptView}
 use Rattle.mpx_eval.specs.Complaints.{ComplaintView, complaints_in}
 use Rattle.mpx_eval.specs.Findings.{AreFindings}
@@ -12,10 +15,17 @@ use Rattle.mpx_eval.specs.Waiting.{WaitingView}
 use Rattle.mpx_explain.specs.Findings.{AreTold}
 use Rattle.mpx_explain.specs.RunEnds.{IsRunTold}
 use Rattle.mpx_explain.specs.declared.ended.EndedRun.{EndedRun}
+use Rattle.mpx_run.specs.Founded.{IsFounded}
+use Rattle.mpx_run.specs.Left.{Leaves, transcripts_in}
+use Rattle.mpx_run.specs.Reports.{told_cause}
+use Rattle.mpx_run.specs.Texts.{ComesTo}
+use Rattle.mpx_run.specs.declared.end.Cause.TheVariants.{InEveryRun, TurnsUsedUp, AllLost, Unknown}
 use Rattle.mpx_run.specs.declared.end.End.{End}
+use Rattle.mpx_run.specs.declared.end.End.TheVariants.{Finished, Waiting}
+use Rattle.mpx_run.specs.declared.report.Left.{Left}
 use Rattle.mpx_run.specs.declared.texts.RunError.{RunError}
 use Rattle.mpx_waiting.specs.ToldLines.{waiting_told}
-use Rattle.mpx_program.specs.Explained.{AreCalls, IsBehind, IsFound, IsHeaded, IsToldOfRun, HasTold, TellsEarly, TellsOf, unexplained}
+use Rattle.mpx_program.specs.Explained.{AreCalls, IsBehind, IsFound, IsHeaded, IsToldOfRun, HasTold, TellsEarly, TellsEnd, TellsEvaluation, TellsOf, processes_in, processes_of, unexplained}
 use Rattle.mpx_program.specs.declared.found.Found.{Found}
 use Rattle.mpx_program.specs.declared.found.Found.TheVariants as F
 
@@ -26,9 +36,9 @@ module _ (ops : List Operation) (script : ScriptView) (text : List ℕ) (waiting
   calls_of_end old new calls = subst (λ cs. AreCalls text script.statements cs (unheard_in ops script.statements script.ranks f.end) old new) f.complaints_are
       (subst (λ us. AreCalls text script.statements complaints us old new) f.unheard_are calls)
 
-  pub early_tells : (ranks here waits lines more : List ℕ) → IsToldOfRun script text ranks [] here → IsBehind here (waiting_told text script.statements waiting) waits → AreCalls text script.statements complaints unheard [] lines → IsHeaded waits lines more
-      → TellsEarly ops script text ranks more
-  early_tells ranks here waits lines more itself behind calls headed = record {
+  pub early_tells : (left : Left) (ranks here waits lines more : List ℕ) → IsToldOfRun script text left ranks [] here → IsBehind here (waiting_told text script.statements waiting) waits → AreCalls text script.statements complaints unheard [] lines → IsHeaded waits lines more
+      → TellsEarly ops script text left ranks more
+  early_tells left ranks here waits lines more itself behind calls headed = record {
     end = f.end;
     evaluation = f.evaluation;
     here = here;
@@ -40,27 +50,41 @@ module _ (ops : List Operation) (script : ScriptView) (text : List ℕ) (waiting
     headed = headed;
   }
 
--- what is told of a run is told of one of this script and these ranks
-pub told_of_run : {E : Type 0} (run : EndedRun) (script : ScriptView) (text ranks old new : List ℕ) (pushed : Result (Unit {0}) E) → OnOk pushed (IsRunTold text run old new) → run.script.now ≡ script → run.waiting.now ≡ ranks → OnOk pushed (IsToldOfRun script text ranks old new)
-told_of_run run script text ranks old new (Ok done) told scripted waits = record { run = run; scripted = scripted; waits = waits; told = told }
+-- what is told of a run is told of one of this script and these ranks, of which that is left whose processes and lines these are
+pub told_of_run : {E : Type 0} (run : EndedRun) (script : ScriptView) (text ranks old new : List ℕ) (pushed : Result (Unit {0}) E) → OnOk pushed (IsRunTold text run old new) → run.script.now ≡ script → run.waiting.now ≡ ranks
+    → OnOk pushed ((left : Left) → processes_of run.nodes.now ≡ processes_in script.ranks left → run.lines.now ≡ map length (transcripts_in left) → IsToldOfRun script text left ranks old new)
+told_of_run run script text ranks old new (Ok done) told scripted waits = λ left processes lines. record { run = run; scripted = scripted; processes = processes; lines = lines; waits = waits; told = told }
 told_of_run run script text ranks old new (Err e) told scripted waits = tt
 
--- what is told by what was found is of the script's evaluation, whatever the command
-pub found_tells : (ops : List Operation) (command : Command) (script : ScriptView) (text : List ℕ) (found : Found) (answer : Result End RunError) (more : List ℕ) → IsFound ops command script found → HasTold script text found answer more
-    → IfOk answer (λ end. TellsOf ops command script text end more)
-found_tells ops command script text found (Err error) more is told = tt
-found_tells ops command script text F.Nothing (Ok end) more is told = absurd is
-found_tells ops command script text F.Wanting (Ok end) more is told = absurd told
-found_tells ops Check script text (F.Certain found) (Ok end) more is told = subst (λ cs. AreTold text cs [] more) is told
-found_tells ops Run script text (F.Certain found) (Ok end) more is told = absurd is
-found_tells ops Eval script text (F.Certain found) (Ok end) more is told = absurd is
-found_tells ops Check script text (F.InEvaluation found) (Ok end) more is told = absurd is
-found_tells ops Run script text (F.InEvaluation found) (Ok end) more is told = told ops is
-found_tells ops Eval script text (F.InEvaluation found) (Ok end) more is told = told ops is
+-- the processes of all of the first so many
+pub first_all : {A : Type 0} (process : A → NodeView) (all first : List A) (ranks i : ℕ) → first ≡ take ranks all → length first ≤ i → map process (take i first) ≡ take ranks (map process all)
+first_all process all first ranks i is past = ap (map process) (take_all i first past ∙ is) ∙ sym (take-map process ranks all)
+
+-- WHATEVER THE COMMAND
+
+-- who waits in an evaluation does in every run, so that what is told of its end is told of it alone
+evaluation_alone : (ops : List Operation) (script : ScriptView) (text : List ℕ) (left : Left) (end : End) (more : List ℕ) → IfSome (told_cause end) (λ told. told ≡ InEveryRun) → TellsEnd ops script text left end more → TellsEvaluation ops script text more
+evaluation_alone ops script text left Finished more by told = told
+evaluation_alone ops script text left (Waiting ranks InEveryRun) more by told = told
+evaluation_alone ops script text left (Waiting ranks (TurnsUsedUp turns)) more by told = let e : TurnsUsedUp turns ≡ InEveryRun = by in absurd (cc e)
+evaluation_alone ops script text left (Waiting ranks AllLost) more by told = let e : AllLost ≡ InEveryRun = by in absurd (cc e)
+evaluation_alone ops script text left (Waiting ranks Unknown) more by told = let e : Unknown ≡ InEveryRun = by in absurd (cc e)
+
+-- what is told by what was found and by what is left is told of the job
+pub found_tells : (ops : List Operation) (command : Command) (options : Options) (script : ScriptView) (text : List ℕ) (found : Found) (left : Left) (end : End) (out more : List ℕ) → IsFound ops command script found → ComesTo IsFounded ops command options script end out
+    → Leaves ops command options script end out left → HasTold script text found left (Ok end) more → TellsOf ops command options script text end out more
+found_tells ops command options script text F.Nothing left end out more is comes leaves told = absurd is
+found_tells ops command options script text F.Wanting left end out more is comes leaves told = absurd told
+found_tells ops Check options script text (F.Certain found) left end out more is comes leaves told = subst (λ cs. AreTold text cs [] more) is told
+found_tells ops Run options script text (F.Certain found) left end out more is comes leaves told = absurd is
+found_tells ops Eval options script text (F.Certain found) left end out more is comes leaves told = absurd is
+found_tells ops Check options script text (F.InEvaluation found) left end out more is comes leaves told = absurd is
+found_tells ops Run options script text (F.InEvaluation found) left end out more is comes leaves told = (left, leaves, told ops is)
+found_tells ops Eval options script text (F.InEvaluation found) left end out more is comes leaves told = evaluation_alone ops script text left end more comes.cause (told ops is)
 
 -- what is told is told, and so is that memory was wanting for it
-pub told_or_wanting : {V E : Type 0} (told : Result V E) (items : V → List ℕ) (script : ScriptView) (text : List ℕ) (found : Found) (answer : Result End RunError) (explains : Bool) (more : List ℕ)
-    → (explains ≡ true → IfOk told (λ v. HasTold script text found answer (items v))) → IfOk told (λ v. more ≡ items v) → IfErr told (λ e. more ≡ unexplained)
-    → explains ≡ true → (more ≡ unexplained) ⊎ HasTold script text found answer more
-told_or_wanting (Ok v) items script text found answer explains more tells is wanting on = inr (subst (HasTold script text found answer) (sym is) (tells on))
-told_or_wanting (Err e) items script text found answer explains more tells is wanting on = inl wanting
+pub told_or_wanting : {V E : Type 0} (told : Result V E) (items : V → List ℕ) (script : ScriptView) (text : List ℕ) (found : Found) (left : Left) (answer : Result End RunError) (explains : Bool) (more : List ℕ)
+    → (explains ≡ true → IfOk told (λ v. HasTold script text found left answer (items v))) → IfOk told (λ v. more ≡ items v) → IfErr told (λ e. more ≡ unexplained)
+    → explains ≡ true → (more ≡ unexplained) ⊎ HasTold script text found left answer more
+told_or_wanting (Ok v) items script text found left answer explains more tells is wanting on = inr (subst (HasTold script text found left answer) (sym is) (tells on))
+told_or_wanting (Err e) items script text found left answer explains more tells is wanting on = inl wanting

@@ -1,9 +1,16 @@
--- What `--explain` tells of a script's evaluation.
-use Rattle.std.specs.Prelude.{◌≡◌, ◌⊎◌, ◌<◌, ◌==◌, ℕ, Bool, true, false, List, [], ◌++◌, codes, length, map, Result, IfOk}
+-- What `--explain` tells of a script's evaluation, and of a run that ended early.
+use Rattle.std.specs.Prelude.{◌≡◌, ◌⊎◌, ◌<◌, ◌==◌, ℕ, Bool, true, false, List, [], ◌++◌, codes, length, map, take, Result, IfOk}
+use Rattle.std.specs.Borrow.{Bor}
 use Rattle.std.specs.List.{ends_with}
 use Rattle.mpx_num.specs.declared.own.Operation.{Operation}
+use Rattle.mpx_node.specs.Nodes.{NodeView}
+use Rattle.mpx_node.specs.Shown.{node_of}
+use Rattle.mpx_node.specs.declared.node.Node.{Node}
+use Rattle.mpx_bus.specs.Ports.{node_in}
 use Rattle.mpx_statement.specs.declared.job.Command.{Command}
-use Rattle.mpx_statement.specs.declared.job.Command.TheVariants.{Check}
+use Rattle.mpx_statement.specs.declared.job.Command.TheVariants.{Run, Eval, Check}
+use Rattle.mpx_statement.specs.declared.job.Job.{Job}
+use Rattle.mpx_statement.specs.declared.job.Options.{Options}
 use Rattle.mpx_statement.specs.declared.statement.Statement.{Statement}
 use Rattle.mpx_script.specs.ScriptView.{ScriptView}
 use Rattle.mpx_meaning.specs.Evaluation.{State, IsEvaluation}
@@ -17,9 +24,11 @@ use Rattle.mpx_explain.specs.Findings.{AreTold}
 use Rattle.mpx_explain.specs.Overflows.{AreOverflows}
 use Rattle.mpx_explain.specs.RunEnds.{IsRunTold}
 use Rattle.mpx_explain.specs.declared.ended.EndedRun.{EndedRun}
+use Rattle.mpx_run.specs.Left.{Leaves, transcripts_in}
 use Rattle.mpx_run.specs.declared.end.Cause.TheVariants.{InEveryRun}
 use Rattle.mpx_run.specs.declared.end.End.{End}
 use Rattle.mpx_run.specs.declared.end.End.TheVariants.{Finished, Waiting}
+use Rattle.mpx_run.specs.declared.report.Left.{Left}
 use Rattle.mpx_run.specs.declared.texts.RunError.{RunError}
 use Rattle.mpx_waiting.specs.ToldLines.{waiting_told}
 use Rattle.mpx_program.specs.declared.found.Found.{Found}
@@ -57,43 +66,54 @@ IsBehind here there more = ((there ≡ []) × (more ≡ here)) ⊎ ((0 < length 
 abbrev pub IsHeaded : (before calls more : List ℕ) → Type 0
 IsHeaded before calls more = ((calls ≡ []) × (more ≡ before)) ⊎ ((0 < length calls) × (more ≡ (before ++ codes "in the evaluation:\n") ++ calls))
 
--- what is told of a run of this script itself in which these ranks wait, behind other lines
-pub record IsToldOfRun (script : ScriptView) (text : List ℕ) (ranks : List ℕ) (old new : List ℕ) : Type 0 where
+-- the processes that these nodes are
+abbrev pub processes_of : List (Bor Node) → List NodeView
+processes_of nodes = map (λ (node : Bor Node). node_of node.now) nodes
+
+-- the processes of so many ranks as they stand at the end of a run of which this is left: by their nodes or, of a run in threads, their ports
+abbrev pub processes_in : (ranks : ℕ) → Left → List NodeView
+processes_in ranks left = take ranks (map node_of left.nodes.items) ++ take ranks (map node_in left.ports.items)
+
+-- what is told, behind other lines, of the run of this script of which this is left, and in which these ranks wait: by its processes as they stand at its end, and by how many lines each rank has
+pub record IsToldOfRun (script : ScriptView) (text : List ℕ) (left : Left) (ranks : List ℕ) (old new : List ℕ) : Type 0 where
   pub run : EndedRun
   pub scripted : run.script.now ≡ script
+  pub processes : processes_of run.nodes.now ≡ processes_in script.ranks left
+  pub lines : run.lines.now ≡ map length (transcripts_in left)
   pub waits : run.waiting.now ≡ ranks
   pub told : IsRunTold text run old new
 
--- behind lines of the run itself, which ended early with these ranks waiting, the same of the evaluation
-pub record TellsEarly (ops : List Operation) (script : ScriptView) (text : List ℕ) (ranks : List ℕ) (more : List ℕ) : Type 0 where
+-- behind lines of the run itself, of which this is left and which ended early with these ranks waiting, the same of the evaluation
+pub record TellsEarly (ops : List Operation) (script : ScriptView) (text : List ℕ) (left : Left) (ranks : List ℕ) (more : List ℕ) : Type 0 where
   pub end : State
   pub evaluation : IsEvaluation ops script.statements script.ranks end
   pub here : List ℕ
-  pub itself : IsToldOfRun script text ranks [] here
+  pub itself : IsToldOfRun script text left ranks [] here
   pub waits : List ℕ
   pub behind : IsBehind here (waiting_told text script.statements (waiting_in_full ops script.statements script.ranks end)) waits
   pub lines : List ℕ
   pub calls : AreCalls text script.statements (complaints_in script.statements script.ranks end) (unheard_in ops script.statements script.ranks end) [] lines
   pub headed : IsHeaded waits lines more
 
--- of a job that runs or evaluates, by its end
-abbrev pub TellsEnd : List Operation → ScriptView → (text : List ℕ) → End → (more : List ℕ) → Type 0
-TellsEnd ops script text Finished more = TellsEvaluation ops script text more
-TellsEnd ops script text (Waiting ranks InEveryRun) more = TellsEvaluation ops script text more
-TellsEnd ops script text (Waiting ranks cause) more = TellsEarly ops script text ranks.items more
+-- of a run of which this is left, by its end
+abbrev pub TellsEnd : List Operation → ScriptView → (text : List ℕ) → Left → End → (more : List ℕ) → Type 0
+TellsEnd ops script text left Finished more = TellsEvaluation ops script text more
+TellsEnd ops script text left (Waiting ranks InEveryRun) more = TellsEvaluation ops script text more
+TellsEnd ops script text left (Waiting ranks cause) more = TellsEarly ops script text left ranks.items more
 
--- of one that checks, the calls that are refused for certain
-abbrev pub TellsOf : List Operation → Command → ScriptView → (text : List ℕ) → End → (more : List ℕ) → Type 0
-TellsOf ops Check script text end more = AreTold text (certain_in ops script) [] more
-TellsOf ops command script text end more = TellsEnd ops script text end more
+-- of a job with this command that came to this end, and of which this text is out: of a run by what is left of that very run; of an evaluation that; of a check the calls that are refused for certain
+abbrev pub TellsOf : List Operation → Command → Options → ScriptView → (text : List ℕ) → End → (out more : List ℕ) → Type 0
+TellsOf ops Run options script text end out more = (left : Left) × Leaves ops Run options script end out left × TellsEnd ops script text left end more
+TellsOf ops Eval options script text end out more = TellsEvaluation ops script text more
+TellsOf ops Check options script text end out more = AreTold text (certain_in ops script) [] more
 
 -- what is told in the place of that where memory is wanting
 abbrev pub unexplained : List ℕ
 unexplained = codes "out of memory: no more is explained\n"
 
 -- where more is asked for, that is told, or that memory is wanting for it
-abbrev pub TellsMore : (explains : Bool) → List Operation → Command → ScriptView → (text : List ℕ) → End → (more : List ℕ) → Type 0
-TellsMore explains ops command script text end more = explains ≡ true → (more ≡ unexplained) ⊎ TellsOf ops command script text end more
+abbrev pub TellsMore : (explains : Bool) → List Operation → Job → ScriptView → (text : List ℕ) → End → (out more : List ℕ) → Type 0
+TellsMore explains ops job script text end out more = explains ≡ true → (more ≡ unexplained) ⊎ TellsOf ops job.command job.options script text end out more
 
 -- what is found in a script for a job of this command, where that is asked for
 abbrev pub IsFound : List Operation → Command → ScriptView → Found → Type 0
@@ -104,10 +124,10 @@ IsFound ops command script (F.Certain found) = ⊥
 IsFound ops Check script (F.InEvaluation found) = ⊥
 IsFound ops command script (F.InEvaluation found) = AreFindings ops script (map waiting_view found.waiting.items) (map complaint_view found.complaints.items) (map complaint_view found.unheard.items)
 
--- what is told by what was found, where a job came to this: nothing where nothing was, or no memory was there for it
-abbrev pub HasTold : ScriptView → (text : List ℕ) → Found → Result End RunError → (more : List ℕ) → Type 0
-HasTold script text F.Nothing answer more = more ≡ []
-HasTold script text F.Wanting answer more = ⊥
-HasTold script text (F.Certain found) answer more = AreTold text (map complaint_view found.items) [] more
-HasTold script text (F.InEvaluation found) answer more = IfOk answer (λ end. (ops : List Operation)
-    → AreFindings ops script (map waiting_view found.waiting.items) (map complaint_view found.complaints.items) (map complaint_view found.unheard.items) → TellsEnd ops script text end more)
+-- what is told by what was found and by what is left, where a job came to this: nothing where nothing was, or no memory was there for it
+abbrev pub HasTold : ScriptView → (text : List ℕ) → Found → Left → Result End RunError → (more : List ℕ) → Type 0
+HasTold script text F.Nothing left answer more = more ≡ []
+HasTold script text F.Wanting left answer more = ⊥
+HasTold script text (F.Certain found) left answer more = AreTold text (map complaint_view found.items) [] more
+HasTold script text (F.InEvaluation found) left answer more = IfOk answer (λ end. (ops : List Operation)
+    → AreFindings ops script (map waiting_view found.waiting.items) (map complaint_view found.complaints.items) (map complaint_view found.unheard.items) → TellsEnd ops script text left end more)

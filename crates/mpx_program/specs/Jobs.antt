@@ -7,7 +7,6 @@ use Rattle.clap.specs.declared.error.kind.ErrorKind.{ErrorKind}
 use Rattle.clap.specs.declared.error.kind.ErrorKind.TheVariants as kind
 use Rattle.mpx_num.specs.declared.own.Operation.{Operation}
 use Rattle.mpx_threads.specs.Gates.{nowhere}
-use Rattle.mpx_statement.specs.declared.job.Command.{Command}
 use Rattle.mpx_statement.specs.declared.job.Job.{Job}
 use Rattle.mpx_script.specs.Reading.{reading}
 use Rattle.mpx_script.specs.ScriptView.{ScriptView}
@@ -40,14 +39,14 @@ abbrev pub StrictOn : List Operation → Invocation → (text : List ℕ) → Re
 StrictOn ops call text (Ok end) complains = IsStrict ops call text complains
 StrictOn ops call text (Err error) complains = Unit {0}
 
--- where a job comes to an end, what is told more is of a script's evaluation
+-- what is told more of a job with a text that is read so, that came to this end, and of which that text is out
+abbrev pub TellsRead : (explains : Bool) → List Operation → Job → Result ScriptView ScriptError → (text : List ℕ) → End → (out more : List ℕ) → Type 0
+TellsRead explains ops job (Ok script) text end out more = TellsMore explains ops job script text end out more
+TellsRead explains ops job (Err refusal) text end out more = Unit {0}
 
-abbrev pub TellsRead : (explains : Bool) → List Operation → Command → Result ScriptView ScriptError → (text : List ℕ) → End → (more : List ℕ) → Type 0
-TellsRead explains ops command (Ok script) text end more = TellsMore explains ops command script text end more
-TellsRead explains ops command (Err refusal) text end more = Unit {0}
-
-abbrev pub ExplainsOn : List Operation → Invocation → (text : List ℕ) → Result End RunError → (more : List ℕ) → Type 0
-ExplainsOn ops call text answer more = IfOk answer (λ end. TellsRead call.flags.explain ops call.job.command (reading ops text) text end more)
+-- where a job comes to an end, a text is out, and what is told more is of the very job that printed it
+abbrev pub ExplainsOn : List Operation → Invocation → (text : List ℕ) → (old new : Option (List ℕ)) → Result End RunError → (more : List ℕ) → Type 0
+ExplainsOn ops call text old new answer more = IfOk answer (λ end. (out : List ℕ) × Appends old new out × TellsRead call.flags.explain ops call.job (reading ops text) text end out more)
 
 -- a call's job is done with a text by the job's own operations, and no gate ends it
 pub record AnswersText (Is : OfRuns) (ops : List Operation) (call : Invocation) (text : List ℕ) (old new : Option (List ℕ)) (code : ℕ) (Says : List ℕ → Type 0) : Type 0 where
@@ -57,7 +56,7 @@ pub record AnswersText (Is : OfRuns) (ops : List Operation) (call : Invocation) 
   pub complains : Bool
   pub strict : StrictOn ops call text answer complains
   pub more : List ℕ
-  pub explains : ExplainsOn ops call text answer more
+  pub explains : ExplainsOn ops call text old new answer more
   pub exits : Exits answer complains call.flags.explain more code Says
 
 -- the same of the text that a reader gives
@@ -65,8 +64,8 @@ abbrev pub StrictBy : List Operation → Invocation → (there left : Option (Li
 StrictBy ops call there left (Ok end) complains = (text : List ℕ) × TakesInput there left text × IsStrict ops call text complains
 StrictBy ops call there left (Err error) complains = Unit {0}
 
-abbrev pub ExplainsBy : List Operation → Invocation → (there left : Option (List ℕ)) → Result End RunError → (more : List ℕ) → Type 0
-ExplainsBy ops call there left answer more = IfOk answer (λ end. (text : List ℕ) × TakesInput there left text × TellsRead call.flags.explain ops call.job.command (reading ops text) text end more)
+abbrev pub ExplainsBy : List Operation → Invocation → (there left old new : Option (List ℕ)) → Result End RunError → (more : List ℕ) → Type 0
+ExplainsBy ops call there left old new answer more = IfOk answer (λ end. (text : List ℕ) × TakesInput there left text × (out : List ℕ) × Appends old new out × TellsRead call.flags.explain ops call.job (reading ops text) text end out more)
 
 -- a reader gives a text that is read as this script, and whether it has calls to complain of is as `--strict` asks
 pub record IsPrepared (ops : List Operation) (call : Invocation) (there left : Option (List ℕ)) (text : List ℕ) (script : ScriptView) (complains : Bool) : Type 0 where
@@ -80,14 +79,14 @@ FailsBefore ops job there left why = (old : Option (List ℕ)) → RunsUngated I
 
 -- a call's job is done with a script by the job's own operations, no gate ends it, and its answer gives the status and what is said. What is asked for
 -- beside the job changes nothing of what is printed: by `--strict` the status is 6 where it is 0 or 3 else and the script has calls to complain of, and the
--- standard error is told so; by `--explain` it is told more, of the script's evaluation
+-- standard error is told so; by `--explain` it is told more, of the script's evaluation and of a run that ended early
 pub record DoesJobWith (Is : OfRuns) (ops : List Operation) (call : Invocation) (there left old new : Option (List ℕ)) (code : ℕ) (Says : List ℕ → Type 0) : Type 0 where
   pub answer : Result End RunError
   pub runs : RunsUngated Is ops call.job there left old new answer
   pub complains : Bool
   pub strict : StrictBy ops call there left answer complains
   pub more : List ℕ
-  pub explains : ExplainsBy ops call there left answer more
+  pub explains : ExplainsBy ops call there left old new answer more
   pub exits : Exits answer complains call.flags.explain more code Says
 
 -- a call is refused, for a reason of that kind

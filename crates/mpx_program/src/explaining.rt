@@ -1,11 +1,13 @@
 //! What `--explain` tells beside why a run ended.
-ghost use Rattle.std.specs.Prelude.{◌≡◌, [], IfErr, IfOk, List, OnOk, false, map, true};
+ghost use Rattle.std.specs.Prelude.{◌≡◌, [], IfErr, IfOk, List, OnOk, false, length, map, take, true};
 ghost use Rattle.mpx_num.specs.declared.own.Operation.{Operation};
 ghost use Rattle.mpx_eval.specs.Findings.{AreFindings};
 ghost use Rattle.mpx_eval.specs.Found.{complaint_view, waiting_view};
 ghost use Rattle.mpx_explain.specs.Findings.{AreTold};
+ghost use Rattle.mpx_run.specs.Left.{transcripts_in};
+ghost use Rattle.mpx_run.specs.declared.report.Left.{Left};
 ghost use Rattle.mpx_waiting.specs.ToldLines.{waiting_told};
-ghost use Rattle.mpx_program.specs.Explained.{AreCalls, HasTold, IsBehind, IsHeaded, IsToldOfRun, TellsEarly, TellsEnd, TellsEvaluation, unexplained};
+ghost use Rattle.mpx_program.specs.Explained.{AreCalls, HasTold, IsBehind, IsHeaded, IsToldOfRun, TellsEarly, TellsEnd, TellsEvaluation, processes_in, processes_of, unexplained};
 
 use crate::found::Found;
 use crate::prepared::Prepared;
@@ -35,7 +37,7 @@ pub(crate) fn explained(
     left: &Left,
 ) -> Result<Vec<u8>, OutOfMemory>
     ensures off { call.now.flags.explain ≡ false → IfOk result (λ told. told.items ≡ []) }
-    ensures on { call.now.flags.explain ≡ true → IfOk result (λ told. HasTold prepared.now.script prepared.now.text.items prepared.now.found answer.now told.items) }
+    ensures on { call.now.flags.explain ≡ true → IfOk result (λ told. HasTold prepared.now.script prepared.now.text.items prepared.now.found left.now answer.now told.items) }
 {
     if !call.flags.explain {
         return Ok(Vec::new(alloc));
@@ -86,7 +88,7 @@ fn found_told(
     answer: &Result<End, RunError>,
     left: &Left,
 ) -> Result<Vec<u8>, OutOfMemory>
-    ensures { IfOk result (λ told. HasTold prepared.now.script prepared.now.text.items prepared.now.found answer.now told.items) }
+    ensures { IfOk result (λ told. HasTold prepared.now.script prepared.now.text.items prepared.now.found left.now answer.now told.items) }
 {
     match &prepared.found {
         Found::Nothing => Ok(Vec::new(alloc)),
@@ -119,7 +121,7 @@ fn end_told(
     left: &Left,
 ) -> Result<Vec<u8>, OutOfMemory>
     ensures { IfOk result (λ told. IfOk answer.now (λ end. (ops : List Operation) → AreFindings ops prepared.now.script (map waiting_view found.now.waiting.items) (map complaint_view found.now.complaints.items) (map complaint_view found.now.unheard.items)
-        → TellsEnd ops prepared.now.script prepared.now.text.items end told.items)) }
+        → TellsEnd ops prepared.now.script prepared.now.text.items left.now end told.items)) }
 {
     match answer {
         Ok(End::Finished) => evaluation_told(alloc, prepared, found),
@@ -158,7 +160,7 @@ fn early_told(
     found: &Findings,
 ) -> Result<Vec<u8>, OutOfMemory>
     ensures { IfOk result (λ told. (ops : List Operation) → AreFindings ops prepared.now.script (map waiting_view found.now.waiting.items) (map complaint_view found.now.complaints.items) (map complaint_view found.now.unheard.items)
-        → TellsEarly ops prepared.now.script prepared.now.text.items ranks.now.items told.items) }
+        → TellsEarly ops prepared.now.script prepared.now.text.items left.now ranks.now.items told.items) }
 {
     let mut told = Vec::new(alloc);
     let waiting = ranks.as_slice();
@@ -200,7 +202,7 @@ fn push_headed(calls: &[u8], told: &mut Vec<u8>) -> Result<(), OutOfMemory>
     Ok(())
 }
 
-// Where these ranks wait in a run.
+// Where these ranks wait in the run of which this is left.
 fn push_run_end(
     alloc: Global,
     prepared: &Prepared,
@@ -209,7 +211,7 @@ fn push_run_end(
     found: &Findings,
     told: &mut Vec<u8>,
 ) -> Result<(), OutOfMemory>
-    ensures { OnOk result (IsToldOfRun prepared.now.script prepared.now.text.items ranks.now told.old.items told.new.items) }
+    ensures { OnOk result (IsToldOfRun prepared.now.script prepared.now.text.items left.now ranks.now told.old.items told.new.items) }
 {
     let nodes = nodes_of(alloc, left, prepared.script.ranks())?;
     let lines = counts_of(alloc, left)?;
@@ -237,7 +239,8 @@ fn push_run(
     nodes: &[&Node],
     told: &mut Vec<u8>,
 ) -> Result<(), OutOfMemory>
-    ensures { OnOk result (IsToldOfRun script.now text.now ranks.now told.old.items told.new.items) }
+    ensures { OnOk result ((left : Left) → processes_of nodes.now ≡ processes_in script.now.ranks left → lines.now ≡ map length (transcripts_in left)
+        → IsToldOfRun script.now text.now left ranks.now told.old.items told.new.items) }
 {
     let run = EndedRun {
         script,
@@ -250,7 +253,9 @@ fn push_run(
 }
 
 // How many lines each rank has at the end of a run.
-fn counts_of(alloc: Global, left: &Left) -> Result<Vec<usize>, OutOfMemory> {
+fn counts_of(alloc: Global, left: &Left) -> Result<Vec<usize>, OutOfMemory>
+    ensures { IfOk result (λ counts. counts.items ≡ map length (transcripts_in left.now)) }
+{
     let mut counts = Vec::new(alloc);
     for lines in &left.transcripts {
         counts.push(lines.len())?;
@@ -259,15 +264,27 @@ fn counts_of(alloc: Global, left: &Left) -> Result<Vec<usize>, OutOfMemory> {
 }
 
 // The nodes of so many ranks at the end of a run.
-fn nodes_of(alloc: Global, left: &Left, ranks: u8) -> Result<Vec<&Node>, OutOfMemory> {
+fn nodes_of(alloc: Global, left: &Left, ranks: u8) -> Result<Vec<&Node>, OutOfMemory>
+    ensures { IfOk result (λ nodes. processes_of nodes.items ≡ processes_in ranks left.now) }
+{
     let mut nodes = Vec::new(alloc);
-    for node in left.nodes.iter().take(usize::from(ranks)) {
+    let simulated = of_ranks(left.nodes.as_slice(), ranks);
+    for node in simulated {
         nodes.push(node)?;
     }
-    for port in left.ports.iter().take(usize::from(ranks)) {
+    let ports = of_ranks(left.ports.as_slice(), ranks);
+    for port in ports {
         nodes.push(port.node())?;
     }
     Ok(nodes)
+}
+
+// Those of so many ranks, which stand first.
+fn of_ranks<T>(all: &[T], ranks: u8) -> &[T]
+    ensures { result.now ≡ take ranks all.now }
+{
+    let most = usize::from(ranks);
+    if most < all.len() { &all[..most] } else { all }
 }
 
 // What is found in the evaluation.

@@ -3,6 +3,7 @@ ghost use Rattle.std.specs.Prelude.{◌≡◌, IfErr, IfOk, Ok, false, string_by
 ghost use Rattle.clap.specs.Words.{kind_of};
 ghost use Rattle.mpx_script.specs.Reading.{reading};
 ghost use Rattle.mpx_run.specs.Founded.{IsFounded};
+ghost use Rattle.mpx_run.specs.Left.{Leaves};
 ghost use Rattle.mpx_run.specs.Reports.{IsPrinted};
 ghost use Rattle.mpx_run.specs.Texts.{ComesTo, IsRefusedFor, is_in_threads};
 ghost use Rattle.mpx_program.specs.Explained.{IsFound};
@@ -120,6 +121,7 @@ fn answer<W: Write, E: Write>(
     requires strict { IsStrict (⟦<Ops as Listing>⟧.operations ops.now) call.now prepared.now.text.items prepared.now.complains }
     requires found { call.now.flags.explain ≡ true → IsFound (⟦<Ops as Listing>⟧.operations ops.now) call.now.job.command prepared.now.script prepared.now.found }
     requires comes { IfOk printed (λ p. ComesTo IsFounded (⟦<Ops as Listing>⟧.operations ops.now) call.now.job.command call.now.job.options prepared.now.script p.end (string_bytes p.text)) }
+    requires left { IfOk printed (λ p. Leaves (⟦<Ops as Listing>⟧.operations ops.now) call.now.job.command call.now.job.options prepared.now.script p.end (string_bytes p.text) p.left) }
     requires refused { IfErr printed (λ e. IsRefusedFor call.now.job prepared.now.script e) }
     ensures { AnswersText IsFounded (⟦<Ops as Listing>⟧.operations ops.now) call.now prepared.now.text.items (W.contents out.old) (W.contents out.new) result.status (Tells (E.contents err.old) (E.contents err.new) result.told) }
 {

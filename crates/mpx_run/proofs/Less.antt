@@ -15,8 +15,8 @@ use Rattle.mpx_run.specs.declared.texts.RunError.TheVariants as E
 
 -- what is founded is printed
 founded_prints : (threads : Bool) (ops : List Operation) (options : Options) (script : ScriptView) (end : End) (text : List ℕ) → IsFoundedIn threads ops options script end text → IsPrinted ops options script end text
-founded_prints true ops options script end text f = record { transcripts = f.transcripts; waiting = f.waiting; prints = f.prints }
-founded_prints false ops options script end text f = record { transcripts = f.transcripts; waiting = f.waiting; prints = f.prints }
+founded_prints true ops options script end text f = record { transcripts = f.transcripts; waiting = f.by.waiting; prints = f.by.prints }
+founded_prints false ops options script end text f = record { transcripts = f.transcripts; waiting = f.by.waiting; prints = f.by.prints }
 
 pub comes_printed : (ops : List Operation) (command : Command) (options : Options) (script : ScriptView) (end : End) (text : List ℕ) → ComesTo IsFounded ops command options script end text → ComesTo IsPrinted ops command options script end text
 comes_printed ops Run options script end text c = (c.0, founded_prints options.threads ops options script end text c.1)

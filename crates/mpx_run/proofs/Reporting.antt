@@ -1,11 +1,13 @@
 -- What is reported of a run.
 use Rattle.std.proofs.Common.{◌≡◌, ℕ, zero, suc, ◌<◌, ◌≤◌, Bool, true, false, nat_le, List, [], ◌++◌, length, Some, refl, sym, ap, ◌∙◌, subst, arith}
-use Rattle.std.specs.Prelude.{slice_get, unwrap_or, IfOk, IfSome, Result, Ok, Err, if◌then◌else◌}
+use Rattle.std.specs.Prelude.{map, slice_get, unwrap_or, IfOk, IfSome, Result, Ok, Err, if◌then◌else◌}
 use Rattle.std.proofs.lemmas.Bool.Decides.{nat_tests}
 use Rattle.std.proofs.lemmas.Option.{same_Some}
 use Rattle.mpx_num.specs.declared.own.Operation.{Operation}
 use Rattle.atomic_table.specs.Seated.{TableId}
 use Rattle.mpx_node.specs.Nodes.{NodeView}
+use Rattle.mpx_node.specs.Shown.{node_of}
+use Rattle.mpx_node.specs.declared.node.Node.{Node}
 use Rattle.mpx_bus.specs.Ports.{PortView}
 use Rattle.mpx_script.specs.ScriptView.{ScriptView}
 use Rattle.mpx_meaning.specs.Evaluation.{State}
@@ -18,13 +20,15 @@ use Rattle.mpx_sim.specs.Turns.{AreAfter}
 use Rattle.mpx_system.specs.Runs.{IsRun, IsOver, Begin, AreAll, AreWhole, IsEvaluationOf}
 use Rattle.mpx_system.proofs.Results.{some_at}
 use Rattle.mpx_threads.specs.ThreadRuns.{IsThreadRun}
-use Rattle.mpx_run.specs.Founded.{IsSimulated, IsThreaded, cause_of, thread_cause}
+use Rattle.mpx_run.specs.Founded.{IsFoundedIn, IsSimulatedBy, IsThreadedBy, cause_of, thread_cause}
+use Rattle.mpx_run.specs.Left.{IsLeftIn, transcripts_in}
 use Rattle.mpx_run.specs.Reports.{EachWaits, IsAllOf, IsBy, IsOfRun, IsEvaluatedText, EndsSo, MayTell, lines_at, told_cause}
 use Rattle.mpx_run.proofs.Waiting.{simulated_waits, threaded_waits}
 use Rattle.mpx_run.specs.declared.end.Cause.{Cause}
 use Rattle.mpx_run.specs.declared.end.Cause.TheVariants.{InEveryRun, TurnsUsedUp, AllLost}
 use Rattle.mpx_run.specs.declared.end.End.{End}
 use Rattle.mpx_run.specs.declared.end.End.TheVariants.{Finished, Waiting}
+use Rattle.mpx_run.specs.declared.report.Left.{Left}
 
 -- THE TEXT
 
@@ -32,6 +36,16 @@ use Rattle.mpx_run.specs.declared.end.End.TheVariants.{Finished, Waiting}
 pub if_three : {T E : Type 0} {P Q R S : T → Type 0} (r : Result T E) → IfOk r P → IfOk r Q → IfOk r R → ((x : T) → P x → Q x → R x → S x) → IfOk r S
 if_three (Ok x) p q s f = f x p q s
 if_three (Err e) p q s f = tt
+
+-- two are one
+pub if_both : {T E : Type 0} (P Q : T → Type 0) (r : Result T E) → IfOk r P → IfOk r Q → IfOk r (λ x. P x × Q x)
+if_both P Q (Ok x) p q = (p, q)
+if_both P Q (Err e) p q = tt
+
+-- one makes another
+pub if_ok_then : {T E : Type 0} {P Q : T → Type 0} (r : Result T E) → IfOk r P → ((x : T) → P x → Q x) → IfOk r Q
+if_ok_then (Ok x) p f = f x p
+if_ok_then (Err e) p f = tt
 
 text_same : (f g : (p : ℕ) → List (List ℕ)) (n : ℕ) → ((p : ℕ) → p < n → f p ≡ g p) → text_upto f n ≡ text_upto g n
 text_same f g zero h = refl
@@ -116,10 +130,8 @@ module _ (ops : List Operation) (options : Options) (script : ScriptView) (nodes
     (begins : (e : State) → IsEvaluationOf ops script e → Begin transcripts e) (done : (e : State) → IsEvaluationOf ops script e → AreWhole transcripts waiting e)
     (all : turns < options.turns → options.loss < 100 → (e : State) → IsEvaluationOf ops script e → AreAll transcripts waiting script.ranks e)
     (end : End) (text : List ℕ) (lines : text ≡ text_upto (lines_at transcripts) script.ranks) (ends : EndsSo end waiting) (by : IsBy (cause_of turns options) end) where
-  pub simulated : IsSimulated ops options script end text
+  pub simulated : IsSimulatedBy nodes transcripts ops options script end text
   simulated = record {
-    nodes = nodes;
-    transcripts = transcripts;
     waiting = waiting;
     turns = turns;
     run = run;
@@ -140,11 +152,9 @@ module _ (ops : List Operation) (options : Options) (script : ScriptView) (table
     (begins : (e : State) → IsEvaluationOf ops script e → Begin transcripts e) (done : (e : State) → IsEvaluationOf ops script e → AreWhole transcripts waiting e)
     (all : rests ≡ true → (e : State) → IsEvaluationOf ops script e → AreAll transcripts waiting script.ranks e)
     (end : End) (text : List ℕ) (lines : text ≡ text_upto (lines_at transcripts) script.ranks) (ends : EndsSo end waiting) (by : IsBy (thread_cause rests) end) where
-  pub threaded : IsThreaded ops options script end text
+  pub threaded : IsThreadedBy ports transcripts ops options script end text
   threaded = record {
     table = table;
-    ports = ports;
-    transcripts = transcripts;
     waiting = waiting;
     rests = rests;
     run = run;
@@ -152,10 +162,6 @@ module _ (ops : List Operation) (options : Options) (script : ScriptView) (table
         (thread_cause rests) (may_tell_in_threads rests options threads) (λ e. all (was_at_rest rests e)) end text lines ends by;
     cause = by;
   }
-
-pub if_ok_then : {T E : Type 0} {P Q : T → Type 0} (r : Result T E) → IfOk r P → ((x : T) → P x → Q x) → IfOk r Q
-if_ok_then (Ok x) p f = f x p
-if_ok_then (Err e) p f = tt
 
 pub evaluated : (ops : List Operation) (script : ScriptView) (transcripts : List (List (List ℕ))) (waiting : List ℕ) (end : End) (text : List ℕ) → IsEvaluated ops script transcripts waiting
     → text ≡ text_upto (lines_at transcripts) script.ranks → EndsSo end waiting → IsBy InEveryRun end → IsEvaluatedText ops script end text
@@ -166,4 +172,19 @@ evaluated ops script transcripts waiting end text v lines ends by = record {
   cause = by;
 }
 
--- LINES
+-- WHAT IS LEFT
+
+-- of a run are left its own lines and processes
+module _ (ops : List Operation) (options : Options) (script : ScriptView) (end : End) (text : List ℕ) (transcripts : List (List (List ℕ))) (left : Left) (lines : transcripts_in left ≡ transcripts) where
+  pub left_simulated : (nodes : List Node) → left.nodes.items ≡ nodes → left.ports.items ≡ [] → IsSimulatedBy (map node_of nodes) transcripts ops options script end text → IsLeftIn false ops options script end text left
+  left_simulated nodes are none run =
+      (subst (λ ns. IsSimulatedBy (map node_of ns) (transcripts_in left) ops options script end text) (sym are) (subst (λ ts. IsSimulatedBy (map node_of nodes) ts ops options script end text) (sym lines) run), none)
+
+  pub left_threaded : (ports : List PortView) → left.ports.items ≡ ports → left.nodes.items ≡ [] → IsThreadedBy ports transcripts ops options script end text → IsLeftIn true ops options script end text left
+  left_threaded ports are none run =
+      (subst (λ ps. IsThreadedBy ps (transcripts_in left) ops options script end text) (sym are) (subst (λ ts. IsThreadedBy ports ts ops options script end text) (sym lines) run), none)
+
+-- what is left of a run tells on what that stands
+pub left_founded : (threads : Bool) (ops : List Operation) (options : Options) (script : ScriptView) (end : End) (text : List ℕ) (left : Left) → IsLeftIn threads ops options script end text left → IsFoundedIn threads ops options script end text
+left_founded true ops options script end text left is = record { ports = left.ports.items; transcripts = transcripts_in left; by = is.0 }
+left_founded false ops options script end text left is = record { nodes = map node_of left.nodes.items; transcripts = transcripts_in left; by = is.0 }

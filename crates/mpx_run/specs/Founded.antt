@@ -27,10 +27,8 @@ abbrev pub thread_cause : (rests : Bool) → Cause
 thread_cause true = InEveryRun
 thread_cause false = Unknown
 
--- of a simulated run: one world, by what is drawn of the seed in so many turns, from which the cause follows
-pub record IsSimulated (ops : List Operation) (options : Options) (script : ScriptView) (end : End) (text : List ℕ) : Type 0 where
-  pub nodes : List NodeView
-  pub transcripts : List (List (List ℕ))
+-- of a simulated run with these nodes and these lines: one world, by what is drawn of the seed in so many turns, from which the cause follows
+pub record IsSimulatedBy (nodes : List NodeView) (transcripts : List (List (List ℕ))) (ops : List Operation) (options : Options) (script : ScriptView) (end : End) (text : List ℕ) : Type 0 where
   pub waiting : List ℕ
   pub turns : ℕ
   pub run : IsRun ops script options.relays nodes transcripts waiting
@@ -39,16 +37,26 @@ pub record IsSimulated (ops : List Operation) (options : Options) (script : Scri
   pub ended : AllMadeOr turns options.turns (IsOver options.loss nodes waiting)
   pub cause : IsBy (cause_of turns options) end
 
--- of a run in threads, in which each process counts its turns: the ports of one bus, which say whether it rests, from which the cause follows
-pub record IsThreaded (ops : List Operation) (options : Options) (script : ScriptView) (end : End) (text : List ℕ) : Type 0 where
-  pub table : TableId
-  pub ports : List PortView
+-- of a simulated run, with its nodes and its lines
+pub record IsSimulated (ops : List Operation) (options : Options) (script : ScriptView) (end : End) (text : List ℕ) : Type 0 where
+  pub nodes : List NodeView
   pub transcripts : List (List (List ℕ))
+  pub by : IsSimulatedBy nodes transcripts ops options script end text
+
+-- of a run in threads with these ports and these lines, in which each process counts its turns: all ports are of one bus, and say whether it rests, from which the cause follows
+pub record IsThreadedBy (ports : List PortView) (transcripts : List (List (List ℕ))) (ops : List Operation) (options : Options) (script : ScriptView) (end : End) (text : List ℕ) : Type 0 where
+  pub table : TableId
   pub waiting : List ℕ
   pub rests : Bool
   pub run : IsThreadRun ops script options.relays table ports transcripts waiting rests
   pub prints : IsOfRun ops options script transcripts waiting end text
   pub cause : IsBy (thread_cause rests) end
+
+-- of a run in threads, with its ports and its lines
+pub record IsThreaded (ops : List Operation) (options : Options) (script : ScriptView) (end : End) (text : List ℕ) : Type 0 where
+  pub ports : List PortView
+  pub transcripts : List (List (List ℕ))
+  pub by : IsThreadedBy ports transcripts ops options script end text
 
 abbrev pub IsFoundedIn : (threads : Bool) → List Operation → Options → ScriptView → End → List ℕ → Type 0
 IsFoundedIn true ops options script end text = IsThreaded ops options script end text

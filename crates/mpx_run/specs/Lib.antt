@@ -1,3 +1,4 @@
 pub mod Reports
 pub mod Founded
+pub mod Left
 pub mod Texts

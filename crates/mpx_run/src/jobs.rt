@@ -1,6 +1,7 @@
 //! What a job prints with a script that is read.
 ghost use Rattle.std.specs.Prelude.{◌≡◌, ◌+◌, ◌<◌, ◌≤◌, IfErr, IfOk, IsFalse, IsTrue, false, string_bytes, true};
 ghost use Rattle.mpx_run.specs.Founded.{IsFounded};
+ghost use Rattle.mpx_run.specs.Left.{Leaves};
 ghost use Rattle.mpx_run.specs.Reports.{IsPrinted};
 ghost use Rattle.mpx_run.specs.Texts.{ComesTo, IsEndedFor, IsRefusedFor, is_in_threads};
 
@@ -45,6 +46,7 @@ pub fn print_job<T: Threads + Sync>(
     requires alone { is_in_threads job.now ≡ false }
     ensures prints { IfOk result (λ printed. ComesTo IsPrinted (⟦<Ops as Listing>⟧.operations ops.now) job.now.command job.now.options script.now printed.end (string_bytes printed.text)) }
     ensures founded { IfOk result (λ printed. ComesTo IsFounded (⟦<Ops as Listing>⟧.operations ops.now) job.now.command job.now.options script.now printed.end (string_bytes printed.text)) }
+    ensures left { IfOk result (λ printed. Leaves (⟦<Ops as Listing>⟧.operations ops.now) job.now.command job.now.options script.now printed.end (string_bytes printed.text) printed.left) }
     ensures refused { IfErr result (λ e. IsRefusedFor job.now script.now e) }
 {
     if has_too_many(job, script.ranks()) {
@@ -76,6 +78,7 @@ pub fn print_job_in_threads<T: Threads + Wait + Sync, G: Gate + Sync>(
     requires threads { is_in_threads job.now ≡ true }
     ensures prints { IfOk result (λ printed. ComesTo IsPrinted (⟦<Ops as Listing>⟧.operations ops.now) job.now.command job.now.options script.now printed.end (string_bytes printed.text)) }
     ensures founded { IfOk result (λ printed. ComesTo IsFounded (⟦<Ops as Listing>⟧.operations ops.now) job.now.command job.now.options script.now printed.end (string_bytes printed.text)) }
+    ensures left { IfOk result (λ printed. Leaves (⟦<Ops as Listing>⟧.operations ops.now) job.now.command job.now.options script.now printed.end (string_bytes printed.text) printed.left) }
     ensures refused { IfErr result (λ e. IsEndedFor (G.gives_up gate.now) job.now script.now e) }
 {
     if has_too_many(job, script.ranks()) {

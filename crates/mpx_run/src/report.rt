@@ -4,6 +4,7 @@ ghost use Rattle.mpx_meaning.specs.Reports.{transcripts_of};
 ghost use Rattle.mpx_meaning.specs.Transcripts.{rank_text, text_upto};
 ghost use Rattle.mpx_threads.specs.Gates.{GivesUpAmong};
 ghost use Rattle.mpx_run.specs.Founded.{IsSimulated, IsThreaded, cause_of, thread_cause};
+ghost use Rattle.mpx_run.specs.Left.{IsLeftIn, transcripts_in};
 ghost use Rattle.mpx_run.specs.Reports.{EndsSo, IsBy, IsEvaluatedText, lines_at};
 
 use crate::end::{Cause, End};
@@ -31,7 +32,7 @@ pub struct Printed {
     pub left: Left,
 }
 
-/// What is left of a job that has ended: to explain it by. No clause says what it is.
+/// What is left of a job that has ended: to explain it by. Of a run it is what is left of that very run, whose text and end are printed.
 #[derive(Drop)]
 pub struct Left {
     /// The lines of each rank, of which the text is made; none of a script that is read alone.
@@ -64,7 +65,8 @@ pub(crate) fn print<T: Threads + Sync>(
 ) -> Result<Printed, OutOfMemory>
     requires few { script.now.ranks + options.now.relays ≤ 64 }
     requires alone { options.now.threads ≡ false }
-    ensures { IfOk result (λ printed. IsSimulated (⟦<Ops as Listing>⟧.operations ops.now) options.now script.now printed.end (string_bytes printed.text)) }
+    ensures founded { IfOk result (λ printed. IsSimulated (⟦<Ops as Listing>⟧.operations ops.now) options.now script.now printed.end (string_bytes printed.text)) }
+    ensures left { IfOk result (λ printed. IsLeftIn false (⟦<Ops as Listing>⟧.operations ops.now) options.now script.now printed.end (string_bytes printed.text) printed.left) }
 {
     let run = run_sim_observed(rt, alloc, script, options, observer, ops)?;
     let cause = cause_of(run.turns, options);
@@ -98,6 +100,7 @@ pub(crate) fn print_threads<T: Threads + Wait + Sync, G: Gate + Sync>(
     requires few { script.now.ranks + options.now.relays ≤ 64 }
     requires threads { options.now.threads ≡ true }
     ensures founded { IfOk result (λ printed. IsThreaded (⟦<Ops as Listing>⟧.operations ops.now) options.now script.now printed.end (string_bytes printed.text)) }
+    ensures left { IfOk result (λ printed. IsLeftIn true (⟦<Ops as Listing>⟧.operations ops.now) options.now script.now printed.end (string_bytes printed.text) printed.left) }
     ensures gave_up { IfErr result (λ e. e ≡ ThreadsError.GateGaveUp → GivesUpAmong (G.gives_up gate.now) (script.now.ranks + options.now.relays) options.now.turns) }
 {
     let looks = observer.follows_threads();
@@ -137,7 +140,7 @@ pub(crate) fn print_evaluation(
     print_report(alloc, report, nodes, ports, script.ranks(), cause)
 }
 
-// The lines of all ranks, and who waits for this cause.
+// The lines of all ranks, and who waits for this cause; what is left are these lines, nodes and ports.
 fn print_report(
     alloc: Global,
     report: Report,
@@ -150,6 +153,9 @@ fn print_report(
     ensures text { IfOk result (λ printed. string_bytes printed.text ≡ text_upto (lines_at (transcripts_of report)) ranks) }
     ensures end { IfOk result (λ printed. EndsSo printed.end report.waiting.items) }
     ensures cause { IfOk result (λ printed. IsBy cause printed.end) }
+    ensures lines { IfOk result (λ printed. transcripts_in printed.left ≡ transcripts_of report) }
+    ensures nodes { IfOk result (λ printed. printed.left.nodes.items ≡ nodes.items) }
+    ensures ports { IfOk result (λ printed. printed.left.ports.items ≡ ports.items) }
 {
     let text = text_of(alloc, &report, ranks)?;
     let end = end_of(report.waiting, cause);
