@@ -4,9 +4,13 @@ use Rattle.std.specs.Prelude.{◌≢◌, ◌⊎◌}
 use Rattle.std.specs.Io.KnownBytes.{Keeps}
 use Rattle.mpx_num.specs.declared.own.Operation.{Operation}
 use Rattle.mpx_threads.specs.Gates.{nowhere}
+use Rattle.mpx_statement.specs.declared.job.Command.{Command}
+use Rattle.mpx_statement.specs.declared.job.Command.TheVariants.{Run, Eval, Check}
 use Rattle.mpx_statement.specs.declared.job.Job.{Job}
+use Rattle.mpx_statement.specs.declared.job.Options.{Options}
 use Rattle.mpx_script.specs.Reading.{reading}
 use Rattle.mpx_script.specs.ScriptView.{ScriptView}
+use Rattle.mpx_script.specs.declared.faults.ScriptError.{ScriptError}
 use Rattle.mpx_run.specs.Texts.{ComesTo, IsWritten, Prints, PrintsUngated, RunsUngated, TakesInput, TakesPart, told}
 use Rattle.mpx_run.specs.declared.streams.ReadFault.{ReadFault}
 use Rattle.mpx_run.specs.declared.streams.ReadFault.TheVariants as F
@@ -16,12 +20,11 @@ use Rattle.mpx_run.specs.declared.texts.RunError.{RunError}
 use Rattle.mpx_run.specs.declared.texts.RunError.TheVariants.{GateGaveUp}
 use Rattle.mpx_run.specs.Founded.{IsFounded}
 use Rattle.mpx_run.specs.Left.{Leaves}
-use Rattle.mpx_run.specs.Reports.{IsPrinted}
 use Rattle.mpx_run.proofs.Less.{runs_printed}
 use Rattle.mpx_run.proofs.Pieces.{gated_prints, prints_ungated, runs_ungated, written_prints}
 use Rattle.mpx_program.proofs.Telling.{found_tells}
 use Rattle.mpx_program.specs.Explained.{HasTold, IsFound, TellsOf, unexplained}
-use Rattle.mpx_program.specs.Jobs.{AnswersText, DoesJobWith, Exits, ExplainsBy, ExplainsOn, FailsBefore, StrictBy, StrictOn, TellsRead}
+use Rattle.mpx_program.specs.Jobs.{AnswersText, AsFounded, AsPrinted, DoesJobWith, Exits, ExplainsBy, ExplainsOn, FailsBefore, StrictBy, StrictOn, TellsRead}
 use Rattle.mpx_program.specs.Strict.{IsStrict}
 use Rattle.mpx_program.specs.declared.found.Found.{Found}
 use Rattle.mpx_words.specs.declared.invocation.Invocation.{Invocation}
@@ -40,7 +43,7 @@ pub fails_text : (ops : List Operation) (job : Job) (there left : Option (List �
 fails_text ops job there left text now why taken same fails = λ old. runs_ungated IsFounded ops job there left old old text (Err why) taken (subst (λ xs. PrintsUngated IsFounded ops job xs old old (Err why)) same (fails old))
 
 -- then nothing is done
-pub does_nothing : (ops : List Operation) (call : Invocation) (there left old : Option (List ℕ)) (why : RunError) (more : List ℕ) (code : ℕ) (Says : List ℕ → Type 0) → FailsBefore ops call.job there left why → Exits (Err why) false call.flags.explain more code Says → DoesJobWith IsFounded ops call there left old old code Says
+pub does_nothing : (ops : List Operation) (call : Invocation) (there left old : Option (List ℕ)) (why : RunError) (more : List ℕ) (code : ℕ) (Says : List ℕ → Type 0) → FailsBefore ops call.job there left why → Exits (Err why) false call.flags.explain more code Says → DoesJobWith AsFounded ops call there left old old code Says
 does_nothing ops call there left old why more code Says fails exits = record {
   answer = Err why;
   runs = fails old;
@@ -54,18 +57,18 @@ does_nothing ops call there left old why more code Says fails exits = record {
 -- what is told of a script is told of a text that is read so, and of the job that printed this, or that memory was wanting for it
 module _ (ops : List Operation) (call : Invocation) (text : List ℕ) (script : ScriptView) (found : Found) (left : Left) (out : List ℕ) where
   by_found : (end : End) (more : List ℕ) → IsFound ops call.job.command script found → ComesTo IsFounded ops call.job.command call.job.options script end out → Leaves ops call.job.command call.job.options script end out left
-      → (more ≡ unexplained) ⊎ HasTold script text found left (Ok end) more → (more ≡ unexplained) ⊎ TellsOf ops call.job.command call.job.options script text end out more
+      → (more ≡ unexplained) ⊎ HasTold script text found left (Ok end) more → (more ≡ unexplained) ⊎ TellsOf (AsFounded).ends ops call.job.command call.job.options script text end out more
   by_found end more is comes leaves (inl wanting) = inl wanting
   by_found end more is comes leaves (inr told) = inr (found_tells ops call.job.command call.job.options script text found left end out more is comes leaves told)
 
   explained : (old new : Option (List ℕ)) (end : End) (answer : Result End RunError) (more : List ℕ) → reading ops text ≡ Ok script → (call.flags.explain ≡ true → IsFound ops call.job.command script found)
       → ComesTo IsFounded ops call.job.command call.job.options script end out → Leaves ops call.job.command call.job.options script end out left → IsWritten old new out end answer
-      → (call.flags.explain ≡ true → (more ≡ unexplained) ⊎ HasTold script text found left answer more) → ExplainsOn ops call text old new answer more
+      → (call.flags.explain ≡ true → (more ≡ unexplained) ⊎ HasTold script text found left answer more) → ExplainsOn (AsFounded).ends ops call text old new answer more
   explained old new end (Err error) more read is comes leaves written told = tt
   explained old new end (Ok ended) more read is comes leaves written told = (
     out,
     written.1,
-    subst (λ r. TellsRead call.flags.explain ops call.job r text ended out more) (sym read) (λ on. by_found ended more (is on)
+    subst (λ r. TellsRead (AsFounded).ends call.flags.explain ops call.job r text ended out more) (sym read) (λ on. by_found ended more (is on)
         (subst (λ e. ComesTo IsFounded ops call.job.command call.job.options script e out) (sym written.0) comes) (subst (λ e. Leaves ops call.job.command call.job.options script e out left) (sym written.0) leaves) (told on)),
   )
 
@@ -82,7 +85,7 @@ module _ (ops : List Operation) (call : Invocation) (text : List ℕ) (script : 
   is_ungated (Ok end) p = λ e. cc e
   is_ungated (Err error) p = λ e. subst (λ a. PrintsUngated IsFounded ops call.job text old new a) e p
 
-  answers : (answer : Result End RunError) → PrintsUngated IsFounded ops call.job text old new answer → ExplainsOn ops call text old new answer more → Exits answer complains call.flags.explain more code Says → AnswersText IsFounded ops call text old new code Says
+  answers : (answer : Result End RunError) → PrintsUngated IsFounded ops call.job text old new answer → ExplainsOn (AsFounded).ends ops call text old new answer more → Exits answer complains call.flags.explain more code Says → AnswersText AsFounded ops call text old new code Says
   answers answer prints explains exits = record {
     answer = answer;
     prints = gated_prints IsFounded ops nowhere call.job text old new answer prints;
@@ -95,13 +98,13 @@ module _ (ops : List Operation) (call : Invocation) (text : List ℕ) (script : 
   }
 
   pub answers_written : (out : List ℕ) (end : End) (left : Left) (answer : Result End RunError) → ComesTo IsFounded ops call.job.command call.job.options script end out → Leaves ops call.job.command call.job.options script end out left
-      → IsWritten old new out end answer → Told left answer → Exits answer complains call.flags.explain more code Says → AnswersText IsFounded ops call text old new code Says
+      → IsWritten old new out end answer → Told left answer → Exits answer complains call.flags.explain more code Says → AnswersText AsFounded ops call text old new code Says
   answers_written out end left answer comes leaves written told =
       answers answer (written_prints IsFounded ops call.job text script old new out end answer read comes written) (explained ops call text script found left out old new end answer more read is_found comes leaves written told)
 
 -- what is done with a text is done with what the reader gives
-pub does_text : (ops : List Operation) (call : Invocation) (there left old new : Option (List ℕ)) (text now : List ℕ) (code : ℕ) (Says : List ℕ → Type 0) → TakesInput there left text → now ≡ text → AnswersText IsFounded ops call now old new code Says
-    → DoesJobWith IsFounded ops call there left old new code Says
+pub does_text : (ops : List Operation) (call : Invocation) (there left old new : Option (List ℕ)) (text now : List ℕ) (code : ℕ) (Says : List ℕ → Type 0) → TakesInput there left text → now ≡ text → AnswersText AsFounded ops call now old new code Says
+    → DoesJobWith AsFounded ops call there left old new code Says
 does_text ops call there left old new text now code Says taken same a = record {
   answer = a.answer;
   runs = runs_ungated IsFounded ops call.job there left old new text a.answer taken
@@ -116,18 +119,37 @@ does_text ops call there left old new text now code Says taken same a = record {
   by_answer (Ok end) complains s = (text, taken, subst (λ xs. IsStrict ops call xs complains) same s)
   by_answer (Err error) complains s = tt
 
-  explains_by : (answer : Result End RunError) → ExplainsOn ops call now old new answer a.more → ExplainsBy ops call there left old new answer a.more
-  explains_by (Ok end) e = (text, taken, e.0, e.1, subst (λ xs. TellsRead call.flags.explain ops call.job (reading ops xs) xs end e.0 a.more) same e.2)
+  explains_by : (answer : Result End RunError) → ExplainsOn (AsFounded).ends ops call now old new answer a.more → ExplainsBy (AsFounded).ends ops call there left old new answer a.more
+  explains_by (Ok end) e = (text, taken, e.0, e.1, subst (λ xs. TellsRead (AsFounded).ends call.flags.explain ops call.job (reading ops xs) xs end e.0 a.more) same e.2)
   explains_by (Err error) e = tt
 
+-- what is told of the very run is told of a run
+less_of : (ops : List Operation) (command : Command) (options : Options) (script : ScriptView) (text : List ℕ) (end : End) (out more : List ℕ) → TellsOf (AsFounded).ends ops command options script text end out more → TellsOf (AsPrinted).ends ops command options script text end out more
+less_of ops Run options script text end out more told = (told.0, tt, told.2)
+less_of ops Eval options script text end out more told = told
+less_of ops Check options script text end out more told = told
+
+less_more : {W : Type 0} (ops : List Operation) (command : Command) (options : Options) (script : ScriptView) (text : List ℕ) (end : End) (out more : List ℕ) → W ⊎ TellsOf (AsFounded).ends ops command options script text end out more
+    → W ⊎ TellsOf (AsPrinted).ends ops command options script text end out more
+less_more ops command options script text end out more (inl wanting) = inl wanting
+less_more ops command options script text end out more (inr told) = inr (less_of ops command options script text end out more told)
+
+less_read : (explains : Bool) (ops : List Operation) (job : Job) (read : Result ScriptView ScriptError) (text : List ℕ) (end : End) (out more : List ℕ) → TellsRead (AsFounded).ends explains ops job read text end out more → TellsRead (AsPrinted).ends explains ops job read text end out more
+less_read explains ops job (Ok script) text end out more told = λ on. less_more ops job.command job.options script text end out more (told on)
+less_read explains ops job (Err refusal) text end out more told = tt
+
+less_by : (ops : List Operation) (call : Invocation) (there left old new : Option (List ℕ)) (answer : Result End RunError) (more : List ℕ) → ExplainsBy (AsFounded).ends ops call there left old new answer more → ExplainsBy (AsPrinted).ends ops call there left old new answer more
+less_by ops call there left old new (Ok end) more e = (e.0, e.1, e.2, e.3, less_read call.flags.explain ops call.job (reading ops e.0) e.0 end e.2 more e.4)
+less_by ops call there left old new (Err error) more e = tt
+
 -- what is printed, without that on which it stands
-pub does_printed : (ops : List Operation) (call : Invocation) (there left old new : Option (List ℕ)) (code : ℕ) (Says : List ℕ → Type 0) → DoesJobWith IsFounded ops call there left old new code Says → DoesJobWith IsPrinted ops call there left old new code Says
+pub does_printed : (ops : List Operation) (call : Invocation) (there left old new : Option (List ℕ)) (code : ℕ) (Says : List ℕ → Type 0) → DoesJobWith AsFounded ops call there left old new code Says → DoesJobWith AsPrinted ops call there left old new code Says
 does_printed ops call there left old new code Says d = record {
   answer = d.answer;
   runs = runs_printed ops call.job there left old new d.answer d.runs;
   complains = d.complains;
   strict = d.strict;
   more = d.more;
-  explains = d.explains;
+  explains = less_by ops call there left old new d.answer d.more d.explains;
   exits = d.exits;
 }

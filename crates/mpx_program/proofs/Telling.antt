@@ -1,5 +1,5 @@
 -- What is told of what was found in a script, and of what is left of a run.
-use Rattle.std.proofs.Common.{◌≡◌, ℕ, ◌≤◌, List, [], length, map, take, Bool, true, Result, Ok, Err, IfOk, inl, inr, ap, ◌∙◌, subst, sym}
+use Rattle.std.proofs.Common.{◌≡◌, ℕ, ◌≤◌, List, [], length, map, take, Bool, true, Result, Ok, Err, IfOk, inl, inr, refl, ap, ◌∙◌, subst, sym}
 use Rattle.std.specs.Prelude.{◌⊎◌, IfErr, IfSome, OnOk}
 use Rattle.std.proofs.lemmas.List.{take_all, take-map}
 use Rattle.mpx_num.specs.declared.own.Operation.{Operation}
@@ -16,7 +16,7 @@ use Rattle.mpx_explain.specs.Findings.{AreTold}
 use Rattle.mpx_explain.specs.RunEnds.{IsRunTold}
 use Rattle.mpx_explain.specs.declared.ended.EndedRun.{EndedRun}
 use Rattle.mpx_run.specs.Founded.{IsFounded}
-use Rattle.mpx_run.specs.Left.{Leaves, transcripts_in}
+use Rattle.mpx_run.specs.Left.{Leaves}
 use Rattle.mpx_run.specs.Reports.{told_cause}
 use Rattle.mpx_run.specs.Texts.{ComesTo}
 use Rattle.mpx_run.specs.declared.end.Cause.TheVariants.{InEveryRun, TurnsUsedUp, AllLost, Unknown}
@@ -25,7 +25,8 @@ use Rattle.mpx_run.specs.declared.end.End.TheVariants.{Finished, Waiting}
 use Rattle.mpx_run.specs.declared.report.Left.{Left}
 use Rattle.mpx_run.specs.declared.texts.RunError.{RunError}
 use Rattle.mpx_waiting.specs.ToldLines.{waiting_told}
-use Rattle.mpx_program.specs.Explained.{AreCalls, IsBehind, IsFound, IsHeaded, IsToldOfRun, HasTold, TellsEarly, TellsEnd, TellsEvaluation, TellsOf, processes_in, processes_of, unexplained}
+use Rattle.mpx_program.specs.Explained.{AreCalls, IsBehind, IsFound, IsHeaded, IsToldOfRun, HasTold, TellsEarly, TellsEnd, TellsEvaluation, TellsOf, RunEnded, ended_in, processes_of, unexplained}
+use Rattle.mpx_program.specs.Jobs.{AsFounded}
 use Rattle.mpx_program.specs.declared.found.Found.{Found}
 use Rattle.mpx_program.specs.declared.found.Found.TheVariants as F
 
@@ -36,9 +37,9 @@ module _ (ops : List Operation) (script : ScriptView) (text : List ℕ) (waiting
   calls_of_end old new calls = subst (λ cs. AreCalls text script.statements cs (unheard_in ops script.statements script.ranks f.end) old new) f.complaints_are
       (subst (λ us. AreCalls text script.statements complaints us old new) f.unheard_are calls)
 
-  pub early_tells : (left : Left) (ranks here waits lines more : List ℕ) → IsToldOfRun script text left ranks [] here → IsBehind here (waiting_told text script.statements waiting) waits → AreCalls text script.statements complaints unheard [] lines → IsHeaded waits lines more
-      → TellsEarly ops script text left ranks more
-  early_tells left ranks here waits lines more itself behind calls headed = record {
+  pub early_tells : (ended : RunEnded) (ranks here waits lines more : List ℕ) → IsToldOfRun script text ended ranks [] here → IsBehind here (waiting_told text script.statements waiting) waits → AreCalls text script.statements complaints unheard [] lines → IsHeaded waits lines more
+      → TellsEarly ops script text ended ranks more
+  early_tells ended ranks here waits lines more itself behind calls headed = record {
     end = f.end;
     evaluation = f.evaluation;
     here = here;
@@ -50,10 +51,10 @@ module _ (ops : List Operation) (script : ScriptView) (text : List ℕ) (waiting
     headed = headed;
   }
 
--- what is told of a run is told of one of this script and these ranks, of which that is left whose processes and lines these are
+-- what is told of a run is told of one of this script and these ranks, which ended as its processes and lines say
 pub told_of_run : {E : Type 0} (run : EndedRun) (script : ScriptView) (text ranks old new : List ℕ) (pushed : Result (Unit {0}) E) → OnOk pushed (IsRunTold text run old new) → run.script.now ≡ script → run.waiting.now ≡ ranks
-    → OnOk pushed ((left : Left) → processes_of run.nodes.now ≡ processes_in script.ranks left → run.lines.now ≡ map length (transcripts_in left) → IsToldOfRun script text left ranks old new)
-told_of_run run script text ranks old new (Ok done) told scripted waits = λ left processes lines. record { run = run; scripted = scripted; processes = processes; lines = lines; waits = waits; told = told }
+    → OnOk pushed ((ended : RunEnded) → processes_of run.nodes.now ≡ ended.processes → run.lines.now ≡ ended.counts → IsToldOfRun script text ended ranks old new)
+told_of_run run script text ranks old new (Ok done) told scripted waits = λ ended processes lines. record { run = run; scripted = scripted; processes = processes; lines = lines; waits = waits; told = told }
 told_of_run run script text ranks old new (Err e) told scripted waits = tt
 
 -- the processes of all of the first so many
@@ -63,24 +64,24 @@ first_all process all first ranks i is past = ap (map process) (take_all i first
 -- WHATEVER THE COMMAND
 
 -- who waits in an evaluation does in every run, so that what is told of its end is told of it alone
-evaluation_alone : (ops : List Operation) (script : ScriptView) (text : List ℕ) (left : Left) (end : End) (more : List ℕ) → IfSome (told_cause end) (λ told. told ≡ InEveryRun) → TellsEnd ops script text left end more → TellsEvaluation ops script text more
-evaluation_alone ops script text left Finished more by told = told
-evaluation_alone ops script text left (Waiting ranks InEveryRun) more by told = told
-evaluation_alone ops script text left (Waiting ranks (TurnsUsedUp turns)) more by told = let e : TurnsUsedUp turns ≡ InEveryRun = by in absurd (cc e)
-evaluation_alone ops script text left (Waiting ranks AllLost) more by told = let e : AllLost ≡ InEveryRun = by in absurd (cc e)
-evaluation_alone ops script text left (Waiting ranks Unknown) more by told = let e : Unknown ≡ InEveryRun = by in absurd (cc e)
+evaluation_alone : (ops : List Operation) (script : ScriptView) (text : List ℕ) (ended : RunEnded) (end : End) (more : List ℕ) → IfSome (told_cause end) (λ told. told ≡ InEveryRun) → TellsEnd ops script text ended end more → TellsEvaluation ops script text more
+evaluation_alone ops script text ended Finished more by told = told
+evaluation_alone ops script text ended (Waiting ranks InEveryRun) more by told = told
+evaluation_alone ops script text ended (Waiting ranks (TurnsUsedUp turns)) more by told = let e : TurnsUsedUp turns ≡ InEveryRun = by in absurd (cc e)
+evaluation_alone ops script text ended (Waiting ranks AllLost) more by told = let e : AllLost ≡ InEveryRun = by in absurd (cc e)
+evaluation_alone ops script text ended (Waiting ranks Unknown) more by told = let e : Unknown ≡ InEveryRun = by in absurd (cc e)
 
 -- what is told by what was found and by what is left is told of the job
 pub found_tells : (ops : List Operation) (command : Command) (options : Options) (script : ScriptView) (text : List ℕ) (found : Found) (left : Left) (end : End) (out more : List ℕ) → IsFound ops command script found → ComesTo IsFounded ops command options script end out
-    → Leaves ops command options script end out left → HasTold script text found left (Ok end) more → TellsOf ops command options script text end out more
+    → Leaves ops command options script end out left → HasTold script text found left (Ok end) more → TellsOf (AsFounded).ends ops command options script text end out more
 found_tells ops command options script text F.Nothing left end out more is comes leaves told = absurd is
 found_tells ops command options script text F.Wanting left end out more is comes leaves told = absurd told
 found_tells ops Check options script text (F.Certain found) left end out more is comes leaves told = subst (λ cs. AreTold text cs [] more) is told
 found_tells ops Run options script text (F.Certain found) left end out more is comes leaves told = absurd is
 found_tells ops Eval options script text (F.Certain found) left end out more is comes leaves told = absurd is
 found_tells ops Check options script text (F.InEvaluation found) left end out more is comes leaves told = absurd is
-found_tells ops Run options script text (F.InEvaluation found) left end out more is comes leaves told = (left, leaves, told ops is)
-found_tells ops Eval options script text (F.InEvaluation found) left end out more is comes leaves told = evaluation_alone ops script text left end more comes.cause (told ops is)
+found_tells ops Run options script text (F.InEvaluation found) left end out more is comes leaves told = (ended_in script.ranks left, (left, leaves, refl), told ops is)
+found_tells ops Eval options script text (F.InEvaluation found) left end out more is comes leaves told = evaluation_alone ops script text (ended_in script.ranks left) end more comes.cause (told ops is)
 
 -- what is told is told, and so is that memory was wanting for it
 pub told_or_wanting : {V E : Type 0} (told : Result V E) (items : V → List ℕ) (script : ScriptView) (text : List ℕ) (found : Found) (left : Left) (answer : Result End RunError) (explains : Bool) (more : List ℕ)

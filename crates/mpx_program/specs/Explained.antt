@@ -24,7 +24,7 @@ use Rattle.mpx_explain.specs.Findings.{AreTold}
 use Rattle.mpx_explain.specs.Overflows.{AreOverflows}
 use Rattle.mpx_explain.specs.RunEnds.{IsRunTold}
 use Rattle.mpx_explain.specs.declared.ended.EndedRun.{EndedRun}
-use Rattle.mpx_run.specs.Left.{Leaves, transcripts_in}
+use Rattle.mpx_run.specs.Left.{transcripts_in}
 use Rattle.mpx_run.specs.declared.end.Cause.TheVariants.{InEveryRun}
 use Rattle.mpx_run.specs.declared.end.End.{End}
 use Rattle.mpx_run.specs.declared.end.End.TheVariants.{Finished, Waiting}
@@ -74,46 +74,59 @@ processes_of nodes = map (λ (node : Bor Node). node_of node.now) nodes
 abbrev pub processes_in : (ranks : ℕ) → Left → List NodeView
 processes_in ranks left = take ranks (map node_of left.nodes.items) ++ take ranks (map node_in left.ports.items)
 
--- what is told, behind other lines, of the run of this script of which this is left, and in which these ranks wait: by its processes as they stand at its end, and by how many lines each rank has
-pub record IsToldOfRun (script : ScriptView) (text : List ℕ) (left : Left) (ranks : List ℕ) (old new : List ℕ) : Type 0 where
+-- how a run ended: the process of each rank, and how many lines each rank has
+pub record RunEnded : Type 0 where
+  pub processes : List NodeView
+  pub counts : List ℕ
+
+-- so ended the run of so many ranks of which this is left
+abbrev pub ended_in : (ranks : ℕ) → Left → RunEnded
+ended_in ranks left = record { processes = processes_in ranks left; counts = map length (transcripts_in left) }
+
+-- what is told, behind other lines, of the run of this script that ended so, and in which these ranks wait
+pub record IsToldOfRun (script : ScriptView) (text : List ℕ) (ended : RunEnded) (ranks : List ℕ) (old new : List ℕ) : Type 0 where
   pub run : EndedRun
   pub scripted : run.script.now ≡ script
-  pub processes : processes_of run.nodes.now ≡ processes_in script.ranks left
-  pub lines : run.lines.now ≡ map length (transcripts_in left)
+  pub processes : processes_of run.nodes.now ≡ ended.processes
+  pub lines : run.lines.now ≡ ended.counts
   pub waits : run.waiting.now ≡ ranks
   pub told : IsRunTold text run old new
 
--- behind lines of the run itself, of which this is left and which ended early with these ranks waiting, the same of the evaluation
-pub record TellsEarly (ops : List Operation) (script : ScriptView) (text : List ℕ) (left : Left) (ranks : List ℕ) (more : List ℕ) : Type 0 where
+-- behind lines of the run itself, which ended so, early, with these ranks waiting, the same of the evaluation
+pub record TellsEarly (ops : List Operation) (script : ScriptView) (text : List ℕ) (ended : RunEnded) (ranks : List ℕ) (more : List ℕ) : Type 0 where
   pub end : State
   pub evaluation : IsEvaluation ops script.statements script.ranks end
   pub here : List ℕ
-  pub itself : IsToldOfRun script text left ranks [] here
+  pub itself : IsToldOfRun script text ended ranks [] here
   pub waits : List ℕ
   pub behind : IsBehind here (waiting_told text script.statements (waiting_in_full ops script.statements script.ranks end)) waits
   pub lines : List ℕ
   pub calls : AreCalls text script.statements (complaints_in script.statements script.ranks end) (unheard_in ops script.statements script.ranks end) [] lines
   pub headed : IsHeaded waits lines more
 
--- of a run of which this is left, by its end
-abbrev pub TellsEnd : List Operation → ScriptView → (text : List ℕ) → Left → End → (more : List ℕ) → Type 0
-TellsEnd ops script text left Finished more = TellsEvaluation ops script text more
-TellsEnd ops script text left (Waiting ranks InEveryRun) more = TellsEvaluation ops script text more
-TellsEnd ops script text left (Waiting ranks cause) more = TellsEarly ops script text left ranks.items more
+-- of a run that ended so, by its end
+abbrev pub TellsEnd : List Operation → ScriptView → (text : List ℕ) → RunEnded → End → (more : List ℕ) → Type 0
+TellsEnd ops script text ended Finished more = TellsEvaluation ops script text more
+TellsEnd ops script text ended (Waiting ranks InEveryRun) more = TellsEvaluation ops script text more
+TellsEnd ops script text ended (Waiting ranks cause) more = TellsEarly ops script text ended ranks.items more
 
--- of a job with this command that came to this end, and of which this text is out: of a run by what is left of that very run; of an evaluation that; of a check the calls that are refused for certain
-abbrev pub TellsOf : List Operation → Command → Options → ScriptView → (text : List ℕ) → End → (out more : List ℕ) → Type 0
-TellsOf ops Run options script text end out more = (left : Left) × Leaves ops Run options script end out left × TellsEnd ops script text left end more
-TellsOf ops Eval options script text end out more = TellsEvaluation ops script text more
-TellsOf ops Check options script text end out more = AreTold text (certain_in ops script) [] more
+-- what is said of how a run with this end and text ended
+abbrev pub OfEnds : Type 1
+OfEnds = List Operation → Options → ScriptView → End → (text : List ℕ) → RunEnded → Type 0
+
+-- of a job with this command that came to this end, and of which this text is out: of a run by how one ended of which that is said; of an evaluation that; of a check the calls that are refused for certain
+abbrev pub TellsOf : OfEnds → List Operation → Command → Options → ScriptView → (text : List ℕ) → End → (out more : List ℕ) → Type 0
+TellsOf Of ops Run options script text end out more = (ended : RunEnded) × Of ops options script end out ended × TellsEnd ops script text ended end more
+TellsOf Of ops Eval options script text end out more = TellsEvaluation ops script text more
+TellsOf Of ops Check options script text end out more = AreTold text (certain_in ops script) [] more
 
 -- what is told in the place of that where memory is wanting
 abbrev pub unexplained : List ℕ
 unexplained = codes "out of memory: no more is explained\n"
 
 -- where more is asked for, that is told, or that memory is wanting for it
-abbrev pub TellsMore : (explains : Bool) → List Operation → Job → ScriptView → (text : List ℕ) → End → (out more : List ℕ) → Type 0
-TellsMore explains ops job script text end out more = explains ≡ true → (more ≡ unexplained) ⊎ TellsOf ops job.command job.options script text end out more
+abbrev pub TellsMore : OfEnds → (explains : Bool) → List Operation → Job → ScriptView → (text : List ℕ) → End → (out more : List ℕ) → Type 0
+TellsMore Of explains ops job script text end out more = explains ≡ true → (more ≡ unexplained) ⊎ TellsOf Of ops job.command job.options script text end out more
 
 -- what is found in a script for a job of this command, where that is asked for
 abbrev pub IsFound : List Operation → Command → ScriptView → Found → Type 0
@@ -130,4 +143,4 @@ HasTold script text F.Nothing left answer more = more ≡ []
 HasTold script text F.Wanting left answer more = ⊥
 HasTold script text (F.Certain found) left answer more = AreTold text (map complaint_view found.items) [] more
 HasTold script text (F.InEvaluation found) left answer more = IfOk answer (λ end. (ops : List Operation)
-    → AreFindings ops script (map waiting_view found.waiting.items) (map complaint_view found.complaints.items) (map complaint_view found.unheard.items) → TellsEnd ops script text left end more)
+    → AreFindings ops script (map waiting_view found.waiting.items) (map complaint_view found.complaints.items) (map complaint_view found.unheard.items) → TellsEnd ops script text (ended_in script.ranks left) end more)

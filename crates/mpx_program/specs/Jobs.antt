@@ -12,12 +12,15 @@ use Rattle.mpx_script.specs.Reading.{reading}
 use Rattle.mpx_script.specs.ScriptView.{ScriptView}
 use Rattle.mpx_script.specs.declared.faults.ScriptError.{ScriptError}
 use Rattle.mpx_run.specs.Founded.{IsFounded}
+use Rattle.mpx_run.specs.Left.{IsLeftIn}
+use Rattle.mpx_run.specs.Reports.{IsPrinted}
 use Rattle.mpx_run.specs.Texts.{OfRuns, Prints, RunsUngated, TakesInput}
 use Rattle.mpx_run.specs.declared.end.End.{End}
 use Rattle.mpx_run.specs.declared.streams.WriteFault.{WriteFault}
+use Rattle.mpx_run.specs.declared.report.Left.{Left}
 use Rattle.mpx_run.specs.declared.texts.RunError.{RunError}
 use Rattle.mpx_run.specs.declared.texts.RunError.TheVariants.{GateGaveUp}
-use Rattle.mpx_program.specs.Explained.{TellsMore}
+use Rattle.mpx_program.specs.Explained.{OfEnds, TellsMore, ended_in}
 use Rattle.mpx_program.specs.Status.{advice, explanation, message, refusal_status, status}
 use Rattle.mpx_program.specs.Strict.{IsStrict}
 use Rattle.mpx_words.specs.Usage.{usage}
@@ -40,23 +43,36 @@ StrictOn ops call text (Ok end) complains = IsStrict ops call text complains
 StrictOn ops call text (Err error) complains = Unit {0}
 
 -- what is told more of a job with a text that is read so, that came to this end, and of which that text is out
-abbrev pub TellsRead : (explains : Bool) → List Operation → Job → Result ScriptView ScriptError → (text : List ℕ) → End → (out more : List ℕ) → Type 0
-TellsRead explains ops job (Ok script) text end out more = TellsMore explains ops job script text end out more
-TellsRead explains ops job (Err refusal) text end out more = Unit {0}
+abbrev pub TellsRead : OfEnds → (explains : Bool) → List Operation → Job → Result ScriptView ScriptError → (text : List ℕ) → End → (out more : List ℕ) → Type 0
+TellsRead Of explains ops job (Ok script) text end out more = TellsMore Of explains ops job script text end out more
+TellsRead Of explains ops job (Err refusal) text end out more = Unit {0}
 
--- where a job comes to an end, a text is out, and what is told more is of the very job that printed it
-abbrev pub ExplainsOn : List Operation → Invocation → (text : List ℕ) → (old new : Option (List ℕ)) → Result End RunError → (more : List ℕ) → Type 0
-ExplainsOn ops call text old new answer more = IfOk answer (λ end. (out : List ℕ) × Appends old new out × TellsRead call.flags.explain ops call.job (reading ops text) text end out more)
+-- where a job comes to an end, a text is out, and this is told more of the job that printed it
+abbrev pub ExplainsOn : OfEnds → List Operation → Invocation → (text : List ℕ) → (old new : Option (List ℕ)) → Result End RunError → (more : List ℕ) → Type 0
+ExplainsOn Of ops call text old new answer more = IfOk answer (λ end. (out : List ℕ) × Appends old new out × TellsRead Of call.flags.explain ops call.job (reading ops text) text end out more)
+
+-- what is said of a run: of its end and text, and of how it ended
+pub record OfJobs : Type 1 where
+  pub runs : OfRuns
+  pub ends : OfEnds
+
+-- what is printed of a run, however it ended
+abbrev pub AsPrinted : OfJobs
+AsPrinted = record { runs = IsPrinted; ends = λ ops options script end text ended. Unit {0} }
+
+-- on what a run stands, and that it is that very run, by what is left of it, that ended so
+abbrev pub AsFounded : OfJobs
+AsFounded = record { runs = IsFounded; ends = λ ops options script end text ended. (left : Left) × IsLeftIn options.threads ops options script end text left × (ended ≡ ended_in script.ranks left) }
 
 -- a call's job is done with a text by the job's own operations, and no gate ends it
-pub record AnswersText (Is : OfRuns) (ops : List Operation) (call : Invocation) (text : List ℕ) (old new : Option (List ℕ)) (code : ℕ) (Says : List ℕ → Type 0) : Type 0 where
+pub record AnswersText (Is : OfJobs) (ops : List Operation) (call : Invocation) (text : List ℕ) (old new : Option (List ℕ)) (code : ℕ) (Says : List ℕ → Type 0) : Type 0 where
   pub answer : Result End RunError
-  pub prints : Prints Is ops nowhere call.job text old new answer
+  pub prints : Prints Is.runs ops nowhere call.job text old new answer
   pub ungated : answer ≢ Err GateGaveUp
   pub complains : Bool
   pub strict : StrictOn ops call text answer complains
   pub more : List ℕ
-  pub explains : ExplainsOn ops call text old new answer more
+  pub explains : ExplainsOn Is.ends ops call text old new answer more
   pub exits : Exits answer complains call.flags.explain more code Says
 
 -- the same of the text that a reader gives
@@ -64,8 +80,8 @@ abbrev pub StrictBy : List Operation → Invocation → (there left : Option (Li
 StrictBy ops call there left (Ok end) complains = (text : List ℕ) × TakesInput there left text × IsStrict ops call text complains
 StrictBy ops call there left (Err error) complains = Unit {0}
 
-abbrev pub ExplainsBy : List Operation → Invocation → (there left old new : Option (List ℕ)) → Result End RunError → (more : List ℕ) → Type 0
-ExplainsBy ops call there left old new answer more = IfOk answer (λ end. (text : List ℕ) × TakesInput there left text × (out : List ℕ) × Appends old new out × TellsRead call.flags.explain ops call.job (reading ops text) text end out more)
+abbrev pub ExplainsBy : OfEnds → List Operation → Invocation → (there left old new : Option (List ℕ)) → Result End RunError → (more : List ℕ) → Type 0
+ExplainsBy Of ops call there left old new answer more = IfOk answer (λ end. (text : List ℕ) × TakesInput there left text × (out : List ℕ) × Appends old new out × TellsRead Of call.flags.explain ops call.job (reading ops text) text end out more)
 
 -- a reader gives a text that is read as this script, and whether it has calls to complain of is as `--strict` asks
 pub record IsPrepared (ops : List Operation) (call : Invocation) (there left : Option (List ℕ)) (text : List ℕ) (script : ScriptView) (complains : Bool) : Type 0 where
@@ -80,13 +96,13 @@ FailsBefore ops job there left why = (old : Option (List ℕ)) → RunsUngated I
 -- a call's job is done with a script by the job's own operations, no gate ends it, and its answer gives the status and what is said. What is asked for
 -- beside the job changes nothing of what is printed: by `--strict` the status is 6 where it is 0 or 3 else and the script has calls to complain of, and the
 -- standard error is told so; by `--explain` it is told more, of the script's evaluation and of a run that ended early
-pub record DoesJobWith (Is : OfRuns) (ops : List Operation) (call : Invocation) (there left old new : Option (List ℕ)) (code : ℕ) (Says : List ℕ → Type 0) : Type 0 where
+pub record DoesJobWith (Is : OfJobs) (ops : List Operation) (call : Invocation) (there left old new : Option (List ℕ)) (code : ℕ) (Says : List ℕ → Type 0) : Type 0 where
   pub answer : Result End RunError
-  pub runs : RunsUngated Is ops call.job there left old new answer
+  pub runs : RunsUngated Is.runs ops call.job there left old new answer
   pub complains : Bool
   pub strict : StrictBy ops call there left answer complains
   pub more : List ℕ
-  pub explains : ExplainsBy ops call there left old new answer more
+  pub explains : ExplainsBy Is.ends ops call there left old new answer more
   pub exits : Exits answer complains call.flags.explain more code Says
 
 -- a call is refused, for a reason of that kind
@@ -104,11 +120,11 @@ pub record RefusesWords (words : List (List ℕ)) (there left old new : Option (
   pub unwritten : new ≡ old
 
 -- the words ask for a job, and for what is beside it
-pub record DoesWords (Is : OfRuns) (ops : List Operation) (words : List (List ℕ)) (there left old new : Option (List ℕ)) (code : ℕ) (Says : List ℕ → Type 0) : Type 0 where
+pub record DoesWords (Is : OfJobs) (ops : List Operation) (words : List (List ℕ)) (there left old new : Option (List ℕ)) (code : ℕ) (Says : List ℕ → Type 0) : Type 0 where
   pub call : Invocation
   pub asks : invocation_in words ≡ Some call
   pub does : DoesJobWith Is ops call there left old new code Says
 
 -- the words ask for a job, or are refused
-abbrev pub DoesJob : (Is : OfRuns) (ops : List Operation) (words : List (List ℕ)) (there left old new : Option (List ℕ)) (code : ℕ) (Says : List ℕ → Type 0) → Type 0
+abbrev pub DoesJob : (Is : OfJobs) (ops : List Operation) (words : List (List ℕ)) (there left old new : Option (List ℕ)) (code : ℕ) (Says : List ℕ → Type 0) → Type 0
 DoesJob Is ops words there left old new code Says = DoesWords Is ops words there left old new code Says ⊎ RefusesWords words there left old new code Says

@@ -7,7 +7,7 @@ ghost use Rattle.mpx_explain.specs.Findings.{AreTold};
 ghost use Rattle.mpx_run.specs.Left.{transcripts_in};
 ghost use Rattle.mpx_run.specs.declared.report.Left.{Left};
 ghost use Rattle.mpx_waiting.specs.ToldLines.{waiting_told};
-ghost use Rattle.mpx_program.specs.Explained.{AreCalls, HasTold, IsBehind, IsHeaded, IsToldOfRun, TellsEarly, TellsEnd, TellsEvaluation, processes_in, processes_of, unexplained};
+ghost use Rattle.mpx_program.specs.Explained.{AreCalls, HasTold, IsBehind, IsHeaded, IsToldOfRun, RunEnded, TellsEarly, TellsEnd, TellsEvaluation, ended_in, processes_in, processes_of, unexplained};
 
 use crate::found::Found;
 use crate::prepared::Prepared;
@@ -121,7 +121,7 @@ fn end_told(
     left: &Left,
 ) -> Result<Vec<u8>, OutOfMemory>
     ensures { IfOk result (λ told. IfOk answer.now (λ end. (ops : List Operation) → AreFindings ops prepared.now.script (map waiting_view found.now.waiting.items) (map complaint_view found.now.complaints.items) (map complaint_view found.now.unheard.items)
-        → TellsEnd ops prepared.now.script prepared.now.text.items left.now end told.items)) }
+        → TellsEnd ops prepared.now.script prepared.now.text.items (ended_in prepared.now.script.ranks left.now) end told.items)) }
 {
     match answer {
         Ok(End::Finished) => evaluation_told(alloc, prepared, found),
@@ -160,7 +160,7 @@ fn early_told(
     found: &Findings,
 ) -> Result<Vec<u8>, OutOfMemory>
     ensures { IfOk result (λ told. (ops : List Operation) → AreFindings ops prepared.now.script (map waiting_view found.now.waiting.items) (map complaint_view found.now.complaints.items) (map complaint_view found.now.unheard.items)
-        → TellsEarly ops prepared.now.script prepared.now.text.items left.now ranks.now.items told.items) }
+        → TellsEarly ops prepared.now.script prepared.now.text.items (ended_in prepared.now.script.ranks left.now) ranks.now.items told.items) }
 {
     let mut told = Vec::new(alloc);
     let waiting = ranks.as_slice();
@@ -211,7 +211,7 @@ fn push_run_end(
     found: &Findings,
     told: &mut Vec<u8>,
 ) -> Result<(), OutOfMemory>
-    ensures { OnOk result (IsToldOfRun prepared.now.script prepared.now.text.items left.now ranks.now told.old.items told.new.items) }
+    ensures { OnOk result (IsToldOfRun prepared.now.script prepared.now.text.items (ended_in prepared.now.script.ranks left.now) ranks.now told.old.items told.new.items) }
 {
     let nodes = nodes_of(alloc, left, prepared.script.ranks())?;
     let lines = counts_of(alloc, left)?;
@@ -239,8 +239,8 @@ fn push_run(
     nodes: &[&Node],
     told: &mut Vec<u8>,
 ) -> Result<(), OutOfMemory>
-    ensures { OnOk result ((left : Left) → processes_of nodes.now ≡ processes_in script.now.ranks left → lines.now ≡ map length (transcripts_in left)
-        → IsToldOfRun script.now text.now left ranks.now told.old.items told.new.items) }
+    ensures { OnOk result ((ended : RunEnded) → processes_of nodes.now ≡ ended.processes → lines.now ≡ ended.counts
+        → IsToldOfRun script.now text.now ended ranks.now told.old.items told.new.items) }
 {
     let run = EndedRun {
         script,

@@ -4,10 +4,9 @@ ghost use Rattle.clap.specs.Words.{kind_of};
 ghost use Rattle.mpx_script.specs.Reading.{reading};
 ghost use Rattle.mpx_run.specs.Founded.{IsFounded};
 ghost use Rattle.mpx_run.specs.Left.{Leaves};
-ghost use Rattle.mpx_run.specs.Reports.{IsPrinted};
 ghost use Rattle.mpx_run.specs.Texts.{ComesTo, IsRefusedFor, is_in_threads};
 ghost use Rattle.mpx_program.specs.Explained.{IsFound};
-ghost use Rattle.mpx_program.specs.Jobs.{AnswersText, DoesJobWith, Exits, IsRefused, Tells};
+ghost use Rattle.mpx_program.specs.Jobs.{AnswersText, AsFounded, AsPrinted, DoesJobWith, Exits, IsRefused, Tells};
 ghost use Rattle.mpx_program.specs.Strict.{IsStrict};
 
 use crate::explaining::{explained, more_of};
@@ -48,8 +47,8 @@ pub fn run_job<T: Threads + Sync, R: Read, W: Write, E: Write>(
     ops: &Ops,
 ) -> Exit
     requires alone { is_in_threads call.now.job ≡ false }
-    ensures prints { DoesJobWith IsPrinted (⟦<Ops as Listing>⟧.operations ops.now) call.now (R.remaining reader.old) (R.remaining reader.new) (W.contents out.old) (W.contents out.new) result.status (Tells (E.contents err.old) (E.contents err.new) result.told) }
-    ensures founded { DoesJobWith IsFounded (⟦<Ops as Listing>⟧.operations ops.now) call.now (R.remaining reader.old) (R.remaining reader.new) (W.contents out.old) (W.contents out.new) result.status (Tells (E.contents err.old) (E.contents err.new) result.told) }
+    ensures prints { DoesJobWith AsPrinted (⟦<Ops as Listing>⟧.operations ops.now) call.now (R.remaining reader.old) (R.remaining reader.new) (W.contents out.old) (W.contents out.new) result.status (Tells (E.contents err.old) (E.contents err.new) result.told) }
+    ensures founded { DoesJobWith AsFounded (⟦<Ops as Listing>⟧.operations ops.now) call.now (R.remaining reader.old) (R.remaining reader.new) (W.contents out.old) (W.contents out.new) result.status (Tells (E.contents err.old) (E.contents err.new) result.told) }
 {
     match prepare(alloc, call, reader, ops) {
         Ok(prepared) => {
@@ -78,8 +77,8 @@ pub fn run_job_in_threads<T: Threads + Wait + Sync, R: Read, W: Write, E: Write>
     ops: &Ops,
 ) -> Exit
     requires threads { is_in_threads call.now.job ≡ true }
-    ensures prints { DoesJobWith IsPrinted (⟦<Ops as Listing>⟧.operations ops.now) call.now (R.remaining reader.old) (R.remaining reader.new) (W.contents out.old) (W.contents out.new) result.status (Tells (E.contents err.old) (E.contents err.new) result.told) }
-    ensures founded { DoesJobWith IsFounded (⟦<Ops as Listing>⟧.operations ops.now) call.now (R.remaining reader.old) (R.remaining reader.new) (W.contents out.old) (W.contents out.new) result.status (Tells (E.contents err.old) (E.contents err.new) result.told) }
+    ensures prints { DoesJobWith AsPrinted (⟦<Ops as Listing>⟧.operations ops.now) call.now (R.remaining reader.old) (R.remaining reader.new) (W.contents out.old) (W.contents out.new) result.status (Tells (E.contents err.old) (E.contents err.new) result.told) }
+    ensures founded { DoesJobWith AsFounded (⟦<Ops as Listing>⟧.operations ops.now) call.now (R.remaining reader.old) (R.remaining reader.new) (W.contents out.old) (W.contents out.new) result.status (Tells (E.contents err.old) (E.contents err.new) result.told) }
 {
     match prepare(alloc, call, reader, ops) {
         Ok(prepared) => {
@@ -123,7 +122,7 @@ fn answer<W: Write, E: Write>(
     requires comes { IfOk printed (λ p. ComesTo IsFounded (⟦<Ops as Listing>⟧.operations ops.now) call.now.job.command call.now.job.options prepared.now.script p.end (string_bytes p.text)) }
     requires left { IfOk printed (λ p. Leaves (⟦<Ops as Listing>⟧.operations ops.now) call.now.job.command call.now.job.options prepared.now.script p.end (string_bytes p.text) p.left) }
     requires refused { IfErr printed (λ e. IsRefusedFor call.now.job prepared.now.script e) }
-    ensures { AnswersText IsFounded (⟦<Ops as Listing>⟧.operations ops.now) call.now prepared.now.text.items (W.contents out.old) (W.contents out.new) result.status (Tells (E.contents err.old) (E.contents err.new) result.told) }
+    ensures { AnswersText AsFounded (⟦<Ops as Listing>⟧.operations ops.now) call.now prepared.now.text.items (W.contents out.old) (W.contents out.new) result.status (Tells (E.contents err.old) (E.contents err.new) result.told) }
 {
     match printed {
         Ok(printed) => {

@@ -4,8 +4,7 @@ use Rattle.std.specs.Prelude.{IfErr}
 use Rattle.clap.specs.Kinds.{HasKind}
 use Rattle.clap.specs.Words.{kind_of}
 use Rattle.clap.specs.declared.error.Error.{Error}
-use Rattle.mpx_run.specs.Texts.{OfRuns}
-use Rattle.mpx_program.specs.Jobs.{IsRefused}
+use Rattle.mpx_program.specs.Jobs.{IsRefused, OfJobs}
 use Rattle.mpx_words.specs.Usage.{refusal_kinds}
 use Rattle.mpx_words.specs.Words.{invocation_in}
 use Rattle.mpx_words.specs.declared.invocation.Invocation.{Invocation}
@@ -24,7 +23,7 @@ ask_for words now (Ok call) same ok err kinds = subst (λ ws. invocation_in ws �
 ask_for words now (Err why) same ok err kinds = inl (subst (λ ws. (invocation_in ws ≡ None) × HasKind (refusal_kinds ws) why) same (err, kinds))
 
 -- words that ask for nothing are refused, and nothing is read or written
-pub refused_words : (Is : OfRuns) (words : List (List ℕ)) (refusal : Error) (there old : Option (List ℕ)) (code : ℕ) (Says : List ℕ → Type 0) → AskFor words (Err refusal) → IsRefused (kind_of refusal) code Says → Answers Is words there there old old code Says
+pub refused_words : (Is : OfJobs) (words : List (List ℕ)) (refusal : Error) (there old : Option (List ℕ)) (code : ℕ) (Says : List ℕ → Type 0) → AskFor words (Err refusal) → IsRefused (kind_of refusal) code Says → Answers Is words there there old old code Says
 refused_words Is words refusal there old code Says (inl asks) refused = inl (record {
   operations = [];
   does = inr (record { why = kind_of refusal; asks = asks.0; kinds = asks.1; refused = refused; unread = refl; unwritten = refl });

@@ -5,15 +5,14 @@ use Rattle.clap.specs.Words.{kind_of}
 use Rattle.clap.specs.declared.error.Error.{Error}
 use Rattle.clap.specs.declared.error.kind.ErrorKind.TheVariants as kind
 use Rattle.mpx_num.specs.declared.own.Operation.{Operation}
-use Rattle.mpx_run.specs.Texts.{OfRuns}
-use Rattle.mpx_program.specs.Jobs.{DoesJob, IsRefused, Tells}
+use Rattle.mpx_program.specs.Jobs.{DoesJob, IsRefused, OfJobs, Tells}
 use Rattle.mpx_program.specs.declared.job.Exit.{Exit}
 use Rattle.mpx_words.specs.Usage.{refusal_kinds}
 use Rattle.mpx_words.specs.Words.{invocation_in}
 use Rattle.mpx_words.specs.declared.invocation.Invocation.{Invocation}
 
 -- the words' job is done by some operations of a job's own
-pub record IsDoneBy (Is : OfRuns) (words : List (List ℕ)) (there left old new : Option (List ℕ)) (code : ℕ) (Says : List ℕ → Type 0) : Type 0 where
+pub record IsDoneBy (Is : OfJobs) (words : List (List ℕ)) (there left old new : Option (List ℕ)) (code : ℕ) (Says : List ℕ → Type 0) : Type 0 where
   pub operations : List Operation
   pub does : DoesJob Is operations words there left old new code Says
 
@@ -24,7 +23,7 @@ pub record Starves (there left old new : Option (List ℕ)) (code : ℕ) (Says :
   pub unwritten : new ≡ old
 
 -- the words' job is done, or memory is wanting
-abbrev pub Answers : (Is : OfRuns) (words : List (List ℕ)) (there left old new : Option (List ℕ)) (code : ℕ) (Says : List ℕ → Type 0) → Type 0
+abbrev pub Answers : (Is : OfJobs) (words : List (List ℕ)) (there left old new : Option (List ℕ)) (code : ℕ) (Says : List ℕ → Type 0) → Type 0
 Answers Is words there left old new code Says = IsDoneBy Is words there left old new code Says ⊎ Starves there left old new code Says
 
 -- words ask for a call, or for none, for a reason of a kind that `clap` has for them; or memory is wanting
@@ -33,7 +32,7 @@ AskFor words (Ok call) = invocation_in words ≡ Some call
 AskFor words (Err why) = ((invocation_in words ≡ None) × HasKind (refusal_kinds words) why) ⊎ (kind_of why ≡ kind.OutOfMemory)
 
 -- words that ask for this are answered so: the job is done, or memory is wanting
-abbrev pub AnswersCall : (Is : OfRuns) (call : Invocation) (there left old new : Option (List ℕ)) (code : ℕ) (Says : List ℕ → Type 0) → Type 0
+abbrev pub AnswersCall : (Is : OfJobs) (call : Invocation) (there left old new : Option (List ℕ)) (code : ℕ) (Says : List ℕ → Type 0) → Type 0
 AnswersCall Is call there left old new code Says = (words : List (List ℕ)) → invocation_in words ≡ Some call → Answers Is words there left old new code Says
 
 -- a process ends with the status of what is done, and what is said is out, or a beginning of it

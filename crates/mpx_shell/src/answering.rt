@@ -1,9 +1,7 @@
 //! What is done with what a call asks for.
 ghost use Rattle.std.specs.Prelude.{◌≡◌, false, true};
-ghost use Rattle.mpx_run.specs.Founded.{IsFounded};
-ghost use Rattle.mpx_run.specs.Reports.{IsPrinted};
 ghost use Rattle.mpx_run.specs.Texts.{is_in_threads};
-ghost use Rattle.mpx_program.specs.Jobs.{IsRefused, Tells};
+ghost use Rattle.mpx_program.specs.Jobs.{AsFounded, AsPrinted, IsRefused, Tells};
 ghost use Rattle.mpx_shell.specs.Answers.{AnswersCall};
 
 use clap::error::ErrorKind;
@@ -45,8 +43,8 @@ pub(crate) fn answer_call<T: Threads + Wait + Sync, R: Read, W: Write, E: Write>
     err: &mut E,
     observer: &mut dyn Observer,
 ) -> Exit
-    ensures prints { AnswersCall IsPrinted call.now (R.remaining reader.old) (R.remaining reader.new) (W.contents out.old) (W.contents out.new) result.status (Tells (E.contents err.old) (E.contents err.new) result.told) }
-    ensures founded { AnswersCall IsFounded call.now (R.remaining reader.old) (R.remaining reader.new) (W.contents out.old) (W.contents out.new) result.status (Tells (E.contents err.old) (E.contents err.new) result.told) }
+    ensures prints { AnswersCall AsPrinted call.now (R.remaining reader.old) (R.remaining reader.new) (W.contents out.old) (W.contents out.new) result.status (Tells (E.contents err.old) (E.contents err.new) result.told) }
+    ensures founded { AnswersCall AsFounded call.now (R.remaining reader.old) (R.remaining reader.new) (W.contents out.old) (W.contents out.new) result.status (Tells (E.contents err.old) (E.contents err.new) result.told) }
 {
     if is_in_threads(&call.job) {
         return answer_in_threads(rt, alloc, call, reader, out, err, observer);
@@ -81,8 +79,8 @@ fn answer<T: Threads + Sync, R: Read, W: Write, E: Write>(
     observer: &mut dyn Observer,
 ) -> Exit
     requires alone { is_in_threads call.now.job ≡ false }
-    ensures prints { AnswersCall IsPrinted call.now (R.remaining reader.old) (R.remaining reader.new) (W.contents out.old) (W.contents out.new) result.status (Tells (E.contents err.old) (E.contents err.new) result.told) }
-    ensures founded { AnswersCall IsFounded call.now (R.remaining reader.old) (R.remaining reader.new) (W.contents out.old) (W.contents out.new) result.status (Tells (E.contents err.old) (E.contents err.new) result.told) }
+    ensures prints { AnswersCall AsPrinted call.now (R.remaining reader.old) (R.remaining reader.new) (W.contents out.old) (W.contents out.new) result.status (Tells (E.contents err.old) (E.contents err.new) result.told) }
+    ensures founded { AnswersCall AsFounded call.now (R.remaining reader.old) (R.remaining reader.new) (W.contents out.old) (W.contents out.new) result.status (Tells (E.contents err.old) (E.contents err.new) result.told) }
 {
     let ops = own_operations!(alloc, err);
     run_job(rt, alloc, call, reader, out, err, observer, &ops)
@@ -99,8 +97,8 @@ fn answer_in_threads<T: Threads + Wait + Sync, R: Read, W: Write, E: Write>(
     observer: &mut dyn Observer,
 ) -> Exit
     requires threads { is_in_threads call.now.job ≡ true }
-    ensures prints { AnswersCall IsPrinted call.now (R.remaining reader.old) (R.remaining reader.new) (W.contents out.old) (W.contents out.new) result.status (Tells (E.contents err.old) (E.contents err.new) result.told) }
-    ensures founded { AnswersCall IsFounded call.now (R.remaining reader.old) (R.remaining reader.new) (W.contents out.old) (W.contents out.new) result.status (Tells (E.contents err.old) (E.contents err.new) result.told) }
+    ensures prints { AnswersCall AsPrinted call.now (R.remaining reader.old) (R.remaining reader.new) (W.contents out.old) (W.contents out.new) result.status (Tells (E.contents err.old) (E.contents err.new) result.told) }
+    ensures founded { AnswersCall AsFounded call.now (R.remaining reader.old) (R.remaining reader.new) (W.contents out.old) (W.contents out.new) result.status (Tells (E.contents err.old) (E.contents err.new) result.told) }
 {
     let ops = own_operations!(alloc, err);
     run_job_in_threads(rt, alloc, call, reader, out, err, observer, &ops)

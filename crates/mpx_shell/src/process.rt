@@ -4,9 +4,7 @@ ghost use Rattle.std.specs.Vec.Iter.{into_iter_items};
 ghost use Rattle.std.specs.Process.{exit_status};
 ghost use Rattle.clap.specs.Words.{kind_of};
 ghost use Rattle.clap.specs.declared.error.kind.ErrorKind.TheVariants.{InvalidValue, OutOfMemory};
-ghost use Rattle.mpx_run.specs.Founded.{IsFounded};
-ghost use Rattle.mpx_run.specs.Reports.{IsPrinted};
-ghost use Rattle.mpx_program.specs.Jobs.{IsRefused};
+ghost use Rattle.mpx_program.specs.Jobs.{AsFounded, AsPrinted, IsRefused};
 ghost use Rattle.mpx_shell.specs.Answers.{Answers, AskFor, EndsBy};
 ghost use Rattle.mpx_shell.specs.Showing.{shown_on, shows_lines, shows_rows};
 
@@ -83,8 +81,8 @@ pub fn exit_code<T: Threads + Wait + Sync, R: Read, W: Write, E: Write>(
     err: &mut E,
     observer: &mut dyn Observer,
 ) -> ExitCode
-    ensures answers { (words : List (List ℕ)) → AskFor words asked.now → EndsBy (Answers IsPrinted words (R.remaining reader.old) (R.remaining reader.new) (W.contents out.old) (W.contents out.new)) (E.contents err.old) (E.contents err.new) (exit_status result) }
-    ensures founded { (words : List (List ℕ)) → AskFor words asked.now → EndsBy (Answers IsFounded words (R.remaining reader.old) (R.remaining reader.new) (W.contents out.old) (W.contents out.new)) (E.contents err.old) (E.contents err.new) (exit_status result) }
+    ensures answers { (words : List (List ℕ)) → AskFor words asked.now → EndsBy (Answers AsPrinted words (R.remaining reader.old) (R.remaining reader.new) (W.contents out.old) (W.contents out.new)) (E.contents err.old) (E.contents err.new) (exit_status result) }
+    ensures founded { (words : List (List ℕ)) → AskFor words asked.now → EndsBy (Answers AsFounded words (R.remaining reader.old) (R.remaining reader.new) (W.contents out.old) (W.contents out.new)) (E.contents err.old) (E.contents err.new) (exit_status result) }
     ensures refused { IfErr asked.now (λ why. EndsBy (IsRefused (kind_of why)) (E.contents err.old) (E.contents err.new) (exit_status result)) }
     ensures unread { OnErr asked.now (R.remaining reader.new ≡ R.remaining reader.old) }
     ensures unwritten { OnErr asked.now (W.contents out.new ≡ W.contents out.old) }

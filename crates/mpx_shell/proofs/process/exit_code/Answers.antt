@@ -1,6 +1,5 @@
 use Rattle.std.proofs.Common.{subst}
-use Rattle.mpx_run.specs.Founded.{IsFounded}
-use Rattle.mpx_run.specs.Reports.{IsPrinted}
+use Rattle.mpx_program.specs.Jobs.{AsFounded, AsPrinted}
 use Rattle.mpx_shell.specs.Answers.{AskFor}
 use Rattle.mpx_shell.proofs.Ending.{if_err, refused_words}
 use Rattle.mpx_shell.proofs.process.exit_code.Goals as goal
@@ -22,14 +21,14 @@ returns-in-Ok-clause-founded g c = λ words asks. record {
 pub returns-in-Err-clause-answers : goal.returns-in-Err-clause-answers
 returns-in-Err-clause-answers g c = λ words asks. record {
   exit = c.refuse.result;
-  does = refused_words IsPrinted words c.in-Err.why _ _ _ _ (subst (AskFor words) c.in-Err.is asks) c.refuse.ensures;
+  does = refused_words AsPrinted words c.in-Err.why _ _ _ _ (subst (AskFor words) c.in-Err.is asks) c.refuse.ensures;
   ends = c.from-in-Err.ensures;
 }
 
 pub returns-in-Err-clause-founded : goal.returns-in-Err-clause-founded
 returns-in-Err-clause-founded g c = λ words asks. record {
   exit = c.refuse.result;
-  does = refused_words IsFounded words c.in-Err.why _ _ _ _ (subst (AskFor words) c.in-Err.is asks) c.refuse.ensures;
+  does = refused_words AsFounded words c.in-Err.why _ _ _ _ (subst (AskFor words) c.in-Err.is asks) c.refuse.ensures;
   ends = c.from-in-Err.ensures;
 }
 
