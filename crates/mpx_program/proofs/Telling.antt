@@ -89,3 +89,8 @@ pub told_or_wanting : {V E : Type 0} (told : Result V E) (items : V → List ℕ
     → explains ≡ true → (more ≡ unexplained) ⊎ HasTold script text found left answer more
 told_or_wanting (Ok v) items script text found left answer explains more tells is wanting on = inr (subst (HasTold script text found left answer) (sym is) (tells on))
 told_or_wanting (Err e) items script text found left answer explains more tells is wanting on = inl wanting
+
+-- what holds of the end that is answered
+pub at_end : {V E : Type 0} (told : Result V E) (answer : Result End RunError) (end : End) (Holds : End → V → Type 0) → answer ≡ Ok end → IfOk told (Holds end) → IfOk told (λ v. IfOk answer (λ e. Holds e v))
+at_end (Ok v) answer end Holds is h = subst (λ a. IfOk a (λ e. Holds e v)) (sym is) h
+at_end (Err e) answer end Holds is h = tt
