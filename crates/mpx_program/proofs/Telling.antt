@@ -16,7 +16,7 @@ use Rattle.mpx_explain.specs.Findings.{AreTold}
 use Rattle.mpx_explain.specs.RunEnds.{IsRunTold}
 use Rattle.mpx_explain.specs.declared.ended.EndedRun.{EndedRun}
 use Rattle.mpx_run.specs.Founded.{IsFounded}
-use Rattle.mpx_run.specs.Left.{Leaves}
+use Rattle.mpx_run.specs.Left.{Leaves, transcripts_in}
 use Rattle.mpx_run.specs.Reports.{told_cause}
 use Rattle.mpx_run.specs.Texts.{ComesTo}
 use Rattle.mpx_run.specs.declared.end.Cause.TheVariants.{InEveryRun, TurnsUsedUp, AllLost, Unknown}
@@ -25,7 +25,7 @@ use Rattle.mpx_run.specs.declared.end.End.TheVariants.{Finished, Waiting}
 use Rattle.mpx_run.specs.declared.report.Left.{Left}
 use Rattle.mpx_run.specs.declared.texts.RunError.{RunError}
 use Rattle.mpx_waiting.specs.ToldLines.{waiting_told}
-use Rattle.mpx_program.specs.Explained.{AreCalls, IsBehind, IsFound, IsHeaded, IsToldOfRun, HasTold, TellsEarly, TellsEnd, TellsEvaluation, TellsOf, RunEnded, ended_in, processes_of, unexplained}
+use Rattle.mpx_program.specs.Explained.{AreCalls, IsBehind, IsFound, IsHeaded, IsToldOfRun, HasTold, TellsEarly, TellsEnd, TellsEvaluation, TellsOf, RunEnded, ended_in, processes_in, processes_of, unexplained}
 use Rattle.mpx_program.specs.Jobs.{AsFounded}
 use Rattle.mpx_program.specs.declared.found.Found.{Found}
 use Rattle.mpx_program.specs.declared.found.Found.TheVariants as F
@@ -90,7 +90,11 @@ pub told_or_wanting : {V E : Type 0} (told : Result V E) (items : V → List ℕ
 told_or_wanting (Ok v) items script text found left answer explains more tells is wanting on = inr (subst (HasTold script text found left answer) (sym is) (tells on))
 told_or_wanting (Err e) items script text found left answer explains more tells is wanting on = inl wanting
 
--- what holds of the end that is answered
-pub at_end : {V E : Type 0} (told : Result V E) (answer : Result End RunError) (end : End) (Holds : End → V → Type 0) → answer ≡ Ok end → IfOk told (Holds end) → IfOk told (λ v. IfOk answer (λ e. Holds e v))
-at_end (Ok v) answer end Holds is h = subst (λ a. IfOk a (λ e. Holds e v)) (sym is) h
-at_end (Err e) answer end Holds is h = tt
+-- how it ended
+pub ended_processes : (ranks : ℕ) (left : Left) → processes_in ranks left ≡ (ended_in ranks left).processes
+unfolding ended_in
+ended_processes ranks left = refl
+
+pub ended_counts : (ranks : ℕ) (left : Left) → map length (transcripts_in left) ≡ (ended_in ranks left).counts
+unfolding ended_in
+ended_counts ranks left = refl

@@ -80,7 +80,7 @@ pub record RunEnded : Type 0 where
   pub counts : List ℕ
 
 -- so ended the run of so many ranks of which this is left
-abbrev pub ended_in : (ranks : ℕ) → Left → RunEnded
+unfoldable pub ended_in : (ranks : ℕ) → Left → RunEnded
 ended_in ranks left = record { processes = processes_in ranks left; counts = map length (transcripts_in left) }
 
 -- what is told, behind other lines, of the run of this script that ended so, and in which these ranks wait
