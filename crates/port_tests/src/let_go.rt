@@ -1,6 +1,7 @@
 //! A port that lets results go between two locks.
 ghost use Rattle.std.specs.Prelude.{◌≡◌, ◌<◌, false, length, [], IfOk};
 ghost use Rattle.mpx_bus.specs.Buses.{table_of};
+ghost use Rattle.mpx_bus.specs.Ports.{PortGoesOn};
 ghost use Rattle.mpx_shared.specs.LawfulPorts.{IsLawful, made_in};
 ghost use Rattle.port_tests.specs.Fresh.{IsFresh};
 
@@ -85,6 +86,14 @@ fn tells_again<L: PortLock, R: Wait>(
     told
 }
 
+// Lets the first call's result go.
+fn let_first_go(alloc: Global, port: &mut Port)
+    ensures { PortGoesOn port.old port.new }
+{
+    let world = Name::world(alloc);
+    port.forget(&world, 1);
+}
+
 // Stores two sums under a lock, lets the first go, and asks under another lock.
 fn between_two_locks<R: Wait>(
     rt: &R,
@@ -98,7 +107,7 @@ fn between_two_locks<R: Wait>(
 {
     let blank = Blank::new(1);
     let (mut taken, tickets) = with_two_sums::<Brand, R>(rt, alloc, bus, port, blank, ops);
-    taken.forget(&Name::world(alloc), 1);
+    let_first_go(alloc, &mut taken);
     // so that the proof knows that the port stands where its journal says
     let _node = taken.node();
     let tickets = tickets?;
