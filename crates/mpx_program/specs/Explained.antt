@@ -74,12 +74,13 @@ processes_of nodes = map (λ (node : Bor Node). node_of node.now) nodes
 abbrev pub processes_in : (ranks : ℕ) → Left → List NodeView
 processes_in ranks left = take ranks (map node_of left.nodes.items) ++ take ranks (map node_in left.ports.items)
 
--- what is told, behind other lines, of the run of this script of which this is left, and in which these ranks wait: by its processes as they stand at its end, and by how many lines each rank has
-pub record IsToldOfRun (script : ScriptView) (text : List ℕ) (left : Left) (ranks : List ℕ) (old new : List ℕ) : Type 0 where
+-- what is told, behind other lines, of the run of this script of which this is left, and in which these ranks wait: by its processes as they stand at its end, by how many lines each rank has, and by the complaints of the script's evaluation
+pub record IsToldOfRun (script : ScriptView) (text : List ℕ) (left : Left) (complaints : List ComplaintView) (ranks : List ℕ) (old new : List ℕ) : Type 0 where
   pub run : EndedRun
   pub scripted : run.script.now ≡ script
   pub processes : processes_of run.nodes.now ≡ processes_in script.ranks left
   pub lines : run.lines.now ≡ map length (transcripts_in left)
+  pub heard : map complaint_view run.complaints.now ≡ complaints
   pub waits : run.waiting.now ≡ ranks
   pub told : IsRunTold text run old new
 
@@ -88,7 +89,7 @@ pub record TellsEarly (ops : List Operation) (script : ScriptView) (text : List 
   pub end : State
   pub evaluation : IsEvaluation ops script.statements script.ranks end
   pub here : List ℕ
-  pub itself : IsToldOfRun script text left ranks [] here
+  pub itself : IsToldOfRun script text left (complaints_in script.statements script.ranks end) ranks [] here
   pub waits : List ℕ
   pub behind : IsBehind here (waiting_told text script.statements (waiting_in_full ops script.statements script.ranks end)) waits
   pub lines : List ℕ
