@@ -10,6 +10,7 @@ use Rattle.mpx_statement.specs.declared.job.Options.{Options}
 use Rattle.mpx_script.specs.ScriptView.{ScriptView}
 use Rattle.mpx_eval.specs.Complaints.{ComplaintView, complaints_in}
 use Rattle.mpx_eval.specs.Findings.{AreFindings}
+use Rattle.mpx_eval.specs.Found.{complaint_view}
 use Rattle.mpx_eval.specs.Unheard.{unheard_in}
 use Rattle.mpx_eval.specs.Waiting.{WaitingView}
 use Rattle.mpx_explain.specs.Findings.{AreTold}
@@ -37,13 +38,13 @@ module _ (ops : List Operation) (script : ScriptView) (text : List ℕ) (waiting
   calls_of_end old new calls = subst (λ cs. AreCalls text script.statements cs (unheard_in ops script.statements script.ranks f.end) old new) f.complaints_are
       (subst (λ us. AreCalls text script.statements complaints us old new) f.unheard_are calls)
 
-  pub early_tells : (ended : RunEnded) (ranks here waits lines more : List ℕ) → IsToldOfRun script text ended ranks [] here → IsBehind here (waiting_told text script.statements waiting) waits → AreCalls text script.statements complaints unheard [] lines → IsHeaded waits lines more
+  pub early_tells : (ended : RunEnded) (ranks here waits lines more : List ℕ) → IsToldOfRun script text ended complaints ranks [] here → IsBehind here (waiting_told text script.statements waiting) waits → AreCalls text script.statements complaints unheard [] lines → IsHeaded waits lines more
       → TellsEarly ops script text ended ranks more
   early_tells ended ranks here waits lines more itself behind calls headed = record {
     end = f.end;
     evaluation = f.evaluation;
     here = here;
-    itself = itself;
+    itself = subst (λ cs. IsToldOfRun script text ended cs ranks [] here) f.complaints_are itself;
     waits = waits;
     behind = subst (λ ws. IsBehind here (waiting_told text script.statements ws) waits) f.waiting_are behind;
     lines = lines;
@@ -52,10 +53,10 @@ module _ (ops : List Operation) (script : ScriptView) (text : List ℕ) (waiting
   }
 
 -- what is told of a run is told of one of this script and these ranks, which ended as its processes and lines say
-pub told_of_run : {E : Type 0} (run : EndedRun) (script : ScriptView) (text ranks old new : List ℕ) (pushed : Result (Unit {0}) E) → OnOk pushed (IsRunTold text run old new) → run.script.now ≡ script → run.waiting.now ≡ ranks
-    → OnOk pushed ((ended : RunEnded) → processes_of run.nodes.now ≡ ended.processes → run.lines.now ≡ ended.counts → IsToldOfRun script text ended ranks old new)
-told_of_run run script text ranks old new (Ok done) told scripted waits = λ ended processes lines. record { run = run; scripted = scripted; processes = processes; lines = lines; waits = waits; told = told }
-told_of_run run script text ranks old new (Err e) told scripted waits = tt
+pub told_of_run : {E : Type 0} (run : EndedRun) (script : ScriptView) (text : List ℕ) (complaints : List ComplaintView) (ranks old new : List ℕ) (pushed : Result (Unit {0}) E) → OnOk pushed (IsRunTold text run old new) → run.script.now ≡ script → map complaint_view run.complaints.now ≡ complaints → run.waiting.now ≡ ranks
+    → OnOk pushed ((ended : RunEnded) → processes_of run.nodes.now ≡ ended.processes → run.lines.now ≡ ended.counts → IsToldOfRun script text ended complaints ranks old new)
+told_of_run run script text complaints ranks old new (Ok done) told scripted heard waits = λ ended processes lines. record { run = run; scripted = scripted; processes = processes; lines = lines; heard = heard; waits = waits; told = told }
+told_of_run run script text complaints ranks old new (Err e) told scripted heard waits = tt
 
 -- the processes of all of the first so many
 pub first_all : {A : Type 0} (process : A → NodeView) (all first : List A) (ranks i : ℕ) → first ≡ take ranks all → length first ≤ i → map process (take i first) ≡ take ranks (map process all)

@@ -83,12 +83,13 @@ pub record RunEnded : Type 0 where
 unfoldable pub ended_in : (ranks : ℕ) → Left → RunEnded
 ended_in ranks left = record { processes = processes_in ranks left; counts = map length (transcripts_in left) }
 
--- what is told, behind other lines, of the run of this script that ended so, and in which these ranks wait
-pub record IsToldOfRun (script : ScriptView) (text : List ℕ) (ended : RunEnded) (ranks : List ℕ) (old new : List ℕ) : Type 0 where
+-- what is told, behind other lines, of the run of this script that ended so, and in which these ranks wait: by these complaints of the script's evaluation
+pub record IsToldOfRun (script : ScriptView) (text : List ℕ) (ended : RunEnded) (complaints : List ComplaintView) (ranks : List ℕ) (old new : List ℕ) : Type 0 where
   pub run : EndedRun
   pub scripted : run.script.now ≡ script
   pub processes : processes_of run.nodes.now ≡ ended.processes
   pub lines : run.lines.now ≡ ended.counts
+  pub heard : map complaint_view run.complaints.now ≡ complaints
   pub waits : run.waiting.now ≡ ranks
   pub told : IsRunTold text run old new
 
@@ -97,7 +98,7 @@ pub record TellsEarly (ops : List Operation) (script : ScriptView) (text : List 
   pub end : State
   pub evaluation : IsEvaluation ops script.statements script.ranks end
   pub here : List ℕ
-  pub itself : IsToldOfRun script text ended ranks [] here
+  pub itself : IsToldOfRun script text ended (complaints_in script.statements script.ranks end) ranks [] here
   pub waits : List ℕ
   pub behind : IsBehind here (waiting_told text script.statements (waiting_in_full ops script.statements script.ranks end)) waits
   pub lines : List ℕ

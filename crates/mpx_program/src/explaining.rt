@@ -211,7 +211,7 @@ fn push_run_end(
     found: &Findings,
     told: &mut Vec<u8>,
 ) -> Result<(), OutOfMemory>
-    ensures { OnOk result (IsToldOfRun prepared.now.script prepared.now.text.items (ended_in prepared.now.script.ranks left.now) ranks.now told.old.items told.new.items) }
+    ensures { OnOk result (IsToldOfRun prepared.now.script prepared.now.text.items (ended_in prepared.now.script.ranks left.now) (map complaint_view found.now.complaints.items) ranks.now told.old.items told.new.items) }
 {
     let nodes = nodes_of(alloc, left, prepared.script.ranks())?;
     let lines = counts_of(alloc, left)?;
@@ -240,7 +240,7 @@ fn push_run(
     told: &mut Vec<u8>,
 ) -> Result<(), OutOfMemory>
     ensures { OnOk result ((ended : RunEnded) → processes_of nodes.now ≡ ended.processes → lines.now ≡ ended.counts
-        → IsToldOfRun script.now text.now ended ranks.now told.old.items told.new.items) }
+        → IsToldOfRun script.now text.now ended (map complaint_view complaints.now) ranks.now told.old.items told.new.items) }
 {
     let run = EndedRun {
         script,
