@@ -145,8 +145,10 @@ impl RunDesk {
         ensures { (operations : List Operation) → KeepsNode Alone operations (node_of self.old.node) (node_of self.new.node) }
     {
         let changed = prune_all(&mut self.node, &self.contexts);
-        let board = self.node.board();
-        self.contexts.retain(|name| !board.is_dead(name));
+        if changed {
+            let board = self.node.board();
+            self.contexts.retain(|name| !board.is_dead(name));
+        }
         changed
     }
 }
@@ -368,7 +370,7 @@ fn prune_all(node: &mut Node, contexts: &[Name]) -> bool
 
 // Whether the process is a member whose own front the dropped front has reached, which no floor passes, and has no free there.
 fn has_none_to_drop(node: &Node, name: &Name, dropped: u32) -> bool {
-    node.posted(name) > 0 && node.front(name) <= dropped && !node.has_freed(name)
+    node.front(name) <= dropped && node.posted(name) > 0 && !node.has_freed(name)
 }
 
 // Drops what every member has harvested, where that is more than is dropped. Where it is past a free, the context is dead then, whatever
