@@ -58,9 +58,9 @@ abbrev pub SaysOrHeads : (here there more : List ℕ) → Type 0
 SaysOrHeads here there more = ((here ≡ there) × ((is_cut there ≡ false) × (more ≡ here ++ codes "in the evaluation these ranks wait there too\n")))
     ⊎ (more ≡ (here ++ codes "in the evaluation ranks wait here:\n") ++ there)
 
--- the lines of the evaluation's waits, where there are some, stand behind those of a run, or it is said that they are the same
+-- the lines of the evaluation's waits stand behind those of a run, or it is said that they are the same, or that nobody waits
 abbrev pub IsBehind : (here there more : List ℕ) → Type 0
-IsBehind here there more = ((there ≡ []) × (more ≡ here)) ⊎ ((0 < length there) × SaysOrHeads here there more)
+IsBehind here there more = ((there ≡ []) × (more ≡ here ++ codes "in the evaluation nobody waits\n")) ⊎ ((0 < length there) × SaysOrHeads here there more)
 
 -- the lines of calls stand behind a heading, where there are some
 abbrev pub IsHeaded : (before calls more : List ℕ) → Type 0
@@ -138,10 +138,14 @@ IsFound ops command script (F.Certain found) = ⊥
 IsFound ops Check script (F.InEvaluation found) = ⊥
 IsFound ops command script (F.InEvaluation found) = AreFindings ops script (map waiting_view found.waiting.items) (map complaint_view found.complaints.items) (map complaint_view found.unheard.items)
 
+-- the calls that are refused for certain, behind a reason where the text couldn't be written
+abbrev pub AreCertain : (text : List ℕ) → List ComplaintView → Result End RunError → (more : List ℕ) → Type 0
+AreCertain text calls answer more = (reason : List ℕ) × IfOk answer (λ end. reason ≡ []) × AreTold text calls reason more
+
 -- what is told by what was found and by what is left, where a job came to this: nothing where nothing was, or no memory was there for it
 abbrev pub HasTold : ScriptView → (text : List ℕ) → Found → Left → Result End RunError → (more : List ℕ) → Type 0
 HasTold script text F.Nothing left answer more = more ≡ []
 HasTold script text F.Wanting left answer more = ⊥
-HasTold script text (F.Certain found) left answer more = AreTold text (map complaint_view found.items) [] more
+HasTold script text (F.Certain found) left answer more = AreCertain text (map complaint_view found.items) answer more
 HasTold script text (F.InEvaluation found) left answer more = IfOk answer (λ end. (ops : List Operation)
     → AreFindings ops script (map waiting_view found.waiting.items) (map complaint_view found.complaints.items) (map complaint_view found.unheard.items) → TellsEnd ops script text (ended_in script.ranks left) end more)

@@ -3,11 +3,10 @@ ghost use Rattle.std.specs.Prelude.{◌≡◌, [], IfErr, IfOk, List, OnOk, fals
 ghost use Rattle.mpx_num.specs.declared.own.Operation.{Operation};
 ghost use Rattle.mpx_eval.specs.Findings.{AreFindings};
 ghost use Rattle.mpx_eval.specs.Found.{complaint_view, waiting_view};
-ghost use Rattle.mpx_explain.specs.Findings.{AreTold};
 ghost use Rattle.mpx_run.specs.Left.{transcripts_in};
 ghost use Rattle.mpx_run.specs.declared.report.Left.{Left};
 ghost use Rattle.mpx_waiting.specs.ToldLines.{waiting_told};
-ghost use Rattle.mpx_program.specs.Explained.{AreCalls, HasTold, IsBehind, IsHeaded, IsToldOfRun, RunEnded, TellsEarly, TellsEnd, TellsEvaluation, ended_in, processes_in, processes_of, unexplained};
+ghost use Rattle.mpx_program.specs.Explained.{AreCalls, AreCertain, HasTold, IsBehind, IsHeaded, IsToldOfRun, RunEnded, TellsEarly, TellsEnd, TellsEvaluation, ended_in, processes_in, processes_of, unexplained};
 
 use crate::found::Found;
 use crate::prepared::Prepared;
@@ -93,22 +92,25 @@ fn found_told(
     match &prepared.found {
         Found::Nothing => Ok(Vec::new(alloc)),
         Found::Wanting => Err(OutOfMemory),
-        Found::Certain(found) => certain_told(alloc, &prepared.text, &prepared.script, found),
+        Found::Certain(found) => certain_told(alloc, prepared, found, answer),
         Found::InEvaluation(found) => end_told(alloc, prepared, found, answer, left),
     }
 }
 
-// The calls on `world` that are refused for certain.
+// The calls on `world` that are refused for certain, behind the system's reason where a stream failed.
 fn certain_told(
     alloc: Global,
-    text: &[u8],
-    script: &Script,
+    prepared: &Prepared,
     found: &[Complaint],
+    answer: &Result<End, RunError>,
 ) -> Result<Vec<u8>, OutOfMemory>
-    ensures { IfOk result (λ told. AreTold text.now (map complaint_view found.now) [] told.items) }
+    ensures { IfOk result (λ told. AreCertain prepared.now.text.items (map complaint_view found.now) answer.now told.items) }
 {
     let mut told = Vec::new(alloc);
-    explain_calls(alloc, text, script, found, &mut told)?;
+    if let Err(error) = answer {
+        push_reason(alloc, error, &mut told)?;
+    }
+    explain_calls(alloc, &prepared.text, &prepared.script, found, &mut told)?;
     Ok(told)
 }
 
@@ -174,11 +176,12 @@ fn early_told(
     Ok(told)
 }
 
-// Adds what waits of the evaluation are told there, behind those of the run. Of a text that was cut the rest isn't known.
+// Adds what waits of the evaluation are told there, behind those of the run, or that nobody waits. Of a text that was cut the rest isn't known.
 fn push_behind(there: &[u8], told: &mut Vec<u8>) -> Result<(), OutOfMemory>
     ensures { OnOk result (IsBehind told.old.items there.now told.new.items) }
 {
     if there.is_empty() {
+        told.extend_from_slice(b"in the evaluation nobody waits\n")?;
         return Ok(());
     }
     if told.as_slice() == there && !there.ends_with(b" more\n") {

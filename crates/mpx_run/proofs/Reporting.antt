@@ -72,9 +72,9 @@ for_good (Waiting ranks told) cause by good = sym by ∙ same_Some told InEveryR
 -- which it is only where turns are left, and not all frames are lost
 turns_are_left : (made : ℕ) (options : Options) → cause_of made options ≡ InEveryRun → (made < options.turns) × (options.loss < 100)
 turns_are_left made options e = by_turns (nat_le options.turns made) (nat_le 100 options.loss) refl refl e where
-  by_turns : (t l : Bool) → nat_le options.turns made ≡ t → nat_le 100 options.loss ≡ l → (if t then TurnsUsedUp options.turns else (if l then AllLost else InEveryRun)) ≡ InEveryRun → (made < options.turns) × (options.loss < 100)
-  by_turns true l h k f = cc f
-  by_turns false true h k f = cc f
+  by_turns : (t l : Bool) → nat_le options.turns made ≡ t → nat_le 100 options.loss ≡ l → (if l then AllLost else (if t then TurnsUsedUp options.turns else InEveryRun)) ≡ InEveryRun → (made < options.turns) × (options.loss < 100)
+  by_turns t true h k f = cc f
+  by_turns true false h k f = cc f
   by_turns false false h k f = let left : made < options.turns = grind (arith, nat_tests) in let less : options.loss < 100 = grind (arith, nat_tests) in (left, less)
 
 -- what is all of a state's lines, and who waits there
@@ -93,9 +93,9 @@ may_end options (Waiting ranks told) cause by may = subst (MayTell options) (sym
 -- a simulated run tells a cause that it may tell
 may_tell : (made : ℕ) (options : Options) → options.threads ≡ false → MayTell options (cause_of made options)
 may_tell made options alone = by_turns (nat_le options.turns made) (nat_le 100 options.loss) refl where
-  by_turns : (t l : Bool) → nat_le 100 options.loss ≡ l → MayTell options (if t then TurnsUsedUp options.turns else (if l then AllLost else InEveryRun))
-  by_turns true l e = (alone, refl)
-  by_turns false true e = let lost : 100 ≤ options.loss = grind (arith, nat_tests) in (alone, lost)
+  by_turns : (t l : Bool) → nat_le 100 options.loss ≡ l → MayTell options (if l then AllLost else (if t then TurnsUsedUp options.turns else InEveryRun))
+  by_turns t true e = let lost : 100 ≤ options.loss = grind (arith, nat_tests) in (alone, lost)
+  by_turns true false e = (alone, refl)
   by_turns false false e = tt
 
 -- and so does a run in threads

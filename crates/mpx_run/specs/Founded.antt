@@ -18,8 +18,8 @@ use Rattle.mpx_run.specs.Reports.{IsBy, IsOfRun}
 -- the cause where so many turns of a simulated run were made
 abbrev pub cause_of : (made : ℕ) → Options → Cause
 cause_of made options =
-    if nat_le options.turns made then TurnsUsedUp options.turns else
     if nat_le 100 options.loss then AllLost else
+    if nat_le options.turns made then TurnsUsedUp options.turns else
     InEveryRun
 
 -- the cause where a run in threads rests, or where that isn't known

@@ -78,11 +78,11 @@ pub(crate) fn print<T: Threads + Sync>(
 fn cause_of(made: u32, options: &Options) -> Cause
     ensures { result ≡ cause_of made options.now }
 {
-    if made >= options.turns {
-        return Cause::TurnsUsedUp(options.turns);
-    }
     if options.loss >= 100 {
         return Cause::AllLost;
+    }
+    if made >= options.turns {
+        return Cause::TurnsUsedUp(options.turns);
     }
     Cause::InEveryRun
 }
