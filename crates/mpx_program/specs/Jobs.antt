@@ -60,7 +60,7 @@ pub record OfJobs : Type 1 where
 abbrev pub AsPrinted : OfJobs
 AsPrinted = record { runs = IsPrinted; ends = λ ops options script end text ended. Unit {0} }
 
--- on what a run stands, and that it is that very run, by what is left of it, that ended so
+-- on what a run stands, and that a run with this text and end, by what is left of it, ended so
 abbrev pub AsFounded : OfJobs
 AsFounded = record { runs = IsFounded; ends = λ ops options script end text ended. (left : Left) × IsLeftIn options.threads ops options script end text left × (ended ≡ ended_in script.ranks left) }
 

@@ -15,7 +15,7 @@ use Rattle.mpx_run.specs.declared.report.Left.{Left}
 abbrev pub transcripts_in : Left → List (List (List ℕ))
 transcripts_in left = map as_text left.transcripts.items
 
--- this is left of the very run of which this end is answered and this text printed: of one in threads its lines and its ports, of a simulated one its lines and its nodes, and nothing else
+-- this is left of a run of which this is the end and this the text: of one in threads its lines and its ports, of a simulated one its lines and its nodes, and nothing else
 abbrev pub IsLeftIn : (threads : Bool) → List Operation → Options → ScriptView → End → (text : List ℕ) → Left → Type 0
 IsLeftIn true ops options script end text left = IsThreadedBy left.ports.items (transcripts_in left) ops options script end text × (left.nodes.items ≡ [])
 IsLeftIn false ops options script end text left = IsSimulatedBy (map node_of left.nodes.items) (transcripts_in left) ops options script end text × (left.ports.items ≡ [])

@@ -32,7 +32,7 @@ pub struct Printed {
     pub left: Left,
 }
 
-/// What is left of a job that has ended: to explain it by. Of a run it is what is left of that very run, whose text and end are printed.
+/// What is left of a job that has ended: to explain it by. Of a run it is what is left of a run with the text and the end that are printed.
 #[derive(Drop)]
 pub struct Left {
     /// The lines of each rank, of which the text is made; none of a script that is read alone.
