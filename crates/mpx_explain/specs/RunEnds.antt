@@ -1,5 +1,5 @@
 -- Where ranks wait in a run that ended early, by what their own processes know. Which calls a statement waits for isn't said here.
-use Rattle.std.specs.Prelude.{◌≡◌, ℕ, zero, suc, ◌+◌, ◌-◌, ◌<◌, ◌≤◌, ◌==◌, ◌&&◌, nat_lt, Bool, true, false, cond, List, [], ◌∷◌, ◌++◌, codes, length, replicate, slice_get, slice_index_or, slice_set, map, Option, Some, None, IsSomeAnd}
+use Rattle.std.specs.Prelude.{◌≡◌, ℕ, zero, suc, ◌+◌, ◌-◌, ◌<◌, ◌≤◌, ◌==◌, ◌&&◌, nat_le, nat_lt, Bool, true, false, cond, List, [], ◌∷◌, ◌++◌, codes, length, replicate, slice_get, slice_index_or, slice_set, map, Option, Some, None, IsSomeAnd}
 use Rattle.std.specs.Borrow.{Bor}
 use Rattle.std.specs.Fmt.{decimal}
 use Rattle.std.specs.List.{All, flat_map, fold, list_any, starts_with}
@@ -8,7 +8,7 @@ use Rattle.mpx_name.specs.Name.{Name}
 use Rattle.mpx_birth.specs.Births.{BirthView}
 use Rattle.mpx_post.specs.Posts.{Given}
 use Rattle.mpx_board.specs.Boards.{told}
-use Rattle.mpx_node.specs.Nodes.{NodeView, freed_on, front_on}
+use Rattle.mpx_node.specs.Nodes.{NodeView, freed_on, front_on, posted_on}
 use Rattle.mpx_node.specs.Shown.{node_of}
 use Rattle.mpx_node.specs.declared.node.Node.{Node}
 use Rattle.mpx_statement.specs.declared.statement.Posting.TheVariants.{Start}
@@ -78,12 +78,12 @@ waits_at run rank = cond (list_any (λ (other : ℕ). other == rank) run.waiting
 abbrev pub process_of : EndedRun → (rank : ℕ) → Option NodeView
 process_of run rank = option_map (λ (node : Bor Node). node_of node.now) (slice_get run.nodes.now rank)
 
--- whether a process has posted a free on a context, by its own node
-abbrev pub has_freed : EndedRun → Name → (process : ℕ) → Bool
-has_freed run name p = option_map_or (λ (node : Bor Node). freed_on (node_of node.now) name) (slice_get run.nodes.now p) false
+-- whether a process has posted a free on a context, and no post to this call before it, by its own node
+abbrev pub has_closed : EndedRun → Name → (call process : ℕ) → Bool
+has_closed run name call p = option_map_or (λ (node : Bor Node). freed_on (node_of node.now) name && nat_le (posted_on (node_of node.now) name) call) (slice_get run.nodes.now p) false
 
-abbrev pub member_of : EndedRun → Name → (process : ℕ) → MissingMember
-member_of run name p = record { rank = p; closed = has_freed run name p }
+abbrev pub member_of : EndedRun → Name → (call process : ℕ) → MissingMember
+member_of run name call p = record { rank = p; closed = has_closed run name call p }
 
 abbrev pub unless_held : MissingMember → Option Given → List MissingMember
 unless_held member None = member ∷ []
@@ -91,7 +91,7 @@ unless_held member (Some post) = []
 
 -- a member, where a process's own board has no post of it to a call
 abbrev pub lacked_of : EndedRun → NodeView → Name → (call process : ℕ) → List MissingMember
-lacked_of run node name call p = unless_held (member_of run name p) (told ((node.board.contexts name).posts call p))
+lacked_of run node name call p = unless_held (member_of run name call p) (told ((node.board.contexts name).posts call p))
 
 abbrev pub lacked_in : EndedRun → NodeView → Name → (call : ℕ) → Option BirthView → List MissingMember
 lacked_in run node name call None = []

@@ -2,7 +2,7 @@
 ghost use Rattle.std.specs.Prelude.{◌≡◌, ◌++◌, IfOk, IfSome, OnOk, Some, slice_get};
 ghost use Rattle.std.specs.List.{flat_map};
 ghost use Rattle.mpx_node.specs.Shown.{node_of};
-ghost use Rattle.mpx_explain.specs.RunEnds.{LacksPosts, has_freed, lacked_by, lacked_of, member_of};
+ghost use Rattle.mpx_explain.specs.RunEnds.{LacksPosts, has_closed, lacked_by, lacked_of, member_of};
 
 use crate::ended::{EndedRun, node_at};
 use crate::walk::Awaited;
@@ -113,25 +113,25 @@ fn push_lacking(
 {
     match node.board().holds(name, call, member) {
         Some(_) => Ok(()),
-        None => Ok(missing.push(missing_member(run, name, member))?),
+        None => Ok(missing.push(missing_member(run, name, call, member))?),
     }
 }
 
-fn missing_member(run: &EndedRun<'_>, name: &Name, member: Proc) -> MissingMember
-    ensures { result ≡ member_of run.now name.now member }
+fn missing_member(run: &EndedRun<'_>, name: &Name, call: u32, member: Proc) -> MissingMember
+    ensures { result ≡ member_of run.now name.now call member }
 {
     MissingMember {
         rank: member.number(),
-        closed: has_freed(run, name, member),
+        closed: has_closed(run, name, call, member),
     }
 }
 
-// Whether a process has posted a free on a context, by its own node.
-fn has_freed(run: &EndedRun<'_>, name: &Name, process: Proc) -> bool
-    ensures { result ≡ has_freed run.now name.now process }
+// Whether a process has posted a free on a context, and no post to the call with this number before it, by its own node.
+fn has_closed(run: &EndedRun<'_>, name: &Name, call: u32, process: Proc) -> bool
+    ensures { result ≡ has_closed run.now name.now call process }
 {
     match node_at(run, process.number()) {
-        Some(node) => node.has_freed(name),
+        Some(node) => node.has_freed(name) && node.posted(name) <= call,
         None => false,
     }
 }
