@@ -47,7 +47,7 @@ PROMISES = {
     "what a world's run answers": ["World::run"],
     "every run": [*EVALUATION, "every_run_begins_the_evaluation"],
     "what is printed": [*EVALUATION, "run_text.prints"],
-    "its words and status": [*EVALUATION, "asked_of.asks", "exit_code.answers"],
+    "its words and status": [*EVALUATION, "invocation_of.asks", "exit_code.answers"],
 }
 # The tables of names, which say which name or word stands for what: of each what stands behind its first line is counted apart.
 TABLES = {"kind_named", "local_named", "predefined_named", "type_named", "refusal_name", "fault_name", "script_fault_name", "relation_text"}

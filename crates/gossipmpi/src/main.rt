@@ -2,13 +2,13 @@
 //! script's evaluation, or how much the script has.
 #![tactic(auto)]
 
-use mpx_shell::{asked_of, exit_code, seen_by};
+use mpx_shell::{invocation_of, exit_code, seen_by};
 use std::process::ExitCode;
 use std::{env, io};
 
 /// Hands on the words of the call and the standard streams.
 fn main(rt: HostRuntime) -> ExitCode {
-    let asked = asked_of(rt.alloc(), env::args(&rt));
+    let asked = invocation_of(rt.alloc(), env::args(&rt));
     let mut seen = seen_by(&asked, rt.alloc(), &rt, rt.stderr());
     exit_code(
         &rt,

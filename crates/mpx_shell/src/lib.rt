@@ -1,7 +1,7 @@
 //! A call of a program, from its words to its exit status, over any streams: by which operation of their own scripts may name, and who
 //! looks on at a run.
 //!
-//! In the order of reading: [`asked_of`], what the words ask for, which are read once; [`exit_code`], which a `main` calls with that, its streams and
+//! In the order of reading: [`invocation_of`], what the words ask for, which are read once; [`exit_code`], which a `main` calls with that, its streams and
 //! who looks on ([`seen_by`]); its parts are in `answering.rt`; [`Seen`], who looks on.
 #![tactic(auto)]
 
@@ -10,5 +10,5 @@ mod process;
 mod progress;
 mod seen;
 
-pub use process::{asked_of, exit_code, seen_by};
+pub use process::{invocation_of, exit_code, seen_by};
 pub use seen::Seen;

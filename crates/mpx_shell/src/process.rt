@@ -25,7 +25,7 @@ use std::{env, io};
 /// What the words of the process ask for. They are read once: by this a call is answered, and shown.
 ///
 /// A refusal is for words that ask for nothing, for a word that is no text, or for want of memory.
-pub fn asked_of(alloc: Global, args: io::Result<env::Args>) -> Result<Invocation, clap::Error>
+pub fn invocation_of(alloc: Global, args: io::Result<env::Args>) -> Result<Invocation, clap::Error>
     ensures asks { IfOk args (λ args. AskFor (map string_bytes (into_iter_items args)) result) }
     ensures refused { OnErr args (IsErrAnd result (λ why. (kind_of why ≡ InvalidValue) ⊎ (kind_of why ≡ OutOfMemory))) }
 {

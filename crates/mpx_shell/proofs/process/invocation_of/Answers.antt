@@ -1,6 +1,6 @@
 use Rattle.std.proofs.Common.{ap, map, string_bytes, ◌∙◌}
 use Rattle.mpx_shell.proofs.Ending.{ask_for, if_ok}
-use Rattle.mpx_shell.proofs.process.asked_of.Goals as goal
+use Rattle.mpx_shell.proofs.process.invocation_of.Goals as goal
 
 pub returns-in_ok-words-in-Ok-clause-asks : goal.returns-in_ok-words-in-Ok-clause-asks
 returns-in_ok-words-in-Ok-clause-asks c =
