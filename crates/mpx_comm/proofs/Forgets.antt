@@ -12,12 +12,12 @@ use Rattle.mpx_node.specs.Opened.{lets_go}
 use Rattle.mpx_node.specs.Stored.{count_gone, let_go}
 use Rattle.mpx_node.proofs.Forgotten.{posted_forgotten, result_before, result_or_forgotten}
 use Rattle.mpx_node.proofs.Gone.{length_lets}
-use Rattle.mpx_comm.specs.declared.request.Request.{Request}
+use Rattle.mpx_request.specs.declared.request.Request.{Request}
 use Rattle.mpx_comm.specs.Forgetting.{AreUntouched, IsLeastCall}
-use Rattle.mpx_comm.specs.Later.{is_empty, is_let_go, result_at, IsOwn}
+use Rattle.mpx_request.specs.Later.{is_empty, is_let_go, result_at, IsOwn}
 use Rattle.mpx_post.specs.Posts.{Given}
-use Rattle.mpx_comm.specs.Requests.{ArePosted}
-use Rattle.mpx_comm.proofs.Steps.{get_either}
+use Rattle.mpx_comm.specs.Calls.{ArePosted}
+use Rattle.mpx_request.proofs.Steps.{get_either}
 
 -- THE LEAST CALL
 

@@ -1,11 +1,13 @@
 -- Posts, and the open requests.
 use Rattle.std.proofs.Common.{◌≡◌, ℕ, zero, suc, ◌+◌, ◌<◌, ◌≤◌, ◌==◌, ◌&&◌, Bool, true, false, cond, List, [], ◌∷◌, ◌++◌, length, Option, Some, None, ◌⊎◌, inl, inr, refl, sym, ap, ◌∙◌, subst, arith}
-use Rattle.std.specs.Prelude.{◌||◌, Result, Ok, Err, IsOk, IfOk, slice_get, map, drop, remove, nat_lt}
+use Rattle.std.specs.Prelude.{Vec, Result, Ok, Err, IsOk, IfOk, slice_get, remove}
 use Rattle.std.specs.Option.{option_map, unwrap_or}
 use Rattle.std.specs.List.{list_any}
+use Rattle.std.specs.declared.alloc.Global.{Global}
+use Rattle.std.specs.declared.alloc.AllocFailed.{AllocFailed}
 use Rattle.std.specs.Set.{remove_key}
 use Rattle.indexmap.specs.IndexSet.{insert_key}
-use Rattle.std.proofs.lemmas.Bool.Decides.{Decides-eqb, nat_tests}
+use Rattle.std.proofs.lemmas.Bool.Decides.{Decides-eqb}
 use Rattle.mpx_name.specs.Order.{name_equality}
 use Rattle.mpx_post.specs.Posts.{Given}
 use Rattle.mpx_birth.specs.Births.{BirthView}
@@ -21,22 +23,23 @@ use Rattle.mpx_node.proofs.Drafted.{accepted}
 use Rattle.mpx_node.proofs.Gone.{stored_within}
 use Rattle.mpx_node.specs.Stored.{stored_at}
 use Rattle.mpx_node.specs.Nodes.{NodeView, OpenedView, posted_on, posted_by, Posts, with_post, posts_more, checked_on, checked_by, results_on, results_by, front_on}
-use Rattle.mpx_comm.specs.declared.request.Request.{Request}
-use Rattle.mpx_comm.specs.Requests.{same_request, close, close_all, AreKept, ArePosted, has_let_go, result_of, AreResults, WerePending, HasPosted, next_call, IsRefusal, Asks, AwaitsOne, GivesUpOne, Waits, PostsAnd, Calls}
-use Rattle.mpx_comm.specs.declared.answers.WaitError.TheVariants as W
-use Rattle.mpx_comm.specs.declared.answers.TurnError.{TurnError}
-use Rattle.mpx_comm.specs.declared.answers.TurnError.TheVariants as T
+use Rattle.mpx_request.specs.declared.request.Request.{Request}
+use Rattle.mpx_request.specs.Requests.{same_request, close, close_all, AreKept, has_let_go, result_of, AwaitsOne, GivesUpOne, Waits, TestsAll}
+use Rattle.mpx_comm.specs.Calls.{ArePosted, HasPosted, next_call, IsRefusal, Asks, PostsAnd, Calls}
+use Rattle.mpx_request.specs.declared.answers.Tested.{Tested}
+use Rattle.mpx_request.specs.declared.answers.Tested.TheVariants.{Done, NotYet, LetGo}
+use Rattle.mpx_request.specs.declared.answers.WaitError.TheVariants as W
+use Rattle.mpx_request.specs.declared.answers.TurnError.{TurnError}
+use Rattle.mpx_request.specs.declared.answers.TurnError.TheVariants as T
 use Rattle.mpx_comm.specs.declared.answers.CallError.{CallError}
 use Rattle.mpx_comm.specs.declared.answers.CallError.TheVariants as C
-use Rattle.mpx_comm.specs.Later.{Later, is_empty, is_let_go, result_at, IsPending, IsOwn}
-use Rattle.mpx_comm.specs.Harvested.{ComesByHarvests, WasPending}
+use Rattle.mpx_request.specs.Later.{Later, is_empty, is_let_go, result_at, IsPending, IsOwn}
 use Rattle.join_core.specs.laws.Cases.{first_true, second_true, TestAnswer, yes, no, answer}
-use Rattle.mpx_comm.proofs.Harvesting.{still_pending, pending_now}
 use Rattle.mpx_comm.specs.Keeps.{NodeHolds}
-use Rattle.mpx_comm.proofs.Steps.{ahead_kept, get_either, held_joined, held_added, there_kept}
+use Rattle.mpx_request.proofs.Steps.{ahead_kept, get_either, held_joined, there_kept}
+use Rattle.mpx_comm.proofs.Steps.{held_added}
 use Rattle.mpx_node.specs.declared.finished.Finished.{Finished}
 use Rattle.std.proofs.lemmas.Option.{same_Some}
-use Rattle.std.proofs.lemmas.List.{map-append}
 
 pub ok_holds : {A E P : Type 0} (r : Result A E) → IsOk r → IfOk r (λ a. P) → P
 ok_holds (Ok a) h p = p
@@ -68,6 +71,17 @@ pub posted_all_closed : (node : NodeView) (qs rs : List Request) → ArePosted n
 posted_all_closed node [] rs all = all
 posted_all_closed node (q ∷ qs) rs all = posted_all_closed node qs (close rs q) (posted_closed node rs q all)
 
+-- without the one at a place
+from_place : {A : Type 0} (xs : List A) (i k : ℕ) (x : A) → slice_get (remove xs i) k ≡ Some x → (j : ℕ) × (slice_get xs j ≡ Some x)
+from_place [] zero k x e = cc e
+from_place [] (suc i) k x e = cc e
+from_place (y ∷ ys) zero k x e = (suc k, e)
+from_place (y ∷ ys) (suc i) zero x e = (zero, e)
+from_place (y ∷ ys) (suc i) (suc k) x e = let place = from_place ys i k x e in (suc place.0, place.1)
+
+pub posted_removed : (node : NodeView) (rs : List Request) (i : ℕ) → ArePosted node rs → ArePosted node (remove rs i)
+posted_removed node rs i all k r e = let place = from_place rs i k r e in all place.0 r place.1
+
 pub posted_later : (old new : NodeView) (rs : List Request) → Later old new → ArePosted old rs → ArePosted new rs
 posted_later old new rs later all i r e = (subst (λ n. r.call < n) (sym (later.posted r.name)) (all i r e).0, later.let_go r.name r.call ∙ (all i r e).1)
 
@@ -75,21 +89,12 @@ posted_later old new rs later all i r e = (subst (λ n. r.call < n) (sym (later.
 pub kept_posted : (node : NodeView) (rs : List Request) → ArePosted node rs → AreKept node rs
 kept_posted node rs all i r e = (all i r e).1
 
-pub kept_later : (old new : NodeView) (rs : List Request) → Later old new → AreKept old rs → AreKept new rs
-kept_later old new rs later kept i r e = later.let_go r.name r.call ∙ kept i r e
-
-first_false : (a b : Bool) → (a || b) ≡ false → a ≡ false
-first_false true b e = e
-first_false false b e = refl
-
-second_false : (a b : Bool) → (a || b) ≡ false → b ≡ false
-second_false true b e = cc e
-second_false false b e = e
-
-pub kept_tested : (node : NodeView) (rs : List Request) → list_any (has_let_go node) rs ≡ false → AreKept node rs
-kept_tested node [] e i r at = cc at
-kept_tested node (q ∷ rs) e zero r at = subst (λ (x : Request). has_let_go node x ≡ false) (same_Some q r at) (first_false (has_let_go node q) (list_any (has_let_go node) rs) e)
-kept_tested node (q ∷ rs) e (suc i) r at = kept_tested node rs (second_false (has_let_go node q) (list_any (has_let_go node) rs) e) i r at
+-- a test of many leaves those posted that stay open
+pub posted_tested : (requests : List Request) (result : Result (Tested (Vec Finished Global) (Vec Request Global)) (AllocFailed (Vec Request Global))) (node : NodeView) (before after : List Request) → TestsAll requests result node before after → ArePosted node before → ArePosted node after
+posted_tested requests (Ok (Done all)) node before after tests posted = subst (ArePosted node) (sym tests.1) (posted_all_closed node requests before posted)
+posted_tested requests (Ok (NotYet back)) node before after tests posted = subst (ArePosted node) (sym tests.3) posted
+posted_tested requests (Ok (LetGo back)) node before after tests posted = subst (ArePosted node) (sym tests.2) posted
+posted_tested requests (Err refused) node before after tests posted = subst (ArePosted node) (sym tests.3) posted
 
 -- A POST
 
@@ -262,60 +267,13 @@ refused_or (Some e) r h = is_refused r e h
 refused_or None (Ok given) h = inr (refl, refl)
 refused_or None (Err x) h = cc h
 
--- LOOKING AT MANY
-
--- a list's head and tail
-heads : {A : Type 0} (x y : A) (xs ys : List A) → (x ∷ xs) ≡ (y ∷ ys) → x ≡ y
-heads x y xs ys e = same_Some x y (ap (λ zs. slice_get zs 0) e)
-
-tails : {A : Type 0} (x y : A) (xs ys : List A) → (x ∷ xs) ≡ (y ∷ ys) → xs ≡ ys
-tails x y xs ys e = ap (drop 1) e
-
--- results that are stored stay
-pub results_later : (old new : NodeView) (rs : List Request) (fs : List Finished) → Later old new → AreResults old rs fs → AreResults new rs fs
-results_later old new [] fs later e = e
-results_later old new (r ∷ rs) [] later e = cc e
-results_later old new (r ∷ rs) (f ∷ fs) later e =
-    let first : result_of new r ≡ Some f = later.stored r.name r.call f (heads (result_of old r) (Some f) (map (result_of old) rs) (map Some fs) e) in
-    let rest : map (result_of new) rs ≡ map Some fs = results_later old new rs fs later (tails (result_of old r) (Some f) (map (result_of old) rs) (map Some fs) e) in
-    λ i. first i ∷ rest i
-
--- one more result
-pub results_more : (node : NodeView) (rs qs : List Request) (fs gs : List Finished) (f : Finished) (r : Request) → AreResults node rs fs → result_of node r ≡ Some f → qs ≡ rs ++ r ∷ [] → gs ≡ fs ++ f ∷ [] → AreResults node qs gs
-results_more node rs qs fs gs f r e s q g =
-    ap (map (result_of node)) q ∙ map-append (result_of node) rs (r ∷ []) ∙ (λ i. e i ++ s i ∷ []) ∙ sym (map-append Some fs (f ∷ [])) ∙ ap (map Some) (sym g)
-
--- without the one at a place
-from_place : {A : Type 0} (xs : List A) (i k : ℕ) (x : A) → slice_get (remove xs i) k ≡ Some x → (j : ℕ) × (slice_get xs j ≡ Some x)
-from_place [] zero k x e = cc e
-from_place [] (suc i) k x e = cc e
-from_place (y ∷ ys) zero k x e = (suc k, e)
-from_place (y ∷ ys) (suc i) zero x e = (zero, e)
-from_place (y ∷ ys) (suc i) (suc k) x e = let place = from_place ys i k x e in (suc place.0, place.1)
-
-pub posted_removed : (node : NodeView) (rs : List Request) (i : ℕ) → ArePosted node rs → ArePosted node (remove rs i)
-posted_removed node rs i all k r e = let place = from_place rs i k r e in all place.0 r place.1
-
-pub were_later : (ops : List Operation) (a b c : NodeView) (n : ℕ) (rs : List Request) → WerePending ops a b n rs → ComesByHarvests ops b c → WerePending ops a c n rs
-were_later ops a b c n rs w more i r l e = still_pending ops a b c r.name r.call (w i r l e) more
-
--- one more was pending
-pub were_more : (ops : List Operation) (a b : NodeView) (n : ℕ) (rs : List Request) (r : Request) → WerePending ops a b n rs → ComesByHarvests ops a b → slice_get rs n ≡ Some r → IsPending b r.name r.call → WerePending ops a b (n + 1) rs
-were_more ops a b n rs r w since at pending i q l e = by_place (answer (nat_lt i n)) where
-  by_place : TestAnswer (nat_lt i n) → WasPending ops a b q.name q.call
-  by_place (yes t) = w i q (grind (arith, nat_tests)) e
-  by_place (no f) =
-      let place : i ≡ n = grind (arith, nat_tests) in
-      let same : r ≡ q = same_Some r q (sym at ∙ ap (slice_get rs) (sym place) ∙ e) in
-      pending_now ops a b q.name q.call since (subst (λ (x : Request). IsPending b x.name x.call) same pending)
+-- BLOCKING CALLS
 
 -- what was asked for just now wasn't let go
 pub asked_kept : (ops : List Operation) (old new : NodeView) (name : Name) (draft : Draft) (q : Request) (before after : List Request) → front_on old name ≤ posted_on old name → Asks ops name draft (Ok q) old new before after → has_let_go new q ≡ false
 asked_kept ops old new name draft q before after bounded asks =
     ap (λ (x : NodeView). has_let_go x q) asks.3 ∙ ap (λ (r : Request). has_let_go (with_post name (given_by draft) old) r) asks.0
     ∙ let_go_posted name (given_by draft) old name (posted_on old name) ∙ ahead_kept old name (posted_on old name) bounded
-
--- BLOCKING CALLS
 
 module _ {H : Type 0} (ops : List Operation) (node : H → NodeView) (turned : H → ℕ → H → Type 0) (refused : H → TurnError → H → Type 0) (name : Name) (draft : Draft) (old mid new : H) (before between after : List Request) (turns : ℕ) (q : Request) (asks : Asks ops name draft (Ok q) (node old) (node mid) before between) (still : turned old 0 mid) (later : Later (node mid) (node new)) where
   -- the post, and then a wait

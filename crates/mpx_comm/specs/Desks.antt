@@ -7,10 +7,10 @@ use Rattle.mpx_post.specs.declared.draft.PostError.{PostError}
 use Rattle.mpx_node.specs.declared.finished.Finished.{Finished}
 use Rattle.mpx_node.specs.Nodes.{NodeView}
 use Rattle.mpx_comm.specs.declared.answers.CallError.{CallError}
-use Rattle.mpx_comm.specs.declared.answers.TurnError.{TurnError}
+use Rattle.mpx_request.specs.declared.answers.TurnError.{TurnError}
 use Rattle.mpx_comm.specs.declared.desk.Desk.{Desk}
-use Rattle.mpx_comm.specs.declared.request.Request.{Request}
-use Rattle.mpx_comm.specs.Requests.{Asks, AsksGathered, Calls, CallsGathered, IsNotGathered}
+use Rattle.mpx_request.specs.declared.request.Request.{Request}
+use Rattle.mpx_comm.specs.Calls.{Asks, AsksGathered, Calls, CallsGathered, IsNotGathered}
 
 -- the draft is posted on the host, and its request is the desk's last open one; or it is refused, and nothing changes
 abbrev pub DeskAsks : {H : Type 0} {g : _} → List Operation → (node : H → NodeView) → Name → Draft → Result Request PostError → (old new : Desk H g) → Type 0

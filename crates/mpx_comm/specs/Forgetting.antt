@@ -4,11 +4,11 @@ use Rattle.mpx_name.specs.Name.{Name}
 use Rattle.mpx_node.specs.declared.finished.Finished.{Finished}
 use Rattle.mpx_node.specs.Forgetting.{forgets}
 use Rattle.mpx_node.specs.Nodes.{NodeView, front_on, has_next}
-use Rattle.mpx_comm.specs.declared.answers.TurnError.{TurnError}
-use Rattle.mpx_comm.specs.declared.answers.WaitError.{WaitError}
-use Rattle.mpx_comm.specs.declared.request.Request.{Request}
-use Rattle.mpx_comm.specs.Later.{Later}
-use Rattle.mpx_comm.specs.Requests.{Waits, result_of}
+use Rattle.mpx_request.specs.declared.answers.TurnError.{TurnError}
+use Rattle.mpx_request.specs.declared.answers.WaitError.{WaitError}
+use Rattle.mpx_request.specs.declared.request.Request.{Request}
+use Rattle.mpx_request.specs.Later.{Later}
+use Rattle.mpx_request.specs.Requests.{Waits, result_of}
 
 -- it is the least of this number and of the calls of the context that these requests are for
 pub record IsLeastCall (most : ℕ) (name : Name) (requests : List Request) (least : ℕ) : Type 0 where

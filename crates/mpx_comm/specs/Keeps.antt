@@ -4,7 +4,7 @@ use Rattle.mpx_name.specs.Name.{Name}
 use Rattle.mpx_post.specs.Posts.{Given}
 use Rattle.mpx_node.specs.declared.finished.Finished.{Finished}
 use Rattle.mpx_node.specs.Nodes.{NodeView}
-use Rattle.mpx_comm.specs.Later.{result_at, is_let_go, IsOwn}
+use Rattle.mpx_request.specs.Later.{result_at, is_let_go, IsOwn}
 
 -- what was stored is stored, and what was the own post is it
 pub record NodeKeeps (old new : NodeView) : Type 0 where

@@ -1,12 +1,8 @@
-pub mod Later
-pub mod Turns
-pub mod Requests
-pub mod Any
+pub mod Calls
 pub mod Asking
 pub mod Desks
 pub mod Lines
 pub mod Keeps
 pub mod Comms
-pub mod Harvested
 pub mod Forgetting
 pub mod Given

@@ -9,12 +9,11 @@ ghost use Rattle.mpx_comm.specs.declared.asking.AskError.TheVariants.{OutOfMemor
 
 use crate::comm::Comm;
 use crate::desk::Desk;
-use crate::host::Host;
-use crate::request::Request;
 use mpx_birth::{Neighbour, Topology};
 use mpx_board::Board;
 use mpx_group::{Group, Proc, Rank, all_in};
 use mpx_name::Name;
+use mpx_request::{Host, Request};
 use std::alloc::Global;
 use thiserror::Error;
 
@@ -151,10 +150,16 @@ impl<H: Host> Desk<H> {
         ensures { Answers (awaited_on (H.node self.now.host) request.now.name request.now.call) (read (λ v. v.items) result) }
     {
         let board = self.host.board();
-        match board.birth(&request.name) {
+        match board.birth(request.name()) {
             None => Err(AskError::NotKnown),
             Some(birth) => {
-                match lacking(alloc, board, &request.name, request.call, birth.members()) {
+                match lacking(
+                    alloc,
+                    board,
+                    request.name(),
+                    request.call(),
+                    birth.members(),
+                ) {
                     Ok(ranks) => Ok(ranks),
                     Err(_) => Err(AskError::OutOfMemory),
                 }

@@ -6,22 +6,23 @@ ghost use Rattle.mpx_post.specs.declared.draft.PostError.{PostError as PostError
 ghost use Rattle.mpx_post.specs.Drafts.{given_by, refusal_of};
 ghost use Rattle.mpx_post.specs.Posts.{Given};
 ghost use Rattle.mpx_comm.specs.Comms.{gathering_in};
-ghost use Rattle.mpx_comm.specs.Harvested.{Harvested};
-ghost use Rattle.mpx_comm.specs.Later.{Later, IsAtHand};
-ghost use Rattle.mpx_comm.specs.Requests.{HasStatus, IsRefusal, Tests, TestsAll, TestsAny, Waits, WaitsAll, ArePosted};
+ghost use Rattle.mpx_request.specs.Harvested.{Harvested};
+ghost use Rattle.mpx_request.specs.Later.{Later, IsAtHand};
+ghost use Rattle.mpx_request.specs.Requests.{HasStatus, Tests, TestsAll, TestsAny, Waits, WaitsAll};
+ghost use Rattle.mpx_comm.specs.Calls.{IsRefusal, ArePosted};
 
-use crate::answers::{CallError, Tested, TurnError, WaitError};
+use crate::answers::CallError;
 use crate::comm::{Comm, OpenedGathering};
-use crate::forgetting::{one_was_let_go, was_let_go};
-use crate::host::Host;
-use crate::look::{await_all, await_one, close_each, look, look_all, look_any};
-use crate::request::Request;
 use indexmap::IndexSet;
 use join_core::{Exact, OutOfMemory};
 use mpx_name::Name;
 use mpx_node::Finished;
 use mpx_num::{Listing, Numbers, Ops};
 use mpx_post::{Draft, PostError};
+use mpx_request::{
+    Host, Request, Tested, TurnError, WaitError, await_all, await_one, close_each, look, look_any,
+    one_was_let_go, test_all, was_let_go,
+};
 use std::alloc::{AllocFailed, Global};
 
 /// The user's calls over a host, and the requests that are open, in order of posting.
@@ -200,17 +201,7 @@ impl<H: Host> Desk<H> {
         ensures harvested { Harvested (H.goes_by self.old.host (⟦<Ops as Listing>⟧.operations ops.now)) (H.node self.old.host) (H.node self.new.host) }
         ensures no_turn { H.turned self.old.host 0 self.new.host }
     {
-        if one_was_let_go(&self.host, &requests) {
-            return Ok(Tested::LetGo(requests));
-        }
-        match look_all(alloc, &mut self.host, &requests, ops) {
-            Err(_) => Err(AllocFailed { value: requests }),
-            Ok(None) => Ok(Tested::NotYet(requests)),
-            Ok(Some(all)) => {
-                close_each(&mut self.requests, &requests);
-                Ok(Tested::Done(all))
-            }
-        }
+        test_all(alloc, &mut self.host, &mut self.requests, requests, ops)
     }
 
     /// The first open request in order of posting that is done, and its result, or `None` where none is (`MPI_TESTANY`, MPI 4.1

@@ -1,18 +1,13 @@
 //! Results that a desk lets go.
 ghost use Rattle.std.specs.Prelude.{◌≡◌};
-ghost use Rattle.std.specs.List.{list_any};
 ghost use Rattle.mpx_comm.specs.Forgetting.{AreUntouched, HostForgets, IsLeastCall, WaitsAndForgets};
-ghost use Rattle.mpx_comm.specs.Requests.{has_let_go};
 
-use crate::answers::{TurnError, WaitError};
 use crate::comm::Comm;
 use crate::desk::Desk;
-use crate::host::Host;
-use crate::look::await_one;
-use crate::request::Request;
 use mpx_name::Name;
 use mpx_node::Finished;
 use mpx_num::Ops;
+use mpx_request::{Host, Request, TurnError, WaitError, await_one, was_let_go};
 use std::alloc::Global;
 
 /// Letting results go.
@@ -51,7 +46,7 @@ impl<H: Host> Desk<H> {
             Ok(None) => Err(WaitError::StillWaiting(request)),
             Ok(Some(finished)) => {
                 self.requests.shift_remove(&request);
-                self.forget_on(&request.name);
+                self.forget_on(request.name());
                 drop(request);
                 Ok(finished)
             }
@@ -69,36 +64,16 @@ impl<H: Host> Desk<H> {
     }
 }
 
-// Whether the request's result was let go.
-pub fn was_let_go<H: Host>(host: &H, request: &Request) -> bool
-    ensures { result ≡ has_let_go (H.node host.now) request.now }
-{
-    match host.result(&request.name, request.call) {
-        Some(_) => false,
-        None => request.call < host.front(&request.name),
-    }
-}
-
-// Whether that of one of them was.
-pub fn one_was_let_go<H: Host>(host: &H, requests: &[Request]) -> bool
-    ensures { result ≡ list_any (has_let_go (H.node host.now)) requests.now }
-{
-    for request in requests {
-        if was_let_go(host, request) {
-            return true;
-        }
-    }
-    false
-}
-
 // The least of this number and of the calls of the context that the requests are for.
 fn least_open(most: u32, name: &Name, requests: &[Request]) -> u32
     ensures { IsLeastCall most name.now requests.now result }
 {
     let mut least = most;
     for request in requests {
-        if request.name == *name && request.call < least {
-            least = request.call;
+        let at = request.name();
+        let call = request.call();
+        if *at == *name && call < least {
+            least = call;
         }
     }
     least

@@ -12,12 +12,13 @@ ghost use Rattle.mpx_node.specs.Forgetting.{forgets};
 ghost use Rattle.mpx_node.specs.Nodes.{NodeView, Opens, StopsTaking, gathers_on, learn, with_post};
 ghost use Rattle.mpx_node.specs.declared.node.Harvest.{Harvest};
 ghost use Rattle.mpx_node.specs.declared.finished.Finished.{Finished};
-ghost use Rattle.mpx_comm.specs.declared.answers.Tested.TheVariants.{Done};
-ghost use Rattle.mpx_comm.specs.declared.request.Request.{Request};
-ghost use Rattle.mpx_comm.specs.Harvested.{HarvestsNext};
+ghost use Rattle.mpx_request.specs.declared.answers.Tested.TheVariants.{Done};
+ghost use Rattle.mpx_request.specs.declared.request.Request.{Request};
+ghost use Rattle.mpx_request.specs.Harvested.{HarvestsNext};
 ghost use Rattle.mpx_comm.specs.Keeps.{NodeHolds, NodeKeeps};
-ghost use Rattle.mpx_comm.specs.Later.{Later};
-ghost use Rattle.mpx_comm.specs.Requests.{HasPosted, Tests, result_of, next_call};
+ghost use Rattle.mpx_request.specs.Later.{Later};
+ghost use Rattle.mpx_request.specs.Requests.{Tests, result_of};
+ghost use Rattle.mpx_comm.specs.Calls.{HasPosted, next_call};
 
 /// Posts, tests, turns, and waits that let nothing go, in any number and order, keep what was posted and stored; so do gatherings that
 /// are opened, harvests, and boards that come, also where memory was wanting to take one whole. Only [`Desk::forget`] and

@@ -3,9 +3,9 @@
 //! In the order of reading: [`Host`], [`Comm`], [`Request`], [`Desk`], [`numbers_of`], and the laws
 //! [`calls_keep_posts_and_results`], [`results_say_what_was_posted`], [`answers_are_stored_results`] and
 //! [`results_stay_until_they_are_let_go`]. Contracts see a desk by its host's node and the list of its open requests in order
-//! of posting. What each call comes to is said in `specs/Requests.antt`, by the cases of its answer, and which draft it posts
-//! in `specs/Lines.antt`, one row a call; `specs/Later.antt` says what stays of a node meanwhile, `specs/Harvested.antt` what a
-//! test does to it, `specs/Turns.antt` what a wait does, and `specs/Forgetting.antt` what a desk lets go.
+//! of posting. What a post and a blocking call come to is said in `specs/Calls.antt`, by the cases of its answer, and which draft it posts
+//! in `specs/Lines.antt`, one row a call; `specs/Forgetting.antt` says what a desk lets go. Hosts, requests, tests and waits are
+//! `mpx_request`'s: its `specs/Requests.antt` and `specs/Any.antt`.
 #![tactic(auto)]
 
 mod alone;
@@ -17,25 +17,20 @@ mod desk;
 mod exchanges;
 mod forgetting;
 mod given;
-mod host;
 mod laws;
 mod lines;
-mod look;
 mod neighbourhoods;
 mod progress;
 mod reductions;
-mod request;
 mod rooted;
-mod some;
 
-pub use answers::{CallError, Tested, TurnError, WaitError};
+pub use answers::CallError;
 pub use asking::{AskError, Relation};
 pub use comm::{Comm, OpenedGathering};
 pub use desk::Desk;
 pub use given::{GivenError, integer_of, integers_of, numbers_of};
-pub use host::Host;
 pub use laws::{
     answers_are_stored_results, calls_keep_posts_and_results, results_say_what_was_posted,
     results_stay_until_they_are_let_go,
 };
-pub use request::Request;
+pub use mpx_request::{Host, Request, Tested, TurnError, WaitError};

@@ -1,19 +1,17 @@
 //! Turns of the host alone, and waits for any of the open requests.
 ghost use Rattle.std.specs.Prelude.{◌≡◌};
-ghost use Rattle.mpx_comm.specs.Any.{TestsSome, WaitsAny, WaitsSome};
-ghost use Rattle.mpx_comm.specs.Harvested.{Harvested};
-ghost use Rattle.mpx_comm.specs.Later.{Later};
-ghost use Rattle.mpx_comm.specs.Turns.{MakesTurns};
+ghost use Rattle.mpx_request.specs.Any.{TestsSome, WaitsAny, WaitsSome};
+ghost use Rattle.mpx_request.specs.Harvested.{Harvested};
+ghost use Rattle.mpx_request.specs.Later.{Later};
+ghost use Rattle.mpx_request.specs.Turns.{MakesTurns};
 
-use crate::answers::{TurnError, WaitError};
 use crate::desk::Desk;
-use crate::host::Host;
-use crate::look::{await_any, make_turns};
-use crate::request::Request;
-use crate::some::{await_some, close_done, look_some};
 use join_core::OutOfMemory;
 use mpx_node::Finished;
 use mpx_num::{Listing, Ops};
+use mpx_request::{
+    Host, Request, TurnError, WaitError, await_any, await_some, close_done, look_some, make_turns,
+};
 use std::alloc::Global;
 
 /// Progress, which no test makes.

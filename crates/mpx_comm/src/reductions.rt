@@ -7,13 +7,12 @@ ghost use Rattle.mpx_comm.specs.Lines as line;
 use crate::answers::CallError;
 use crate::comm::Comm;
 use crate::desk::Desk;
-use crate::host::Host;
 use crate::lines;
-use crate::request::Request;
 use mpx_kind::Mode;
 use mpx_node::Finished;
 use mpx_num::{Listing, Numbers, Op, Ops, Ty};
 use mpx_post::PostError;
+use mpx_request::{Host, Request};
 use std::alloc::Global;
 
 /// What `turns` counts, and which refusals and errors every call has, is told at [`Desk`]; each call tells its own.

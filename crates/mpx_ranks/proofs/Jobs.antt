@@ -13,7 +13,7 @@ use Rattle.mpx_bus.specs.Meetings.{HaveAllMet}
 use Rattle.mpx_bus.specs.Ports.{IsFleet, IsNew, PortView, node_in, process_in}
 use Rattle.mpx_bus.specs.Rule.{world_of}
 use Rattle.mpx_comm.specs.declared.comm.Comm.{Comm}
-use Rattle.mpx_comm.specs.Later.{Later}
+use Rattle.mpx_request.specs.Later.{Later}
 use Rattle.mpx_node.specs.Nodes.{NodeView, start_node}
 use Rattle.mpx_num.specs.declared.own.Operation.{Operation}
 use Rattle.mpx_world.proofs.Lists.{slice_get-push_cases, slice_get-take}

@@ -2,15 +2,16 @@
 use Rattle.std.proofs.Common.{◌≡◌, ℕ, List, Result, Ok, Err, inl, inr, sym, subst}
 use Rattle.mpx_comm.specs.declared.answers.CallError.{CallError}
 use Rattle.mpx_comm.specs.declared.answers.CallError.TheVariants as C
-use Rattle.mpx_comm.specs.declared.answers.TurnError.{TurnError}
-use Rattle.mpx_comm.specs.declared.answers.TurnError.TheVariants as T
-use Rattle.mpx_comm.specs.declared.answers.WaitError.{WaitError}
-use Rattle.mpx_comm.specs.declared.answers.WaitError.TheVariants as W
-use Rattle.mpx_comm.specs.declared.request.Request.{Request}
+use Rattle.mpx_request.specs.declared.answers.TurnError.{TurnError}
+use Rattle.mpx_request.specs.declared.answers.TurnError.TheVariants as T
+use Rattle.mpx_request.specs.declared.answers.WaitError.{WaitError}
+use Rattle.mpx_request.specs.declared.answers.WaitError.TheVariants as W
+use Rattle.mpx_request.specs.declared.request.Request.{Request}
 use Rattle.mpx_comm.specs.Forgetting.{WaitsAndForgets}
-use Rattle.mpx_comm.specs.Later.{IsAtHand, IsPending}
-use Rattle.mpx_comm.specs.Requests.{Calls, Waits}
-use Rattle.mpx_comm.specs.Turns.{GivesUp}
+use Rattle.mpx_request.specs.Later.{IsAtHand, IsPending}
+use Rattle.mpx_request.specs.Requests.{Waits}
+use Rattle.mpx_comm.specs.Calls.{Calls}
+use Rattle.mpx_request.specs.Turns.{GivesUp}
 use Rattle.mpx_name.specs.Name.{Name}
 use Rattle.mpx_node.specs.declared.finished.Finished.{Finished}
 use Rattle.mpx_node.specs.Nodes.{NodeView}

@@ -16,7 +16,7 @@ use Rattle.mpx_bus.specs.declared.port.Pop.TheVariants as O
 use Rattle.mpx_bus.specs.declared.port.Push.{Push}
 use Rattle.mpx_bus.specs.declared.port.Push.TheVariants as P
 use Rattle.mpx_bus.specs.Ports.{HasListed, IsSamePort, PortView, node_in}
-use Rattle.mpx_comm.proofs.Steps.{later_learns, later_more, later_none}
+use Rattle.mpx_request.proofs.Steps.{later_learns, later_more, later_none}
 use Rattle.mpx_name.specs.Name.{Name}
 use Rattle.mpx_ranks.specs.Members.{HasHeard, Prunes, PushesAnother, Turns, wanted_memory}
 use Rattle.mpx_node.specs.Nodes.{NodeView}

@@ -11,9 +11,9 @@ use Rattle.mpx_bus.specs.declared.port.Pop.{Pop}
 use Rattle.mpx_bus.specs.declared.port.Pop.TheVariants as O
 use Rattle.mpx_bus.specs.declared.port.Push.{Push}
 use Rattle.mpx_bus.specs.Ports.{IsSamePort, PortView}
-use Rattle.mpx_comm.specs.declared.answers.TurnError.{TurnError}
-use Rattle.mpx_comm.specs.declared.answers.TurnError.TheVariants as T
-use Rattle.mpx_comm.specs.Later.{Later}
+use Rattle.mpx_request.specs.declared.answers.TurnError.{TurnError}
+use Rattle.mpx_request.specs.declared.answers.TurnError.TheVariants as T
+use Rattle.mpx_request.specs.Later.{Later}
 use Rattle.mpx_name.specs.Name.{Name}
 use Rattle.mpx_node.specs.Nodes.{NodeView}
 

@@ -8,7 +8,7 @@ use Rattle.mpx_bus.specs.declared.act.Act.{Act}
 use Rattle.mpx_bus.specs.declared.act.Setup.{Setup}
 use Rattle.mpx_bus.specs.Ports.{IsNew, PortView}
 use Rattle.mpx_comm.specs.declared.comm.Comm.{Comm}
-use Rattle.mpx_comm.specs.Later.{Later}
+use Rattle.mpx_request.specs.Later.{Later}
 use Rattle.mpx_node.specs.declared.finished.Finished.{Finished}
 use Rattle.mpx_node.specs.Nodes.{NodeView, start_node}
 use Rattle.mpx_world.specs.Soundness.{Agree, IsValue, Sound}

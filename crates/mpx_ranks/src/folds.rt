@@ -1,7 +1,7 @@
 //! A port's calls by a list of operations, whose type the caller picks.
 ghost use Rattle.std.specs.Prelude.{◌≡◌};
 ghost use Rattle.mpx_bus.specs.Ports.{IsSamePort, node_in};
-ghost use Rattle.mpx_comm.specs.Harvested.{HarvestsNext};
+ghost use Rattle.mpx_request.specs.Harvested.{HarvestsNext};
 ghost use Rattle.mpx_node.specs.Nodes.{Posts, checked_on};
 ghost use Rattle.mpx_node.specs.Shown.{node_of};
 ghost use Rattle.mpx_post.specs.Drafts.{refusal_of};

@@ -1,10 +1,11 @@
 //! What follows from the nodes' one history, as a call that does nothing.
 ghost use Rattle.std.specs.Prelude.{◌≡◌, ℕ, List, Ok, Result, Some, slice_get};
 ghost use Rattle.mpx_comm.specs.declared.answers.CallError.{CallError};
-ghost use Rattle.mpx_comm.specs.declared.answers.WaitError.{WaitError};
-ghost use Rattle.mpx_comm.specs.declared.request.Request.{Request};
+ghost use Rattle.mpx_request.specs.declared.answers.WaitError.{WaitError};
+ghost use Rattle.mpx_request.specs.declared.request.Request.{Request};
 ghost use Rattle.mpx_comm.specs.Forgetting.{WaitsAndForgets};
-ghost use Rattle.mpx_comm.specs.Requests.{Calls, Waits};
+ghost use Rattle.mpx_request.specs.Requests.{Waits};
+ghost use Rattle.mpx_comm.specs.Calls.{Calls};
 ghost use Rattle.mpx_name.specs.Name.{Name};
 ghost use Rattle.mpx_node.specs.declared.finished.Finished.{Finished};
 ghost use Rattle.mpx_node.specs.Nodes.{NodeView, result_on};

@@ -4,7 +4,7 @@ ghost use Rattle.std.proofs.Props.{props};
 ghost use Rattle.mpx_board.specs.Looks.{look};
 ghost use Rattle.mpx_bus.specs.Buses.{table_of};
 ghost use Rattle.mpx_bus.specs.Ports.{node_in};
-ghost use Rattle.mpx_comm.specs.Later.{Later};
+ghost use Rattle.mpx_request.specs.Later.{Later};
 ghost use Rattle.mpx_ranks.specs.Had.{GoesOn};
 ghost use Rattle.mpx_ranks.specs.Members.{RefusesTurn, Turns};
 

@@ -1,7 +1,7 @@
 //! The calls of one rank, over any host: requests that overlap, calls that make communicators, and calls on what they made.
 ghost use Rattle.std.specs.Prelude.{◌≡◌, IfOk, Some};
 ghost use Rattle.mpx_comm.specs.Comms.{comm_of};
-ghost use Rattle.mpx_comm.specs.Requests.{result_of};
+ghost use Rattle.mpx_request.specs.Requests.{result_of};
 
 use crate::desks::number_in;
 use crate::stop::Stop;

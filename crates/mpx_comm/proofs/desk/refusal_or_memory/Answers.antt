@@ -1,5 +1,5 @@
 use Rattle.std.proofs.Common.{subst, sym}
-use Rattle.mpx_comm.specs.Requests.{IsRefusal}
+use Rattle.mpx_comm.specs.Calls.{IsRefusal}
 use Rattle.mpx_comm.proofs.Posting.{refused_or}
 use Rattle.mpx_comm.proofs.desk.refusal_or_memory.Goals as goal
 

@@ -1,7 +1,8 @@
 use Rattle.mpx_node.specs.Nodes.{NodeView, gathers_on, learn}
 use Rattle.mpx_comm.specs.Keeps.{NodeKeeps}
-use Rattle.mpx_comm.specs.Later.{Later}
-use Rattle.mpx_comm.proofs.Steps.{later_gathers, later_harvest, later_learns, later_stops}
+use Rattle.mpx_request.specs.Later.{Later}
+use Rattle.mpx_request.proofs.Steps.{later_harvest, later_learns}
+use Rattle.mpx_comm.proofs.Steps.{later_gathers, later_stops}
 use Rattle.mpx_comm.proofs.laws.calls_keep_posts_and_results.Goals as goal
 
 keeps : (old now : NodeView) → Later old now → NodeKeeps old now

@@ -2,10 +2,11 @@ use Rattle.std.proofs.Common.{inl, ◌∙◌}
 use Rattle.mpx_node.specs.Nodes.{NodeView, gathers_on, learn, posted_on}
 use Rattle.mpx_post.specs.Drafts.{given_by}
 use Rattle.mpx_comm.specs.Keeps.{NodeHolds}
-use Rattle.mpx_comm.specs.Later.{Later}
+use Rattle.mpx_request.specs.Later.{Later}
 use Rattle.mpx_comm.proofs.Forgets.{gone_forgets, own_kept, stored_forgets}
 use Rattle.mpx_comm.proofs.Posting.{holds_posted, same_or_gone, stored_then}
-use Rattle.mpx_comm.proofs.Steps.{later_gathers, later_harvest, later_learns, later_stops}
+use Rattle.mpx_request.proofs.Steps.{later_harvest, later_learns}
+use Rattle.mpx_comm.proofs.Steps.{later_gathers, later_stops}
 use Rattle.mpx_comm.proofs.laws.results_stay_until_they_are_let_go.Goals as goal
 
 holds : (old now : NodeView) → Later old now → NodeHolds old now

@@ -1,6 +1,6 @@
 use Rattle.std.proofs.Common.{ap, sym, subst, ◌∙◌}
 use Rattle.mpx_bus.specs.Ports.{PortView, node_in}
-use Rattle.mpx_comm.specs.Later.{Later}
+use Rattle.mpx_request.specs.Later.{Later}
 use Rattle.mpx_ranks.proofs.Jobs.{has_answered}
 use Rattle.mpx_ranks.specs.Had.{GoesOn}
 use Rattle.mpx_ranks.proofs.work.work_as_rank.Goals as goal

@@ -1,6 +1,6 @@
 use Rattle.std.proofs.Common.{subst}
 use Rattle.std.specs.Prelude.{IfSome}
-use Rattle.mpx_comm.specs.declared.request.Request.{Request}
+use Rattle.mpx_request.specs.declared.request.Request.{Request}
 use Rattle.mpx_node.specs.declared.finished.Finished.{Finished}
 use Rattle.rank_tests.proofs.had.sum_of.Goals as goal
 

@@ -1,5 +1,5 @@
 use Rattle.mpx_node.specs.Shown.{node_of}
-use Rattle.mpx_comm.proofs.Steps.{later_same}
+use Rattle.mpx_request.proofs.Steps.{later_same}
 use Rattle.mpx_comm.proofs.Posting.{posted_later}
 use Rattle.mpx_comm.proofs.alone.Desk+Node.lacking_frames.Goals as goal
 

@@ -1,7 +1,8 @@
 use Rattle.std.proofs.Common.{◌≡◌, ◌++◌, [], ◌∷◌, List, sym, ap, ◌∙◌, refl, subst}
 use Rattle.indexmap.specs.IndexSet.{insert_key}
-use Rattle.mpx_comm.specs.declared.request.Request.{Request}
-use Rattle.mpx_comm.specs.Requests.{ArePosted, same_request}
+use Rattle.mpx_request.specs.declared.request.Request.{Request}
+use Rattle.mpx_request.specs.Requests.{same_request}
+use Rattle.mpx_comm.specs.Calls.{ArePosted}
 use Rattle.mpx_comm.proofs.Posting.{ok_holds, post_done, posted_exactly, posts_keep}
 use Rattle.mpx_node.specs.Nodes.{checked_on}
 use Rattle.mpx_comm.proofs.desk.Desk.post_on.Goals as goal

@@ -2,8 +2,8 @@ use mir.Syntax.{w128}
 use Rattle.std.proofs.Common.{inr}
 use Rattle.std.proofs.lemmas.Int.{to_z-of_z}
 use Rattle.mpx_comm.specs.Lines.{create_group}
-use Rattle.mpx_comm.specs.Requests.{Asks}
-use Rattle.mpx_comm.proofs.Harvesting.{by_first}
+use Rattle.mpx_comm.specs.Calls.{Asks}
+use Rattle.mpx_request.proofs.Harvesting.{by_first}
 use Rattle.mpx_comm.proofs.Posting.{asks_by_row}
 use Rattle.mpx_comm.proofs.desk.Desk.start_create_group.Goals as goal
 

@@ -1,4 +1,4 @@
-use Rattle.mpx_comm.proofs.Harvesting.{harvested_none}
+use Rattle.mpx_request.proofs.Harvesting.{harvested_none}
 use Rattle.mpx_comm.proofs.desk.Desk.status.Goals as goal
 
 pub returns-then-was_let_go-clause-harvested : goal.returns-then-was_let_go-clause-harvested

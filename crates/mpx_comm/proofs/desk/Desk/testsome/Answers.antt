@@ -1,5 +1,6 @@
 use Rattle.std.proofs.Common.{map, subst, sym}
-use Rattle.mpx_comm.specs.Requests.{AreKept, ArePosted}
+use Rattle.mpx_request.specs.Requests.{AreKept}
+use Rattle.mpx_comm.specs.Calls.{ArePosted}
 use Rattle.mpx_comm.proofs.Posting.{kept_posted, posted_all_closed, posted_later}
 use Rattle.mpx_comm.proofs.desk.Desk.testsome.Goals as goal
 

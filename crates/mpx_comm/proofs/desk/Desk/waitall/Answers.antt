@@ -1,7 +1,9 @@
-use Rattle.mpx_comm.proofs.Posting.{kept_later, kept_tested, posted_all_closed, posted_later}
+use Rattle.mpx_request.proofs.Many.{kept_later, kept_tested}
+use Rattle.mpx_comm.proofs.Posting.{posted_all_closed, posted_later}
 use Rattle.std.proofs.Common.{ap, ◌∙◌, refl, subst, sym}
 use Rattle.std.specs.List.{list_any}
-use Rattle.mpx_comm.specs.Requests.{ArePosted, has_let_go}
+use Rattle.mpx_request.specs.Requests.{has_let_go}
+use Rattle.mpx_comm.specs.Calls.{ArePosted}
 use Rattle.mpx_comm.proofs.desk.Desk.waitall.Goals as goal
 
 pub invariant_of-self-in-Ok-Some : goal.invariant_of-self-in-Ok-Some

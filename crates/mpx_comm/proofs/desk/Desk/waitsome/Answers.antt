@@ -1,6 +1,7 @@
 use Rattle.std.proofs.Common.{inr, map, refl, subst, sym}
-use Rattle.mpx_comm.specs.Requests.{AreKept, ArePosted}
-use Rattle.mpx_comm.proofs.Any.{closes_done}
+use Rattle.mpx_request.specs.Requests.{AreKept}
+use Rattle.mpx_comm.specs.Calls.{ArePosted}
+use Rattle.mpx_request.proofs.Any.{closes_done}
 use Rattle.mpx_comm.proofs.Posting.{kept_posted, posted_all_closed, posted_later}
 use Rattle.mpx_comm.proofs.desk.Desk.waitsome.Goals as goal
 

@@ -1,5 +1,5 @@
 use Rattle.mpx_bus.specs.Ports.{node_in}
-use Rattle.mpx_comm.proofs.Steps.{later_more, later_none}
+use Rattle.mpx_request.proofs.Steps.{later_more, later_none}
 use Rattle.mpx_ranks.proofs.More.{goes_either}
 use Rattle.mpx_ranks.specs.Had.{goes_nowhere, goes_then}
 use Rattle.mpx_ranks.proofs.member.Member.gossip_on.Goals as goal

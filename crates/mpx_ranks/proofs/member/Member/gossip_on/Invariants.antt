@@ -1,5 +1,5 @@
 use Rattle.mpx_bus.specs.Ports.{node_in}
-use Rattle.mpx_comm.specs.Later.{Later}
+use Rattle.mpx_request.specs.Later.{Later}
 use Rattle.mpx_ranks.specs.Had.{GoesOn}
 use Rattle.mpx_ranks.proofs.member.Member.gossip_on.Given as goal
 

@@ -1,0 +1,6 @@
+pub mod Steps
+pub mod Many
+pub mod Turns
+pub mod Harvesting
+pub mod Any
+mod Picks

@@ -1,0 +1,5 @@
+pub mod Later
+pub mod Turns
+pub mod Requests
+pub mod Any
+pub mod Harvested
