@@ -15,7 +15,7 @@ use Rattle.mpx_script.specs.Refusals.{is_past, is_unknown_line, on_form, has_wro
 use Rattle.mpx_script.specs.Meanings.{statement_in, statement_as}
 use Rattle.mpx_script.specs.Naming.{BoundNames, has_bad_name, lacks_name, on_names, ranks_labelled, takes_name}
 use Rattle.mpx_script.specs.Reading.{refusal, first_holding, plain_context, statements_limit}
-use Rattle.mpx_script.specs.Sentences.{IsLineRefusal, form_refusal, statement_refusal, names_refusal, call_refusal, draft_refusal, read_at}
+use Rattle.mpx_script.specs.Sentences.{IsLineRefusal, form_refusal, statement_refusal, names_refusal, call_refusal, draft_refusal, posting_refusal, read_at}
 use Rattle.mpx_script.specs.declared.grammar.Form.{Form}
 use Rattle.mpx_statement.specs.declared.statement.Statement.{Statement}
 use Rattle.mpx_script.specs.declared.faults.LineError.{LineError}
@@ -39,21 +39,25 @@ pub refusal_of_no_word : (ops : List Operation) (p : DirectiveSyntax) → is_non
 unfolding statement_refusal is_unknown_line
 refusal_of_no_word ops p label no_form = rw (label, no_form) refl
 
-module _ (ops : List Operation) (kind : Kind) (mode : Mode) (communicator : Option (List ℕ)) (new : NewSyntax) (call : CallSyntax) (known : has_unknown_word ops call ≡ false) (there : is_none communicator ≡ false) (counted : has_wrong_count (fields_of kind) call ≡ false) (ended : has_wrong_end (ends_with_name kind mode) call ≡ false) where
-  -- a call whose words are as many as its kind asks for is refused for its tag
-  pub refusal_of_tag : read_at number_of (pos 0) new.tag ≡ None → call_refusal ops kind mode communicator new call ≡ Some BadNumber
-  refusal_of_tag tag = rw (known, there, counted, ended, read_nothing number_of (pos 0) new.tag tag) refl
+-- a call whose words are as many as its kind asks for is refused as what it posts
+pub refusal_as_posting : (ops : List Operation) (kind : Kind) (mode : Mode) (communicator : Option (List ℕ)) (new : NewSyntax) (call : CallSyntax) → has_unknown_word ops call ≡ false → is_none communicator ≡ false → has_wrong_count (fields_of kind) call ≡ false → has_wrong_end (ends_with_name kind mode) call ≡ false → call_refusal ops kind mode communicator new call ≡ posting_refusal kind new call
+refusal_as_posting ops kind mode communicator new call known there counted ended = rw (known, there, counted, ended) refl
+
+module _ (kind : Kind) (new : NewSyntax) (call : CallSyntax) where
+  -- which is refused for its tag
+  pub refusal_of_tag : read_at number_of (pos 0) new.tag ≡ None → posting_refusal kind new call ≡ Some BadNumber
+  refusal_of_tag tag = rw (read_nothing number_of (pos 0) new.tag tag) refl
 
   module _ (tag : ℤ) (numbered : read_at number_of (pos 0) new.tag ≡ Some tag) where
-    as_draft : call_refusal ops kind mode communicator new call ≡ draft_refusal kind new call
-    as_draft = rw (known, there, counted, ended, read_says number_of (pos 0) new.tag tag numbered) refl
+    as_draft : posting_refusal kind new call ≡ draft_refusal kind new call
+    as_draft = rw (read_says number_of (pos 0) new.tag tag numbered) refl
 
     -- and then as its draft
-    pub refusal_of_draft : (e : LineError) → IsLineRefusal (draft_refusal kind new call) e → IsLineRefusal (call_refusal ops kind mode communicator new call) e
+    pub refusal_of_draft : (e : LineError) → IsLineRefusal (draft_refusal kind new call) e → IsLineRefusal (posting_refusal kind new call) e
     refusal_of_draft e h = subst (λ found. IsLineRefusal found e) (sym as_draft) h
 
-    pub call_accepted : draft_refusal kind new call ≡ None → call_refusal ops kind mode communicator new call ≡ None
-    call_accepted fine = as_draft ∙ fine
+    pub posting_accepted : draft_refusal kind new call ≡ None → posting_refusal kind new call ≡ None
+    posting_accepted fine = as_draft ∙ fine
 
 -- the first refusal, or else the other
 abbrev first_of : Option ScriptFault → Option ScriptFault → Option ScriptFault

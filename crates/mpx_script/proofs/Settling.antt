@@ -1,5 +1,5 @@
 -- What the lines so far settle, and one line more.
-use Rattle.std.proofs.Common.{◌≡◌, ℕ, ◌+◌, ◌-◌, ◌<◌, true, false, ◌&&◌, cond, ltb, leb, List, [], ◌∷◌, ◌++◌, length, get_or, map, Some, sum_by, refl, sym, ap, ◌∙◌, arith}
+use Rattle.std.proofs.Common.{◌≡◌, ℕ, ◌+◌, ◌-◌, ◌<◌, true, false, ◌&&◌, cond, ltb, leb, List, [], ◌∷◌, ◌++◌, length, get_or, map, Option, Some, None, IsSomeAnd, sum_by, refl, subst, sym, ap, ◌∙◌, arith}
 use Rattle.std.specs.List.{filter_map, range_with_len}
 use Rattle.std.proofs.lemmas.List.Elements.{filter_map-append}
 use Rattle.std.proofs.lemmas.List.FromFn.{fill_by_all, get_or-map-range_with_len, length-map-range_with_len}
@@ -40,14 +40,23 @@ script_more ops opening further ws old new assignment is ranks adds gives =
     let ranks_are : new.ranks ≡ n = ranks ∙ same in
     λ i. record { ranks = ranks_are i; statements = filled i }
 
--- the partial of one line more
-pub partial_more : (ops : List Operation) (before : List (List (List ℕ))) (partial : PartialScript) (ws : List (List ℕ)) (old new : ScriptView) (assignment : Assignment) (count : ℕ) → IsSettled ops before partial → partial.script ≡ Some old → counts ws ≡ true → new.ranks ≡ old.ranks → Adds assignment.from assignment.to assignment.statement old.statements new.statements → IsAssignment ops old.ranks (directive_in ws) assignment → count ≡ assignment.to - assignment.from → IsSettled ops (before ++ cond (counts ws) (ws ∷ []) []) (record { script = Some new; statements = partial.statements + count })
-partial_more ops [] partial ws old new assignment count settled there counted ranks adds gives is = cc (settled.script, there)
-partial_more ops (opening ∷ further) partial ws old new assignment count settled there counted ranks adds gives is =
+partial_more : (ops : List Operation) (before : List (List (List ℕ))) (partial : PartialScript) (ws : List (List ℕ)) (old new : ScriptView) (assignment : Assignment) → IsSettled ops before partial → partial.script ≡ Some old → counts ws ≡ true → new.ranks ≡ old.ranks → Adds assignment.from assignment.to assignment.statement old.statements new.statements → IsAssignment ops old.ranks (directive_in ws) assignment → IsSettled ops (before ++ cond (counts ws) (ws ∷ []) []) (record { script = Some new; statements = partial.statements + (assignment.to - assignment.from) })
+partial_more ops [] partial ws old new assignment settled there counted ranks adds gives = cc (settled.script, there)
+partial_more ops (opening ∷ further) partial ws old new assignment settled there counted ranks adds gives =
     let old_is : old ≡ script_of ops (opening ∷ further) = cc (settled.script, there) in
     let n : old.ranks ≡ ranks_told opening = ap (λ s. s.ranks) old_is in
-    let one : count ≡ statements_in (ranks_told opening) (directive_in ws) = is ∙ sym gives.count ∙ ap (λ k. statements_in k (directive_in ws)) n in
+    let one : assignment.to - assignment.from ≡ statements_in (ranks_told opening) (directive_in ws) = sym gives.count ∙ ap (λ k. statements_in k (directive_in ws)) n in
     rw counted (record {
       script = ap Some (script_more ops opening further ws old new assignment old_is ranks adds gives);
-      statements = ap (λ k. k + count) settled.statements ∙ ap (λ k. sum_by (λ line. statements_in (ranks_told opening) (directive_in line)) further + k) one ∙ sym (sum_by_push (λ line. statements_in (ranks_told opening) (directive_in line)) further ws);
+      statements = ap (λ k. k + (assignment.to - assignment.from)) settled.statements ∙ ap (λ k. sum_by (λ line. statements_in (ranks_told opening) (directive_in line)) further + k) one ∙ sym (sum_by_push (λ line. statements_in (ranks_told opening) (directive_in line)) further ws);
     })
+
+after_script : (ops : List Operation) (before : List (List (List ℕ))) (partial : PartialScript) (script : Option ScriptView) (ws : List (List ℕ)) (old : ScriptView) (assignment : Assignment) → IsSettled ops before partial → partial.script ≡ Some old → counts ws ≡ true → IsSomeAnd script (λ new. (new.ranks ≡ old.ranks) × Adds assignment.from assignment.to assignment.statement old.statements new.statements) → IsAssignment ops old.ranks (directive_in ws) assignment → IsSettled ops (before ++ cond (counts ws) (ws ∷ []) []) (record { script = script; statements = partial.statements + (assignment.to - assignment.from) })
+after_script ops before partial None ws old assignment settled there counted added gives = absurd added
+after_script ops before partial (Some new) ws old assignment settled there counted added gives = partial_more ops before partial ws old new assignment settled there counted added.0 added.1 gives
+
+-- a partial of so many statements more, which has the script of one line more
+pub partial_after : (ops : List Operation) (before : List (List (List ℕ))) (partial after : PartialScript) (ws : List (List ℕ)) (old : ScriptView) (assignment : Assignment) → IsSettled ops before partial → partial.script ≡ Some old → counts ws ≡ true → after.statements ≡ partial.statements + (assignment.to - assignment.from) → IsSomeAnd after.script (λ new. (new.ranks ≡ old.ranks) × Adds assignment.from assignment.to assignment.statement old.statements new.statements) → IsAssignment ops old.ranks (directive_in ws) assignment → IsSettled ops (before ++ cond (counts ws) (ws ∷ []) []) after
+partial_after ops before partial after ws old assignment settled there counted count added gives =
+    subst (λ n. IsSettled ops (before ++ cond (counts ws) (ws ∷ []) []) (record { script = after.script; statements = n })) (sym count)
+    (after_script ops before partial after.script ws old assignment settled there counted added gives)

@@ -95,6 +95,13 @@ draft_refusal kind new call = first_holding (
     ∷ (BadList, has_strange_list (fields_of kind) call || has_strange_new_list new)
     ∷ [])
 
+-- and what it posts with its tag
+abbrev pub posting_refusal : Kind → NewSyntax → CallSyntax → Option ScriptFault
+posting_refusal kind new call = first_holding (
+    (BadNumber, has_strange_new_number new || has_strange_number (fields_of kind) call)
+    ∷ (BadList, has_strange_list (fields_of kind) call || has_strange_new_list new)
+    ∷ [])
+
 -- what a statement of this kind is refused for, with this communicator and these words behind it
 abbrev pub call_refusal : List Operation → Kind → Mode → Option (List ℕ) → NewSyntax → CallSyntax → Option ScriptFault
 call_refusal ops kind mode communicator new call = first_holding (

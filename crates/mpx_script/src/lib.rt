@@ -19,6 +19,7 @@ mod grammar;
 mod graphs;
 mod lines_given;
 mod naming;
+mod postings;
 mod rank_statements;
 mod reader;
 mod script;

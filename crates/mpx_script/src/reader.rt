@@ -1,16 +1,17 @@
 //! The script that a whole text says, or the first line that is refused.
-ghost use Rattle.std.specs.Prelude.{◌≡◌, ◌+◌, ◌++◌, ◌∷◌, [], ◌<◌, ◌≤◌, ◌==◌, ◌&&◌, if◌then◌else◌, not, true, List, ℕ, length, slice_index_or, take, false, None, IfOk, OnOk, IfErr, IfSome, Some};
-ghost use Rattle.std.specs.List.{filter};
+ghost use Rattle.std.specs.Prelude.{◌≡◌, ◌+◌, ◌++◌, ◌∷◌, [], ◌<◌, ◌≤◌, ◌==◌, ◌&&◌, if◌then◌else◌, not, true, List, ℕ, length, slice_index_or, take, false, None, IfOk, OnOk, IfErr, IfSome, IsSomeAnd, Some, ◌-◌, map};
+ghost use Rattle.std.specs.List.{filter, range_with_len};
 ghost use Rattle.std.specs.Str.Lines.{lines};
 ghost use Rattle.mpx_script.specs.Words.{bytes_limit, words, counts, counting, is_ascii, is_over_limit, with_first_line};
 ghost use Rattle.mpx_script.specs.Reading.{refusal, is_bare_script, reading};
 ghost use Rattle.mpx_script.specs.Sentences.{IsLineRefusal};
 ghost use Rattle.mpx_script.specs.PartialScripts.{IsSettled, context_behind};
+ghost use Rattle.mpx_script.specs.ScriptView.{Adds};
 ghost use Rattle.mpx_script.specs.Answer.{AnswersReading, at_line};
 
 use crate::faults::{LineError, ReadScriptError, ScriptError, ScriptFault};
 use crate::script::Script;
-use crate::script_line::{STATEMENTS, Sentence, read_line};
+use crate::script_line::{Assignment, STATEMENTS, Sentence, read_line};
 use crate::words::{counts, first_line, is_ascii};
 use mpx_num::{Listing, Ops};
 use std::alloc::Global;
@@ -41,39 +42,77 @@ fn with_line(
         → IsSettled (⟦<Ops as Listing>⟧.operations ops.now) (before ++ filter counts (words line.now ∷ [])) after) }
     ensures refused { IfErr result (IsLineRefusal (refusal (⟦<Ops as Listing>⟧.operations ops.now) (context_behind line.now cut partial.script partial.statements))) }
 {
-    let PartialScript { script, statements } = partial;
-    let sentence = match read_line(alloc, line, cut, script.as_ref(), statements, ops) {
+    let sentence = match read_line(
+        alloc,
+        line,
+        cut,
+        partial.script.as_ref(),
+        partial.statements,
+        ops,
+    ) {
         Ok(sentence) => sentence,
         Err(e) => {
-            drop(script);
+            drop(partial);
             return Err(e);
         }
     };
     match sentence {
-        Sentence::Passed => Ok(PartialScript { script, statements }),
-        Sentence::Opening(ranks) => {
-            drop(script);
-            let script = Script::new(alloc, ranks)?;
-            Ok(PartialScript {
-                script: Some(script),
-                statements,
-            })
-        }
+        Sentence::Passed => Ok(partial),
+        Sentence::Opening(ranks) => opened(alloc, partial, ranks),
         Sentence::Further(assignment) => {
-            let Some(mut script) = script else {
+            let PartialScript { script, statements } = partial;
+            let Some(script) = script else {
                 unreachable!();
             };
-            let statements = statements + u32::from(assignment.to - assignment.from);
-            match script.add(alloc, assignment) {
-                Ok(()) => Ok(PartialScript {
-                    script: Some(script),
-                    statements,
-                }),
-                Err(e) => {
-                    drop(script);
-                    Err(LineError::from(e))
-                }
-            }
+            with_statements(alloc, script, statements, assignment)
+        }
+    }
+}
+
+/// The script of so many ranks, of which no line is read yet behind the one that tells them.
+fn opened(alloc: Global, partial: PartialScript, ranks: u8) -> Result<PartialScript, LineError>
+    requires some { 1 ≤ ranks }
+    requires few { ranks ≤ 64 }
+    ensures opened { IfOk result (λ after. after ≡ record {
+      script = Some (record { ranks = ranks; statements = map (λ rank. []) (range_with_len 0 ranks) });
+      statements = partial.statements;
+    }) }
+    ensures memory { IfErr result (λ e. e ≡ LineError.OutOfMemory) }
+{
+    let statements = partial.statements;
+    drop(partial);
+    let script = Script::new(alloc, ranks)?;
+    Ok(PartialScript {
+        script: Some(script),
+        statements,
+    })
+}
+
+/// The script with the statements of a further line.
+fn with_statements(
+    alloc: Global,
+    mut script: Script,
+    statements: u32,
+    assignment: Assignment,
+) -> Result<PartialScript, LineError>
+    requires some { assignment.from < assignment.to }
+    requires within { assignment.to ≤ script.ranks }
+    requires few { statements + (assignment.to - assignment.from) ≤ STATEMENTS }
+    ensures few { IfOk result (λ after. after.statements ≤ STATEMENTS) }
+    ensures added { IfOk result (λ after. (after.statements ≡ statements + (assignment.to - assignment.from))
+        × IsSomeAnd after.script (λ added. (added.ranks ≡ script.ranks)
+        × Adds assignment.from assignment.to assignment.statement script.statements added.statements)) }
+    ensures memory { IfErr result (λ e. e ≡ LineError.OutOfMemory) }
+{
+    let statements = statements + u32::from(assignment.to - assignment.from);
+    match script.add(alloc, assignment) {
+        Ok(()) => Ok(PartialScript {
+            script: Some(script),
+            statements,
+        }),
+        Err(e) => {
+            drop(script);
+            Err(LineError::from(e))
         }
     }
 }

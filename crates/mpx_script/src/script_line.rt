@@ -6,20 +6,20 @@ ghost use Rattle.mpx_script.specs.Words.{words, counts, is_ascii};
 ghost use Rattle.mpx_script.specs.Fields.{ranks_named};
 ghost use Rattle.mpx_script.specs.Syntax.{directive_in, label_in, opening_ranks};
 ghost use Rattle.mpx_script.specs.Places.{said};
-ghost use Rattle.mpx_script.specs.laws.Parts.{ask_in, call_or_new_posted, call_posted, new_posted, parted_statement, posting_said, question_said};
+ghost use Rattle.mpx_script.specs.laws.Parts.{ask_in, parted_statement, posting_said, question_said};
 ghost use Rattle.mpx_script.specs.Meanings.{statement_in};
 ghost use Rattle.mpx_script.specs.Naming.{names_bound};
 ghost use Rattle.mpx_script.specs.Reading.{refusal, plain_context};
 ghost use Rattle.mpx_script.specs.Sentences.{IsAssignment, Says, IsLineRefusal, form_refusal, read_at, statement_refusal, call_refusal, names_refusal};
 ghost use Rattle.std.specs.List.{range_with_len};
 
-use crate::calls::{draft_in, number_at};
 use crate::faults::{LineError, ScriptFault};
 use crate::fields::ranks_named;
 use crate::grammar::{
     Form, QuestionForm, Waited, ends_with_name, rank_count, ranks_number, shape_of,
 };
 use crate::naming::names_fault;
+use crate::postings::{posting_in, word_at};
 use crate::script::Script;
 use crate::syntax::{
     AskSyntax, CallSyntax, DirectiveSyntax, NewSyntax, ask_in, call_in, directive_in, lacks,
@@ -27,9 +27,8 @@ use crate::syntax::{
 };
 use crate::words::{counts, first_word, is_ascii};
 use join_core::OutOfMemory;
-use mpx_kind::{Kind, Mode, NewCommunicator};
+use mpx_kind::{Kind, Mode};
 use mpx_num::{Listing, Ops};
-use mpx_post::Draft;
 use mpx_statement::{Posting, Question, RankList, Statement, Word, WordList};
 use std::alloc::{AllocError, Global};
 
@@ -71,91 +70,7 @@ fn opening_line(line: &[u8]) -> Result<u8, LineError>
     Ok(ranks)
 }
 
-// What a call posts that makes no communicator.
-fn call_posted(
-    alloc: Global,
-    mode: Mode,
-    on: Word,
-    draft: Draft,
-    request: Option<&[u8]>,
-) -> Result<Posting, OutOfMemory>
-    ensures { IfOk result (λ posting. posting ≡ call_posted mode on draft (unwrap_or (option_copied request.entry) [])) }
-{
-    match mode {
-        Mode::Blocking => Ok(Posting::Call { on, draft }),
-        Mode::Nonblocking => match word_at(alloc, request) {
-            Ok(request) => Ok(Posting::Start { on, draft, request }),
-            Err(e) => {
-                drop(on);
-                drop(draft);
-                Err(e)
-            }
-        },
-    }
-}
-
-// What a call posts that makes a communicator.
-fn new_posted(
-    alloc: Global,
-    made: NewCommunicator,
-    on: Word,
-    draft: Draft,
-    tag: i128,
-    target: Option<&[u8]>,
-) -> Result<Posting, OutOfMemory>
-    ensures { IfOk result (λ posting. posting ≡ new_posted made on draft tag (unwrap_or (option_copied target.entry) [])) }
-{
-    let to = match word_at(alloc, target) {
-        Ok(to) => to,
-        Err(e) => {
-            drop(on);
-            drop(draft);
-            return Err(e);
-        }
-    };
-    if made == NewCommunicator::CreateGroup {
-        let ranks = draft.group;
-        return Ok(Posting::CreateGroup { on, tag, ranks, to });
-    }
-    Ok(Posting::New { on, draft, to })
-}
-
-// What a call of a kind posts on a communicator, with this name for the new one or for the request.
-fn call_or_new_posted(
-    alloc: Global,
-    kind: Kind,
-    mode: Mode,
-    communicator: Option<&[u8]>,
-    draft: Draft,
-    tag: i128,
-    name: Option<&[u8]>,
-) -> Result<Posting, OutOfMemory>
-    ensures { IfOk result (λ posting. posting ≡ call_or_new_posted kind mode (unwrap_or (option_copied communicator.entry) []) draft tag (unwrap_or (option_copied name.entry) [])) }
-{
-    let on = match word_at(alloc, communicator) {
-        Ok(on) => on,
-        Err(e) => {
-            drop(draft);
-            return Err(e);
-        }
-    };
-    match kind {
-        Kind::NewCommunicator(made) => new_posted(alloc, made, on, draft, tag, name),
-        Kind::Exchange(_) | Kind::Reduction(_) | Kind::Neighbourhood(_) | Kind::Free => {
-            call_posted(alloc, mode, on, draft, name)
-        }
-    }
-}
-
-// The word, or one without bytes.
-fn word_at(alloc: Global, word: Option<&[u8]>) -> Result<Word, OutOfMemory>
-    ensures { IfOk result (λ made. made ≡ unwrap_or (option_copied word.entry) []) }
-{
-    Word::new(alloc, word.unwrap_or(&[]))
-}
-
 // What a statement of a kind posts, by its words.
-#[tactic(auto, using(crate::proofs::Refusals::refusal_of_tag, crate::proofs::Refusals::refusal_of_draft, crate::proofs::Refusals::call_accepted, crate::proofs::Accepted::said_is))]
 fn call_of(
     alloc: Global,
     kind: Kind,
@@ -178,14 +93,7 @@ fn call_of(
     {
         return Err(LineError::Fault(ScriptFault::WrongWords));
     }
-    let Some(tag) = number_at(new.tag) else {
-        return Err(LineError::Fault(ScriptFault::BadNumber));
-    };
-    let draft = match draft_in(alloc, kind, mode, new, call, ops) {
-        Ok(draft) => draft,
-        Err(e) => return Err(e),
-    };
-    Ok(call_or_new_posted(alloc, kind, mode, communicator, draft, tag, call.name)?)
+    posting_in(alloc, kind, mode, communicator, new, call, ops)
 }
 
 // The words of a line.
@@ -264,6 +172,25 @@ fn question_in(alloc: Global, asked: QuestionForm, line: &[u8]) -> Result<Questi
     Ok(question_of(alloc, asked, &ask, ranks)?)
 }
 
+// The statement of a call by the line behind its word.
+fn call_in_line(
+    alloc: Global,
+    kind: Kind,
+    mode: Mode,
+    line: &[u8],
+    ops: &Ops,
+) -> Result<Statement, LineError>
+    ensures accepted { OnOk result (form_refusal (⟦<Ops as Listing>⟧.operations ops.now) (Form.Call kind mode) (words line.now) ≡ None) }
+    ensures statement { IfOk result (λ statement. statement ≡ parted_statement (⟦<Ops as Listing>⟧.operations ops.now) (Form.Call kind mode) (words line.now)) }
+    ensures refused { IfErr result (IsLineRefusal (form_refusal (⟦<Ops as Listing>⟧.operations ops.now) (Form.Call kind mode) (words line.now))) }
+{
+    let (communicator, rest) = first_word(line);
+    let new = new_in(shape_of(kind), rest);
+    let call = call_in(kind.fields(), ends_with_name(kind, mode), new.behind);
+    let posting = call_of(alloc, kind, mode, communicator, &new, &call, ops)?;
+    Ok(Statement::Post(posting))
+}
+
 // The statement of a form by the line behind its word.
 fn statement_as(alloc: Global, form: Form, line: &[u8], ops: &Ops) -> Result<Statement, LineError>
     ensures accepted { OnOk result (form_refusal (⟦<Ops as Listing>⟧.operations ops.now) form (words line.now) ≡ None) }
@@ -271,13 +198,7 @@ fn statement_as(alloc: Global, form: Form, line: &[u8], ops: &Ops) -> Result<Sta
     ensures refused { IfErr result (IsLineRefusal (form_refusal (⟦<Ops as Listing>⟧.operations ops.now) form (words line.now))) }
 {
     match form {
-        Form::Call(kind, mode) => {
-            let (communicator, rest) = first_word(line);
-            let new = new_in(shape_of(kind), rest);
-            let call = call_in(kind.fields(), ends_with_name(kind, mode), new.behind);
-            let posting = call_of(alloc, kind, mode, communicator, &new, &call, ops)?;
-            Ok(Statement::Post(posting))
-        }
+        Form::Call(kind, mode) => call_in_line(alloc, kind, mode, line, ops),
         Form::Wait(waited) => Ok(Statement::Wait(requests_in(alloc, waited, line)?)),
         Form::Ask(asked) => Ok(Statement::Ask(question_in(alloc, asked, line)?)),
     }
