@@ -20,11 +20,11 @@ use std::alloc::{AllocFailed, Global};
 pub fn test_all<H: Host>(
     alloc: Global,
     host: &mut H,
-    open: &mut IndexSet<Request>,
+    set: &mut IndexSet<Request>,
     requests: Vec<Request>,
     ops: &Ops,
 ) -> Result<Tested<Vec<Finished>, Vec<Request>>, AllocFailed<Vec<Request>>>
-    ensures tests { TestsAll requests.items result (H.node host.new) open.old.keys open.new.keys }
+    ensures tests { TestsAll requests.items result (H.node host.new) set.old.keys set.new.keys }
     ensures later { Later (H.node host.old) (H.node host.new) }
     ensures harvested { Harvested (H.goes_by host.old (⟦<Ops as Listing>⟧.operations ops.now)) (H.node host.old) (H.node host.new) }
     ensures no_turn { H.turned host.old 0 host.new }
@@ -36,7 +36,7 @@ pub fn test_all<H: Host>(
         Err(_) => Err(AllocFailed { value: requests }),
         Ok(None) => Ok(Tested::NotYet(requests)),
         Ok(Some(all)) => {
-            close_each(open, &requests);
+            close_each(set, &requests);
             Ok(Tested::Done(all))
         }
     }
