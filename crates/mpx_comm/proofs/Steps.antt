@@ -8,11 +8,12 @@ use Rattle.mpx_post.specs.Gatherings.{GatheringView}
 use Rattle.mpx_post.specs.declared.draft.PostError.{PostError}
 use Rattle.mpx_post.specs.Equality.{same_given}
 use Rattle.mpx_name.specs.Name.{Name, same_name}
-use Rattle.mpx_board.specs.Boards.{Context, Look, join_contexts, told}
+use Rattle.mpx_board.specs.Boards.{Context, Look, join_contexts}
 use Rattle.mpx_node.specs.Deltas.{SaysWhatItHas}
 use Rattle.mpx_node.specs.Nodes.{own_acks, NodeView, learn, learn_some, StopsTaking, Opens, gathering_fact, gathering_name, open_gathering_node}
 use Rattle.mpx_request.specs.Later.{IsHeld, Later}
 use Rattle.mpx_board.proofs.Facts.{posts_bound}
+use Rattle.mpx_request.proofs.Steps.{held_either, held_live, later_learns, later_more, later_none, later_opens, later_same}
 
 -- a gathering that is opened or not
 pub later_gathers : (parent : Name) (r : Result GatheringView PostError) (result : Result Name PostError) (old new : NodeView) → Opens parent r result old new → Later old new

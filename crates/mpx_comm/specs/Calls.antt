@@ -17,6 +17,7 @@ use Rattle.mpx_request.specs.declared.answers.TurnError.TheVariants as T
 use Rattle.mpx_comm.specs.declared.answers.CallError.{CallError}
 use Rattle.mpx_comm.specs.declared.answers.CallError.TheVariants as C
 use Rattle.mpx_request.specs.Later.{result_at, is_let_go, IsOwn, IsPending}
+use Rattle.mpx_request.specs.Requests.{AwaitsOne, GivesUpOne, close, has_let_go, result_of}
 use Rattle.mpx_comm.specs.Lines.{create_group}
 
 -- POSTS
