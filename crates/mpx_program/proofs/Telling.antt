@@ -77,7 +77,7 @@ pub found_tells : (ops : List Operation) (command : Command) (options : Options)
     → Leaves ops command options script end out left → HasTold script text found left (Ok end) more → TellsOf (AsFounded).ends ops command options script text end out more
 found_tells ops command options script text F.Nothing left end out more is comes leaves told = absurd is
 found_tells ops command options script text F.Wanting left end out more is comes leaves told = absurd told
-found_tells ops Check options script text (F.Certain found) left end out more is comes leaves (reason, (none, told)) = subst (λ cs. AreTold text cs [] more) is (subst (λ r. AreTold text (map complaint_view found.items) r more) none told)
+found_tells ops Check options script text (F.Certain found) left end out more is comes leaves (reason, none, told) = subst (λ cs. AreTold text cs [] more) is (subst (λ r. AreTold text (map complaint_view found.items) r more) none told)
 found_tells ops Run options script text (F.Certain found) left end out more is comes leaves told = absurd is
 found_tells ops Eval options script text (F.Certain found) left end out more is comes leaves told = absurd is
 found_tells ops Check options script text (F.InEvaluation found) left end out more is comes leaves told = absurd is
