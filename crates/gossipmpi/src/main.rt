@@ -2,7 +2,7 @@
 //! script's evaluation, or how much the script has.
 #![tactic(auto)]
 
-use mpx_shell::{invocation_of, exit_code, seen_by};
+use mpx_shell::{exit_code, invocation_of, seen_by};
 use std::process::ExitCode;
 use std::{env, io};
 

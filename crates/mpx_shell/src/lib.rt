@@ -10,5 +10,5 @@ mod process;
 mod progress;
 mod seen;
 
-pub use process::{invocation_of, exit_code, seen_by};
+pub use process::{exit_code, invocation_of, seen_by};
 pub use seen::Seen;
