@@ -2,10 +2,10 @@
 ghost use Rattle.std.specs.Prelude.{IfOk, OnOk};
 ghost use Rattle.mpx_node.specs.Shown.{node_of};
 ghost use Rattle.mpx_world.specs.Networks.{IsNodeStep};
-ghost use Rattle.tour.specs.Nodes.{AreOne, Carries, HasSum, StayOne};
+ghost use Rattle.programs.specs.Nodes.{AreOne, Carries, HasSum, StayOne};
 
 use crate::desks::{board_of, number_of};
-use crate::stop::Stop;
+use crate::why::Why;
 use mpx_group::Proc;
 use mpx_name::Name;
 use mpx_node::Node;
@@ -31,17 +31,17 @@ pub fn sum_draft(number: i128) -> Draft {
 }
 
 /// What the node has of the first sum.
-pub fn sum_at(alloc: Global, node: &Node) -> Result<i128, Stop>
+pub fn sum_at(alloc: Global, node: &Node) -> Result<i128, Why>
     ensures { IfOk result (λ sum. HasSum node.now) }
 {
     match node.result(&Name::world(alloc), 0) {
         Some(finished) => number_of(finished),
-        None => Err(Stop::NoAnswer),
+        None => Err(Why::NoAnswer),
     }
 }
 
 // The rank posts its number to the sum of all.
-fn post_number(alloc: Global, node: &mut Node, number: i128, ops: &Ops) -> Result<(), Stop>
+fn post_number(alloc: Global, node: &mut Node, number: i128, ops: &Ops) -> Result<(), Why>
     ensures { IsNodeStep (⟦<Ops as Listing>⟧.operations ops.now) (node_of node.old) (node_of node.new) }
 {
     node.post(alloc, &Name::world(alloc), sum_draft(number), ops)?;
@@ -49,7 +49,7 @@ fn post_number(alloc: Global, node: &mut Node, number: i128, ops: &Ops) -> Resul
 }
 
 // The one's board comes to the other.
-fn carry(alloc: Global, from: &Node, to: &mut Node) -> Result<(), Stop>
+fn carry(alloc: Global, from: &Node, to: &mut Node) -> Result<(), Why>
     ensures { Carries (node_of from.now) (node_of to.old) (node_of to.new) }
 {
     let part = board_of(alloc, from)?;
@@ -59,7 +59,7 @@ fn carry(alloc: Global, from: &Node, to: &mut Node) -> Result<(), Stop>
 }
 
 // The rank stores its next result, where it can be had.
-fn harvest(alloc: Global, node: &mut Node, ops: &Ops) -> Result<(), Stop>
+fn harvest(alloc: Global, node: &mut Node, ops: &Ops) -> Result<(), Why>
     ensures { IsNodeStep (⟦<Ops as Listing>⟧.operations ops.now) (node_of node.old) (node_of node.new) }
 {
     node.harvest(alloc, &Name::world(alloc), ops)?;
@@ -67,7 +67,7 @@ fn harvest(alloc: Global, node: &mut Node, ops: &Ops) -> Result<(), Stop>
 }
 
 // Both post, and boards go both ways.
-fn post_and_swap(alloc: Global, left: &mut Node, right: &mut Node, ops: &Ops) -> Result<(), Stop>
+fn post_and_swap(alloc: Global, left: &mut Node, right: &mut Node, ops: &Ops) -> Result<(), Why>
     ensures { OnOk result (StayOne (⟦<Ops as Listing>⟧.operations ops.now) left.old right.old left.new right.new) }
 {
     post_number(alloc, left, 1, ops)?;
@@ -78,7 +78,7 @@ fn post_and_swap(alloc: Global, left: &mut Node, right: &mut Node, ops: &Ops) ->
 }
 
 // Both store the result of the sum.
-fn sum_at_both(alloc: Global, left: &mut Node, right: &mut Node, ops: &Ops) -> Result<(), Stop>
+fn sum_at_both(alloc: Global, left: &mut Node, right: &mut Node, ops: &Ops) -> Result<(), Why>
     ensures one { OnOk result (StayOne (⟦<Ops as Listing>⟧.operations ops.now) left.old right.old left.new right.new) }
     ensures sums { OnOk result (HasSum left.new × HasSum right.new) }
 {
@@ -91,7 +91,7 @@ fn sum_at_both(alloc: Global, left: &mut Node, right: &mut Node, ops: &Ops) -> R
 }
 
 /// Two nodes that are processes of one world, and have both finished a sum. What both have finished of any call is of one row.
-pub fn own_nodes(alloc: Global, ops: &Ops) -> Result<(Node, Node), Stop>
+pub fn own_nodes(alloc: Global, ops: &Ops) -> Result<(Node, Node), Why>
     ensures one { IfOk result (λ nodes. AreOne (⟦<Ops as Listing>⟧.operations ops.now) nodes.0 nodes.1) }
     ensures sums { IfOk result (λ nodes. HasSum nodes.0 × HasSum nodes.1) }
 {
@@ -102,7 +102,7 @@ pub fn own_nodes(alloc: Global, ops: &Ops) -> Result<(Node, Node), Stop>
 }
 
 /// The sum at each of two own nodes.
-pub fn sums_of_own_nodes(alloc: Global, ops: &Ops) -> Result<(i128, i128), Stop> {
+pub fn sums_of_own_nodes(alloc: Global, ops: &Ops) -> Result<(i128, i128), Why> {
     let (left, right) = own_nodes(alloc, ops)?;
     let sums = sums_at(alloc, &left, &right);
     drop(left);
@@ -110,6 +110,6 @@ pub fn sums_of_own_nodes(alloc: Global, ops: &Ops) -> Result<(i128, i128), Stop>
     sums
 }
 
-fn sums_at(alloc: Global, left: &Node, right: &Node) -> Result<(i128, i128), Stop> {
+fn sums_at(alloc: Global, left: &Node, right: &Node) -> Result<(i128, i128), Why> {
     Ok((sum_at(alloc, left)?, sum_at(alloc, right)?))
 }

@@ -4,7 +4,7 @@ ghost use Rattle.std.specs.Prelude.{◌≡◌, ◌≤◌, ℕ, IfOk, drop};
 use crate::calls::post_sum;
 use crate::desks::{board_of, desk_of, number_in};
 use crate::inbox::Inbox;
-use crate::stop::Stop;
+use crate::why::Why;
 use mpx_board::Board;
 use mpx_comm::{Comm, Desk, Request};
 use mpx_group::Proc;
@@ -20,14 +20,14 @@ pub fn awaited(
     request: Request,
     turns: u64,
     ops: &Ops,
-) -> Result<Finished, Stop>
+) -> Result<Finished, Why>
     ensures { IfOk result (λ finished. (n : ℕ) × (n ≤ turns) × (desk.new.host.boards.items ≡ drop n desk.old.host.boards.items)) }
 {
     Ok(desk.wait(alloc, request, turns, ops)?)
 }
 
 // One more board of the rank comes.
-fn send(alloc: Global, desk: &Desk<Node>, boards: &mut VecDeque<Board>) -> Result<(), Stop> {
+fn send(alloc: Global, desk: &Desk<Node>, boards: &mut VecDeque<Board>) -> Result<(), Why> {
     boards.push_back(board_of(alloc, desk.host())?)?;
     Ok(())
 }
@@ -38,7 +38,7 @@ fn send_three(
     other: &mut Desk<Node>,
     boards: &mut VecDeque<Board>,
     ops: &Ops,
-) -> Result<(), Stop> {
+) -> Result<(), Why> {
     send(alloc, other, boards)?;
     post_sum(alloc, other, &Comm::world(alloc, 2, 1), 20, ops)?;
     send(alloc, other, boards)?;
@@ -46,19 +46,19 @@ fn send_three(
 }
 
 // All that rank 1 sends.
-fn sent(alloc: Global, other: &mut Desk<Node>, ops: &Ops) -> Result<VecDeque<Board>, Stop> {
+fn sent(alloc: Global, other: &mut Desk<Node>, ops: &Ops) -> Result<VecDeque<Board>, Why> {
     let mut boards = VecDeque::new(alloc);
     match send_three(alloc, other, &mut boards, ops) {
         Ok(()) => Ok(boards),
-        Err(stop) => {
+        Err(why) => {
             drop(boards);
-            Err(stop)
+            Err(why)
         }
     }
 }
 
 // An inbox of rank 0 with that.
-fn inbox(alloc: Global, ops: &Ops) -> Result<Inbox, Stop> {
+fn inbox(alloc: Global, ops: &Ops) -> Result<Inbox, Why> {
     let mut other = desk_of(alloc, 1, 2)?;
     let boards = sent(alloc, &mut other, ops);
     drop(other);
@@ -68,14 +68,14 @@ fn inbox(alloc: Global, ops: &Ops) -> Result<Inbox, Stop> {
 }
 
 // The sum, and how many boards are left in the inbox.
-fn sum_of(alloc: Global, desk: &mut Desk<Inbox>, ops: &Ops) -> Result<(i128, usize), Stop> {
+fn sum_of(alloc: Global, desk: &mut Desk<Inbox>, ops: &Ops) -> Result<(i128, usize), Why> {
     let request = post_sum(alloc, desk, &Comm::world(alloc, 2, 0), 10, ops)?;
     let finished = awaited(alloc, desk, request, 5, ops)?;
     Ok((number_in(finished)?, desk.host().boards.len()))
 }
 
 /// The sum with the number of a rank whose boards come to an inbox, and how many of them are left there.
-pub fn sum_from_inbox(alloc: Global, ops: &Ops) -> Result<(i128, usize), Stop> {
+pub fn sum_from_inbox(alloc: Global, ops: &Ops) -> Result<(i128, usize), Why> {
     let mut desk = Desk::new(alloc, inbox(alloc, ops)?);
     let answer = sum_of(alloc, &mut desk, ops);
     drop(desk);

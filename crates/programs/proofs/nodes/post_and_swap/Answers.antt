@@ -1,5 +1,5 @@
-use Rattle.tour.proofs.Pairs.{left_steps, right_steps, left_takes, right_takes, stay_then}
-use Rattle.tour.proofs.nodes.post_and_swap.Goals as goal
+use Rattle.programs.proofs.Pairs.{left_steps, right_steps, left_takes, right_takes, stay_then}
+use Rattle.programs.proofs.nodes.post_and_swap.Goals as goal
 
 pub returns : goal.returns
 returns g c =

@@ -1,7 +1,7 @@
 use Rattle.mpx_board.specs.Looks.{look}
 use Rattle.mpx_node.specs.Shown.{node_of}
-use Rattle.tour.proofs.Pairs.{carried, not_carried}
-use Rattle.tour.proofs.nodes.carry.Goals as goal
+use Rattle.programs.proofs.Pairs.{carried, not_carried}
+use Rattle.programs.proofs.nodes.carry.Goals as goal
 
 pub returns-in_err-part : goal.returns-in_err-part
 returns-in_err-part c = not_carried (node_of c.args.from.now) (node_of c.args.to.now)

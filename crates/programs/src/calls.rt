@@ -3,8 +3,9 @@ ghost use Rattle.std.specs.Prelude.{◌≡◌, IfOk, Some};
 ghost use Rattle.mpx_comm.specs.Comms.{comm_of};
 ghost use Rattle.mpx_request.specs.Requests.{result_of};
 
+use crate::TURNS;
 use crate::desks::number_in;
-use crate::stop::Stop;
+use crate::why::Why;
 use mpx_comm::{Comm, Desk, Host, Request, Tested};
 use mpx_node::Finished;
 use mpx_num::{Numbers, Op, Ops, Ty};
@@ -12,23 +13,11 @@ use mpx_post::DraftedNeighbour;
 use mpx_ranks::Program;
 use std::alloc::Global;
 
-// So many turns a call waits at most.
-const TURNS: u64 = 1_000_000;
-
-/// What one rank got: two sums that overlapped; its new communicators' size and its rank there, where it is in one; what it heard in a ring.
-#[derive(Drop)]
-pub struct Got {
-    pub sums: (i128, i128),
-    pub split: Option<(u8, u8)>,
-    pub group: Option<(u8, u8)>,
-    pub heard: i128,
-}
-
 /// Each rank makes all of these calls.
 pub struct Calls;
 
 impl Program for Calls {
-    type Answer = Result<Got, Stop>;
+    type Answer = Result<String, Why>;
 
     fn run<H: Host>(
         &self,
@@ -36,16 +25,17 @@ impl Program for Calls {
         desk: &mut Desk<H>,
         world: &Comm,
         ops: &Ops,
-    ) -> Result<Got, Stop> {
-        Ok(Got {
-            sums: two_sums(alloc, desk, world, ops)?,
-            split: split_by_key(alloc, desk, world, ops)?,
-            group: group_of_two(alloc, desk, world, ops)?,
-            heard: heard_in_ring(alloc, desk, world, ops)?,
-        })
+    ) -> Result<String, Why> {
+        let (first, last) = two_sums(alloc, desk, world, ops)?;
+        let split = split_by_key(alloc, desk, world, ops)?;
+        let group = group_of_two(alloc, desk, world, ops)?;
+        let heard = heard_in_ring(alloc, desk, world, ops)?;
+        Ok(format!(in alloc;
+            "sums {first} {last}, split {split:?}, group {group:?}, ring {heard}"
+        )?)
     }
 
-    fn gives_up(&self, answer: &Result<Got, Stop>) -> bool {
+    fn gives_up(&self, answer: &Result<String, Why>) -> bool {
         answer.is_err()
     }
 }
@@ -57,7 +47,7 @@ pub fn post_sum<H: Host>(
     comm: &Comm,
     number: i128,
     ops: &Ops,
-) -> Result<Request, Stop> {
+) -> Result<Request, Why> {
     let items = Numbers::one(number);
     Ok(desk.iallreduce(alloc, comm, Op::Sum, Ty::I32, items, ops)?)
 }
@@ -68,12 +58,12 @@ fn tested<H: Host>(
     desk: &mut Desk<H>,
     request: Request,
     ops: &Ops,
-) -> Result<Finished, Stop>
+) -> Result<Finished, Why>
     ensures { IfOk result (λ finished. result_of (H.node desk.new.host) request ≡ Some finished) }
 {
     match desk.test(alloc, request, ops)? {
         Tested::Done(finished) => Ok(finished),
-        Tested::NotYet(_) | Tested::LetGo(_) => Err(Stop::NoAnswer),
+        Tested::NotYet(_) | Tested::LetGo(_) => Err(Why::NoAnswer),
     }
 }
 
@@ -83,7 +73,7 @@ fn waited<H: Host>(
     desk: &mut Desk<H>,
     request: Request,
     ops: &Ops,
-) -> Result<i128, Stop> {
+) -> Result<i128, Why> {
     number_in(desk.wait(alloc, request, TURNS, ops)?)
 }
 
@@ -93,7 +83,7 @@ fn two_sums<H: Host>(
     desk: &mut Desk<H>,
     world: &Comm,
     ops: &Ops,
-) -> Result<(i128, i128), Stop> {
+) -> Result<(i128, i128), Why> {
     let rank = i128::from(world.rank());
     let first = post_sum(alloc, desk, world, rank + 1, ops)?;
     let last = post_sum(alloc, desk, world, rank + 2, ops)?;
@@ -103,7 +93,7 @@ fn two_sums<H: Host>(
 }
 
 // The communicator that a call gave, or none where the rank is in none.
-fn comm_in(alloc: Global, finished: Finished) -> Result<Option<Comm>, Stop>
+fn comm_in(alloc: Global, finished: Finished) -> Result<Option<Comm>, Why>
     ensures { IfOk result (λ comm. comm ≡ comm_of finished.outcome) }
 {
     let comm = Comm::of(alloc, &finished);
@@ -112,7 +102,7 @@ fn comm_in(alloc: Global, finished: Finished) -> Result<Option<Comm>, Stop>
 }
 
 // Its size, and the rank there.
-fn place_in(alloc: Global, finished: Finished) -> Result<Option<(u8, u8)>, Stop> {
+fn place_in(alloc: Global, finished: Finished) -> Result<Option<(u8, u8)>, Why> {
     match comm_in(alloc, finished)? {
         Some(comm) => Ok(Some((comm.size(), comm.rank()))),
         None => Ok(None),
@@ -125,7 +115,7 @@ fn split_by_key<H: Host>(
     desk: &mut Desk<H>,
     world: &Comm,
     ops: &Ops,
-) -> Result<Option<(u8, u8)>, Stop> {
+) -> Result<Option<(u8, u8)>, Why> {
     let colour = if world.rank() < 2 { Some(7) } else { None };
     let key = 5 - i128::from(world.rank());
     let made = desk.split(alloc, world, colour, key, TURNS, ops)?;
@@ -138,7 +128,7 @@ fn group_of_two<H: Host>(
     desk: &mut Desk<H>,
     world: &Comm,
     ops: &Ops,
-) -> Result<Option<(u8, u8)>, Stop> {
+) -> Result<Option<(u8, u8)>, Why> {
     if world.rank() > 1 {
         return Ok(None);
     }
@@ -153,7 +143,7 @@ fn ring_of<H: Host>(
     desk: &mut Desk<H>,
     world: &Comm,
     ops: &Ops,
-) -> Result<Comm, Stop> {
+) -> Result<Comm, Why> {
     let (rank, last) = (i128::from(world.rank()), i128::from(world.size()) - 1);
     let source = DraftedNeighbour {
         rank: if rank > 0 { rank - 1 } else { last },
@@ -165,7 +155,7 @@ fn ring_of<H: Host>(
     };
     let (sources, destinations) = (vec![in alloc; source]?, vec![in alloc; destination]?);
     let made = desk.dist_graph_adjacent(alloc, world, false, sources, destinations, TURNS, ops)?;
-    comm_in(alloc, made)?.ok_or(Stop::NoAnswer)
+    comm_in(alloc, made)?.ok_or(Why::NoAnswer)
 }
 
 // What a rank hears of its neighbour in the ring.
@@ -175,7 +165,7 @@ fn heard_in<H: Host>(
     ring: &Comm,
     number: i128,
     ops: &Ops,
-) -> Result<i128, Stop> {
+) -> Result<i128, Why> {
     let items = Numbers::one(number);
     number_in(desk.neighbor_allgather(alloc, ring, Ty::I32, 1, items, TURNS, ops)?)
 }
@@ -185,7 +175,7 @@ fn heard_in_ring<H: Host>(
     desk: &mut Desk<H>,
     world: &Comm,
     ops: &Ops,
-) -> Result<i128, Stop> {
+) -> Result<i128, Why> {
     let ring = ring_of(alloc, desk, world, ops)?;
     let heard = heard_in(alloc, desk, &ring, 20 + i128::from(world.rank()), ops);
     drop(ring);

@@ -1,7 +1,7 @@
 //! A host of the program's own.
 ghost use Rattle.std.specs.Prelude.{◌≡◌, refl, drop};
 ghost use Rattle.mpx_node.specs.laws.Bounded.{node_bounded};
-ghost use Rattle.tour.specs.Turns.{take_more};
+ghost use Rattle.programs.specs.Turns.{take_more};
 
 use join_core::OutOfMemory;
 use mpx_board::Board;

@@ -1,7 +1,7 @@
 use Rattle.std.proofs.Common.{◌∙◌, ap}
 use Rattle.mpx_node.specs.Nodes.{start_node}
-use Rattle.tour.proofs.Pairs.{are_one}
-use Rattle.tour.proofs.nodes.own_nodes.Goals as goal
+use Rattle.programs.proofs.Pairs.{are_one}
+use Rattle.programs.proofs.nodes.own_nodes.Goals as goal
 
 pub returns-clause-one : goal.returns-clause-one
 returns-clause-one g c = are_one _ c.in_ok-left.left c.in_ok-right.right c.sum_at_both.new.left c.sum_at_both.new.right

@@ -1,5 +1,5 @@
-use Rattle.tour.proofs.Pairs.{left_steps, right_steps, stay_then}
-use Rattle.tour.proofs.nodes.sum_at_both.Goals as goal
+use Rattle.programs.proofs.Pairs.{left_steps, right_steps, stay_then}
+use Rattle.programs.proofs.nodes.sum_at_both.Goals as goal
 
 pub returns-clause-one : goal.returns-clause-one
 returns-clause-one g c =

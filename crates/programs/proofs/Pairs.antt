@@ -10,7 +10,7 @@ use Rattle.mpx_node.specs.Nodes.{NodeView, StopsTaking, learn, start_node}
 use Rattle.mpx_node.specs.Shown.{node_of}
 use Rattle.mpx_world.specs.Networks.{AreNew, IsNodeStep, network_of}
 use Rattle.mpx_world.proofs.Going.{all_nodes_agree, begins, fewer_sent, further, part_given, take_step, unchanged_step}
-use Rattle.tour.specs.Nodes.{AreOne, Carries, StayOne, network_with, two}
+use Rattle.programs.specs.Nodes.{AreOne, Carries, StayOne, network_with, two}
 
 -- a board that is sent and taken, whatever the take answered
 pub carried : (from old new : NodeView) (part : Look) (result : Result (Unit {0}) OutOfMemory) → part ≡ from.board → OnOk result (new ≡ learn part old) → OnErr result (StopsTaking part old new) → Carries from old new

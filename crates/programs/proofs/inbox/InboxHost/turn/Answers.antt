@@ -1,7 +1,7 @@
 use Rattle.mpx_board.specs.Looks.{look}
 use Rattle.mpx_node.specs.Shown.{node_of}
 use Rattle.mpx_comm.proofs.Steps.{later_takes, opened_takes}
-use Rattle.tour.proofs.inbox.InboxHost.turn.Goals as goal
+use Rattle.programs.proofs.inbox.InboxHost.turn.Goals as goal
 
 pub returns-in_err-take-clause-later : goal.returns-in_err-take-clause-later
 returns-in_err-take-clause-later c = later_takes c.take.result (look c.in-Some.board.now) (node_of c.args.self.now.node) (node_of c.take.new.self) c.take.ensures.ok c.take.ensures.err
