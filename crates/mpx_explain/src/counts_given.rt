@@ -26,17 +26,24 @@ pub(crate) fn counts(
 ) -> Result<Option<String>, OutOfMemory> {
     let sent = sent_list(draft);
     let received = received_list(draft);
-    let is_root = draft.root == i128::from(at.rank);
     if at.is_world() {
-        for list in [sent, received] {
-            if let Some(wanted) = wanted(list.asked, at.ranks, is_root) {
-                if list.counts.len() != wanted {
-                    return of_length(alloc, at, list, wanted);
-                }
-            }
+        let is_root = draft.root == i128::from(at.rank);
+        if let Some(wanted) = other_length(sent, at.ranks, is_root) {
+            return of_length(alloc, at, sent, wanted);
+        }
+        if let Some(wanted) = other_length(received, at.ranks, is_root) {
+            return of_length(alloc, at, received, wanted);
         }
     }
     of_lists(alloc, sent, received)
+}
+
+// How many counts are wanted on `world` with so many ranks, at the root or elsewhere, where a list has another number.
+fn other_length(list: List<'_>, ranks: u8, is_root: bool) -> Option<usize> {
+    match wanted(list.asked, ranks, is_root) {
+        Some(wanted) if list.counts.len() != wanted => Some(wanted),
+        _ => None,
+    }
 }
 
 fn sent_list(draft: &Draft) -> List<'_> {
@@ -118,13 +125,22 @@ fn of_lists(
     sent: List<'_>,
     received: List<'_>,
 ) -> Result<Option<String>, OutOfMemory> {
-    let sent = asked_of(alloc, sent)?;
-    let received = asked_of(alloc, received)?;
-    match (sent, received) {
-        (Some(sent), Some(received)) => Ok(Some(format!(in alloc; "{sent}; {received}")?)),
-        (Some(told), None) | (None, Some(told)) => Ok(Some(told)),
-        (None, None) => Ok(None),
+    match asked_of(alloc, sent)? {
+        Some(mut told) => {
+            push_asked(alloc, received, &mut told)?;
+            Ok(Some(told))
+        }
+        None => asked_of(alloc, received),
     }
+}
+
+// Adds how many counts a list has, and what is asked for.
+fn push_asked(alloc: Global, list: List<'_>, told: &mut String) -> Result<(), OutOfMemory> {
+    if let Some(more) = asked_of(alloc, list)? {
+        told.push_str("; ")?;
+        told.push_str(more.as_str())?;
+    }
+    Ok(())
 }
 
 // How many counts a list has, and what is asked for, where it is no single count.
@@ -146,14 +162,25 @@ pub(crate) fn too_many(alloc: Global, draft: &Draft) -> Result<Option<String>, O
     if items > MOST {
         return Ok(Some(format!(in alloc; "gave {items} items, at most {MOST} are taken")?));
     }
-    for list in [sent_list(draft), received_list(draft)] {
-        for count in list.counts {
-            if *count < 0 || *count > MOST as i128 {
-                return strange_count(alloc, list, *count);
-            }
+    let sent = sent_list(draft);
+    if let Some(count) = strange_in(sent.counts) {
+        return strange_count(alloc, sent, count);
+    }
+    let received = received_list(draft);
+    match strange_in(received.counts) {
+        Some(count) => strange_count(alloc, received, count),
+        None => Ok(None),
+    }
+}
+
+// The first of these counts that is too great or below 0.
+fn strange_in(counts: &[i128]) -> Option<i128> {
+    for count in counts {
+        if *count < 0 || *count > MOST as i128 {
+            return Some(*count);
         }
     }
-    Ok(None)
+    None
 }
 
 fn strange_count(

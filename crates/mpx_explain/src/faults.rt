@@ -35,12 +35,24 @@ pub(crate) fn minority(
         return Ok(None);
     };
     let shares = shares_of(alloc, script, complaint, all)?;
-    if shares.len() != usize::from(script.ranks()) {
+    let told = told_by(alloc, script.ranks(), aspect, &shares);
+    drop(shares);
+    told
+}
+
+// The same of what these ranks give, where they are so many.
+fn told_by(
+    alloc: Global,
+    ranks: u8,
+    aspect: Aspect,
+    shares: &[Share<'_>],
+) -> Result<Option<String>, OutOfMemory> {
+    if shares.len() != usize::from(ranks) {
         return Ok(None);
     }
     match aspect {
-        Aspect::Between(exchange) => unmet(alloc, exchange, &shares),
-        _ => by_most(alloc, aspect, &shares),
+        Aspect::Between(exchange) => unmet(alloc, exchange, shares),
+        _ => by_most(alloc, aspect, shares),
     }
 }
 
@@ -51,11 +63,17 @@ fn by_most(
     shares: &[Share<'_>],
 ) -> Result<Option<String>, OutOfMemory> {
     let said = all_said(alloc, aspect, shares)?;
-    let usual = usual(&said);
+    let told = told_of_all(alloc, &said);
+    drop(said);
+    told
+}
+
+fn told_of_all(alloc: Global, said: &[Saying]) -> Result<Option<String>, OutOfMemory> {
+    let usual = usual(said);
     if usual.is_none() && said.len() > FEW_RANKS {
         return Ok(None);
     }
-    let told = told_of(alloc, &said, usual)?;
+    let told = told_of(alloc, said, usual)?;
     if told.is_empty() {
         return Ok(None);
     }
@@ -68,6 +86,21 @@ fn all_said(
     shares: &[Share<'_>],
 ) -> Result<Vec<Saying>, OutOfMemory> {
     let mut said = Vec::new(alloc);
+    match push_said(alloc, aspect, shares, &mut said) {
+        Ok(()) => Ok(said),
+        Err(e) => {
+            drop(said);
+            Err(e)
+        }
+    }
+}
+
+fn push_said(
+    alloc: Global,
+    aspect: Aspect,
+    shares: &[Share<'_>],
+    said: &mut Vec<Saying>,
+) -> Result<(), OutOfMemory> {
     for share in shares {
         let text = says(alloc, aspect, share.draft)?;
         said.push(Saying {
@@ -75,7 +108,7 @@ fn all_said(
             text,
         })?;
     }
-    Ok(said)
+    Ok(())
 }
 
 // What most say; none where two things are said by as many ranks.

@@ -155,7 +155,7 @@ const MEANINGS: [(&str, &str); 4] = [
 
 // What is wrong, where the refusal's name alone tells it.
 fn by_name(alloc: Global, at: &Place<'_>) -> Result<Option<String>, OutOfMemory> {
-    for (name, meaning) in MEANINGS {
+    for (name, meaning) in &MEANINGS {
         if at.is(name) {
             return Ok(Some(String::from_str(alloc, meaning)?));
         }
@@ -191,30 +191,57 @@ fn items(alloc: Global, at: &Place<'_>, draft: &Draft) -> Result<Option<String>,
     }
 }
 
+// How many items a call takes of a rank.
+#[derive(Clone, Copy, Drop)]
+enum Expectation<'s> {
+    /// So many as the one count says, behind these words.
+    Count(&'static str, &'s [i128]),
+    /// So many as the counts add up to.
+    Sum(&'s [i128]),
+}
+
 // How many items the call takes of this rank, by its counts.
 fn expected(alloc: Global, at: &Place<'_>, draft: &Draft) -> Result<Option<String>, OutOfMemory> {
+    if let Some(wanted) = wanted(draft) {
+        return told(alloc, wanted);
+    }
+    match wanted_of_root(draft) {
+        Some(wanted) => of_root(alloc, at, draft, wanted),
+        None => Ok(None),
+    }
+}
+
+// What a call takes of each rank.
+fn wanted(draft: &Draft) -> Option<Expectation<'_>> {
     let sent = draft.scounts.as_slice();
     let received = draft.rcounts.as_slice();
     match draft.call {
-        Call::Exchange(Exchange::Bcast, _) => {
-            of_root(alloc, at, draft, count(alloc, "COUNT is", received)?)
+        Call::Exchange(Exchange::Alltoall, _) => {
+            Some(Expectation::Count("COUNT for each rank is", received))
         }
-        Call::Exchange(Exchange::Scatter, _) => {
-            let each = count(alloc, "COUNT for each rank is", received)?;
-            of_root(alloc, at, draft, each)
-        }
-        Call::Exchange(Exchange::Scatterv, _) => of_root(alloc, at, draft, sum(alloc, sent)?),
-        Call::Exchange(Exchange::Alltoall, _) => count(alloc, "COUNT for each rank is", received),
-        Call::Exchange(Exchange::Alltoallv, _) => sum(alloc, sent),
+        Call::Exchange(Exchange::Alltoallv, _) => Some(Expectation::Sum(sent)),
         Call::Reduction(Reduction::ReduceScatterBlock, _) => {
-            count(alloc, "COUNT for each rank is", received)
+            Some(Expectation::Count("COUNT for each rank is", received))
         }
-        Call::Reduction(Reduction::ReduceScatter, _) => sum(alloc, received),
+        Call::Reduction(Reduction::ReduceScatter, _) => Some(Expectation::Sum(received)),
         Call::Neighbourhood(Neighbourhood::Alltoall, _) => {
-            count(alloc, "SCOUNT for each destination is", sent)
+            Some(Expectation::Count("SCOUNT for each destination is", sent))
         }
-        Call::Neighbourhood(Neighbourhood::Alltoallv, _) => sum(alloc, sent),
-        _ => Ok(None),
+        Call::Neighbourhood(Neighbourhood::Alltoallv, _) => Some(Expectation::Sum(sent)),
+        _ => None,
+    }
+}
+
+// What a call takes of its root alone.
+fn wanted_of_root(draft: &Draft) -> Option<Expectation<'_>> {
+    let received = draft.rcounts.as_slice();
+    match draft.call {
+        Call::Exchange(Exchange::Bcast, _) => Some(Expectation::Count("COUNT is", received)),
+        Call::Exchange(Exchange::Scatter, _) => {
+            Some(Expectation::Count("COUNT for each rank is", received))
+        }
+        Call::Exchange(Exchange::Scatterv, _) => Some(Expectation::Sum(draft.scounts.as_slice())),
+        _ => None,
     }
 }
 
@@ -223,15 +250,22 @@ fn of_root(
     alloc: Global,
     at: &Place<'_>,
     draft: &Draft,
-    more: Option<String>,
+    wanted: Expectation<'_>,
 ) -> Result<Option<String>, OutOfMemory> {
     if !at.is_world() {
         return Ok(None);
     }
     if draft.root == i128::from(at.rank) {
-        return Ok(more);
+        return told(alloc, wanted);
     }
     Ok(Some(String::from_str(alloc, "the root alone gives any")?))
+}
+
+fn told(alloc: Global, wanted: Expectation<'_>) -> Result<Option<String>, OutOfMemory> {
+    match wanted {
+        Expectation::Count(what, counts) => count(alloc, what, counts),
+        Expectation::Sum(counts) => sum(alloc, counts),
+    }
 }
 
 // The one count, where there is one.

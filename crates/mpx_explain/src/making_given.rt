@@ -124,14 +124,24 @@ fn bad_in(
             return Ok(Some(told));
         }
     }
-    for (word, list) in [
-        ("SOURCES", graph.sources()),
-        ("DESTINATIONS", graph.destinations()),
-    ] {
-        for neighbour in list {
-            if let Some(told) = bad_neighbour(alloc, at, graph.weighted(), word, *neighbour)? {
-                return Ok(Some(told));
-            }
+    let weighted = graph.weighted();
+    if let Some(told) = bad_among(alloc, at, weighted, "SOURCES", graph.sources())? {
+        return Ok(Some(told));
+    }
+    bad_among(alloc, at, weighted, "DESTINATIONS", graph.destinations())
+}
+
+// What is wrong with these neighbours.
+fn bad_among(
+    alloc: Global,
+    at: &Place<'_>,
+    weighted: bool,
+    word: &str,
+    neighbours: &[DraftedNeighbour],
+) -> Result<Option<String>, OutOfMemory> {
+    for neighbour in neighbours {
+        if let Some(told) = bad_neighbour(alloc, at, weighted, word, *neighbour)? {
+            return Ok(Some(told));
         }
     }
     Ok(None)
@@ -144,10 +154,11 @@ fn bad_end(
     weighted: bool,
     edge: DraftedEdge,
 ) -> Result<Option<String>, OutOfMemory> {
-    for end in [edge.source, edge.destination] {
-        if is_stray(at, end) {
-            return stray(alloc, at, "EDGES", end);
-        }
+    if is_stray(at, edge.source) {
+        return stray(alloc, at, "EDGES", edge.source);
+    }
+    if is_stray(at, edge.destination) {
+        return stray(alloc, at, "EDGES", edge.destination);
     }
     bad_weight(alloc, "EDGES", weighted, edge.weight)
 }
