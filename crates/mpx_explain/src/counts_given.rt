@@ -1,11 +1,11 @@
 //! What is wrong with the counts of a refused call.
 
 use crate::given::Place;
-use crate::size::counted;
+use crate::size::push_counted;
 use join_core::OutOfMemory;
 use mpx_kind::{Kind, Neighbourhood, Number};
+use mpx_num::push_number;
 use mpx_post::Draft;
-use std::alloc::Global;
 
 // So many items a call has at most, and so great is a count.
 const MOST: usize = 4096;
@@ -18,24 +18,25 @@ struct List<'s> {
     asked: Number,
 }
 
-/// Which list of counts has another length than the call asks for, and what that is: on `world` the list that is wrong, elsewhere each.
-pub(crate) fn counts(
-    alloc: Global,
+/// Adds which list of counts has another length than the call asks for, and what that is: on `world` the list that is wrong, elsewhere each.
+pub(crate) fn push_counts(
     at: &Place<'_>,
     draft: &Draft,
-) -> Result<Option<String>, OutOfMemory> {
+    told: &mut String,
+) -> Result<(), OutOfMemory> {
     let sent = sent_list(draft);
     let received = received_list(draft);
     if at.is_world() {
         let is_root = draft.root == i128::from(at.rank);
         if let Some(wanted) = other_length(sent, at.ranks, is_root) {
-            return of_length(alloc, at, sent, wanted);
+            return push_wrong_length(at, sent, wanted, told);
         }
         if let Some(wanted) = other_length(received, at.ranks, is_root) {
-            return of_length(alloc, at, received, wanted);
+            return push_wrong_length(at, received, wanted, told);
         }
     }
-    of_lists(alloc, sent, received)
+    push_asked(sent, told)?;
+    push_asked(received, told)
 }
 
 // How many counts are wanted on `world` with so many ranks, at the root or elsewhere, where a list has another number.
@@ -94,82 +95,72 @@ fn wanted(asked: Number, ranks: u8, is_root: bool) -> Option<usize> {
     }
 }
 
-// What is wrong with a list, of which so many counts are wanted.
-fn of_length(
-    alloc: Global,
+// Adds what is wrong with a list, of which so many counts are wanted.
+fn push_wrong_length(
     at: &Place<'_>,
     list: List<'_>,
     wanted: usize,
-) -> Result<Option<String>, OutOfMemory> {
-    let has = length(alloc, list)?;
+    told: &mut String,
+) -> Result<(), OutOfMemory> {
+    push_length(list, told)?;
     if wanted == 0 {
-        return Ok(Some(format!(in alloc; "{has}, the root alone gives any")?));
+        return Ok(told.push_str(", the root alone gives any")?);
     }
-    let ranks = counted(alloc, usize::from(at.ranks), "rank")?;
-    Ok(Some(format!(in alloc; "{has}, world has {ranks}")?))
+    told.push_str(", world has ")?;
+    push_counted(usize::from(at.ranks), "rank", told)
 }
 
-// The list's name, and how many counts it has.
-fn length(alloc: Global, list: List<'_>) -> Result<String, OutOfMemory> {
-    let name = list.name;
+// Adds the list's name, and how many counts it has.
+fn push_length(list: List<'_>, told: &mut String) -> Result<(), OutOfMemory> {
+    told.push_str(list.name)?;
+    told.push_str(" has ")?;
     if list.counts.is_empty() {
-        return Ok(format!(in alloc; "{name} has no count")?);
+        return Ok(told.push_str("no count")?);
     }
-    let counts = counted(alloc, list.counts.len(), "count")?;
-    Ok(format!(in alloc; "{name} has {counts}")?)
+    push_counted(list.counts.len(), "count", told)
 }
 
-// How many counts the lists have, and what is asked for.
-fn of_lists(
-    alloc: Global,
-    sent: List<'_>,
-    received: List<'_>,
-) -> Result<Option<String>, OutOfMemory> {
-    match asked_of(alloc, sent)? {
-        Some(mut told) => {
-            push_asked(alloc, received, &mut told)?;
-            Ok(Some(told))
-        }
-        None => asked_of(alloc, received),
-    }
-}
-
-// Adds how many counts a list has, and what is asked for.
-fn push_asked(alloc: Global, list: List<'_>, told: &mut String) -> Result<(), OutOfMemory> {
-    if let Some(more) = asked_of(alloc, list)? {
+// Adds how many counts a list has, and what is asked for, where it is no single count, behind another.
+fn push_asked(list: List<'_>, told: &mut String) -> Result<(), OutOfMemory> {
+    let Some(asked) = asked_of(list.asked) else {
+        return Ok(());
+    };
+    if !told.is_empty() {
         told.push_str("; ")?;
-        told.push_str(more.as_str())?;
     }
+    push_length(list, told)?;
+    told.push_str(asked)?;
     Ok(())
 }
 
-// How many counts a list has, and what is asked for, where it is no single count.
-fn asked_of(alloc: Global, list: List<'_>) -> Result<Option<String>, OutOfMemory> {
-    let asked = match list.asked {
-        Number::Zero | Number::One | Number::OneAtRoot => return Ok(None),
-        Number::Members => "one for each rank is asked for",
-        Number::MembersAtRoot => "one for each rank is asked for at the root, none elsewhere",
-        Number::Indegree => "one for each source is asked for",
-        Number::Outdegree => "one for each destination is asked for",
-    };
-    let has = length(alloc, list)?;
-    Ok(Some(format!(in alloc; "{has}, {asked}")?))
+fn asked_of(asked: Number) -> Option<&'static str> {
+    match asked {
+        Number::Zero | Number::One | Number::OneAtRoot => None,
+        Number::Members => Some(", one for each rank is asked for"),
+        Number::MembersAtRoot => {
+            Some(", one for each rank is asked for at the root, none elsewhere")
+        }
+        Number::Indegree => Some(", one for each source is asked for"),
+        Number::Outdegree => Some(", one for each destination is asked for"),
+    }
 }
 
-/// How many items are too many, or which count is too great or below 0.
-pub(crate) fn too_many(alloc: Global, draft: &Draft) -> Result<Option<String>, OutOfMemory> {
+/// Adds how many items are too many, or which count is too great or below 0.
+pub(crate) fn push_too_many(draft: &Draft, told: &mut String) -> Result<(), OutOfMemory> {
     let items = draft.items.as_slice().len() / draft.ty.item_len().max(1);
     if items > MOST {
-        return Ok(Some(format!(in alloc; "gave {items} items, at most {MOST} are taken")?));
+        told.push_str("gave ")?;
+        push_number(told, items as i128)?;
+        return Ok(told.push_str(" items, at most 4096 are taken")?);
     }
     let sent = sent_list(draft);
     if let Some(count) = strange_in(sent.counts) {
-        return strange_count(alloc, sent, count);
+        return push_strange(sent, count, told);
     }
     let received = received_list(draft);
     match strange_in(received.counts) {
-        Some(count) => strange_count(alloc, received, count),
-        None => Ok(None),
+        Some(count) => push_strange(received, count, told),
+        None => Ok(()),
     }
 }
 
@@ -183,14 +174,12 @@ fn strange_in(counts: &[i128]) -> Option<i128> {
     None
 }
 
-fn strange_count(
-    alloc: Global,
-    list: List<'_>,
-    count: i128,
-) -> Result<Option<String>, OutOfMemory> {
-    let name = list.name;
-    let verb = if is_one(list.asked) { "is" } else { "has" };
-    Ok(Some(format!(in alloc; "{name} {verb} {count}, counts go from 0 to {MOST}")?))
+fn push_strange(list: List<'_>, count: i128, told: &mut String) -> Result<(), OutOfMemory> {
+    told.push_str(list.name)?;
+    told.push_str(if is_one(list.asked) { " is " } else { " has " })?;
+    push_number(told, count)?;
+    told.push_str(", counts go from 0 to 4096")?;
+    Ok(())
 }
 
 fn is_one(asked: Number) -> bool {

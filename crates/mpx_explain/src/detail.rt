@@ -3,6 +3,7 @@
 use crate::blame::{Line, line_in, missing_beside_type, missing_part, place_of};
 use crate::forms::{Form, Misfit, form_of, misfit_of};
 use crate::meant::meant;
+use crate::size::push_value;
 use join_core::OutOfMemory;
 use mpx_num::Ops;
 use mpx_script::{ReadScriptError, ScriptError, ScriptFault, read_script};
@@ -83,9 +84,24 @@ fn by_form(alloc: Global, words: &[&str], misfit: Misfit) -> Result<Option<Strin
         return Ok(None);
     };
     let (parts, behind) = (form.parts, if form.starts { " -> D" } else { "" });
-    let mut told = format!(in alloc; "{statement} {parts}{behind}: ")?;
+    let mut told = String::new(alloc);
+    push_form(statement, parts, behind, &mut told)?;
     push_misfit(words, misfit, &mut told)?;
     Ok(Some(told))
+}
+
+fn push_form(
+    statement: &str,
+    parts: &str,
+    behind: &str,
+    told: &mut String,
+) -> Result<(), OutOfMemory> {
+    told.push_str(statement)?;
+    told.push_str(" ")?;
+    told.push_str(parts)?;
+    told.push_str(behind)?;
+    told.push_str(": ")?;
+    Ok(())
 }
 
 fn push_misfit(words: &[&str], misfit: Misfit, told: &mut String) -> Result<(), OutOfMemory> {
@@ -162,9 +178,20 @@ fn of_word(
 
 // A word at this place, from 0 on, and what is told of it.
 fn shown(alloc: Global, place: usize, word: &str, more: &str) -> Result<String, OutOfMemory> {
-    let place = place.saturating_add(1);
-    let between = if more.is_empty() { "" } else { "; " };
-    Ok(format!(in alloc; "word {place}: {word}{between}{more}")?)
+    let mut told = String::new(alloc);
+    push_value("word ", place.saturating_add(1) as i128, ": ", &mut told)?;
+    push_more(word, more, &mut told)?;
+    Ok(told)
+}
+
+// Adds a word, and more of it where there is any.
+fn push_more(word: &str, more: &str, told: &mut String) -> Result<(), OutOfMemory> {
+    told.push_str(word)?;
+    if !more.is_empty() {
+        told.push_str("; ")?;
+        told.push_str(more)?;
+    }
+    Ok(())
 }
 
 // What a line lacks that has a type of programs besides, and what was meant by that.
@@ -228,6 +255,12 @@ fn ranks_of(alloc: Global, ranks: u8) -> Result<String, OutOfMemory> {
     if ranks == 1 {
         return Ok(String::from_str(alloc, "there is rank 0 alone")?);
     }
-    let last = ranks.saturating_sub(1);
-    Ok(format!(in alloc; "there are ranks 0 to {last}")?)
+    let mut told = String::new(alloc);
+    push_value(
+        "there are ranks 0 to ",
+        i128::from(ranks.saturating_sub(1)),
+        "",
+        &mut told,
+    )?;
+    Ok(told)
 }
