@@ -2,7 +2,7 @@ use Rattle.std.proofs.Common.{◌≡◌, map, take}
 use Rattle.mpx_eval.specs.Found.{complaint_view}
 use Rattle.mpx_waiting.specs.Lines.{AreLinesOf}
 use Rattle.mpx_explain.specs.Findings.{named_view, placed}
-use Rattle.mpx_explain.proofs.named.named_calls.Given as goal
+use Rattle.mpx_explain.proofs.named.push_first.Given as goal
 
 abbrev pub invariant-loop-call : goal.invariant-loop-call
 invariant-loop-call l = record {
