@@ -1,12 +1,13 @@
 -- Frames, and the board whose bytes they are.
 use Rattle.std.proofs.Common.{◌≡◌, ◌+◌, ◌<◌, ◌≤◌, ℕ, zero, suc, Bool, true, false, get_or, take, drop, List, [], ◌∷◌, ◌++◌, length, map, set, Some, refl, sym, ap, ◌∙◌, inl, subst, arith}
-use Rattle.std.specs.Prelude.{All, nat_lt, slice_get, if◌then◌else◌}
+use Rattle.std.specs.Prelude.{All, nat_eq, nat_lt, slice_get, if◌then◌else◌}
 use Rattle.std.specs.List.{remove}
 use Rattle.std.specs.Option.{option_map}
 use Rattle.std.proofs.lemmas.Bool.Decides.{nat_tests}
 use Rattle.std.proofs.lemmas.List.{append-nil, append_assoc}
 use Rattle.std.proofs.lemmas.Option.{get_or_from_slice_get, same_Some, slice_get-get_or, slice_get-map, slice_get_within}
 use Rattle.std.proofs.lemmas.List.Elements.{All-append, All-nil, All-cons, All-head, All-push, All-tail, All-map}
+use Rattle.rand_pcg.specs.Lcg.{Lcg}
 use Rattle.mpx_num.specs.declared.own.Operation.{Operation}
 use Rattle.mpx_board.specs.Boards.{Look}
 use Rattle.mpx_board.specs.Contexts.{look_of}
@@ -26,8 +27,8 @@ use Rattle.mpx_system.proofs.Leading.{coupled, leads_on}
 use Rattle.mpx_system.proofs.Results.{mapped_at, some_at}
 use Rattle.mpx_sim.specs.declared.frame_under_way.FrameUnderWay.{FrameUnderWay}
 use Rattle.mpx_sim.specs.declared.schedule.Schedule.{Schedule}
-use Rattle.mpx_sim.specs.Draws.{ScheduleView, draw, drawn, drawn_once}
-use Rattle.mpx_sim.specs.Turns.{Coming, FrameView, IsListOf, IsUnder, Moment, Saying, a_list, drawn_for, joined, no_list, one_a_turn, sends_each, those_out}
+use Rattle.mpx_sim.specs.Draws.{ScheduleView, draw, drawn, drawn_again, drawn_once, drawn_times}
+use Rattle.mpx_sim.specs.Turns.{Coming, FrameView, IsListOf, IsUnder, Moment, Saying, a_list, asked, drawn_again_for, drawn_for, joined, no_list, one_a_turn, sends_each, those_out}
 use Rattle.mpx_sim.specs.Running.{IsAmong, IsAt, IsUnderWay, ProcessView}
 use Rattle.mpx_sim.specs.Shown.{frame_of, part_of, schedule_of, shown}
 use Rattle.mpx_sim.specs.SideBySide.{StillToCome}
@@ -135,7 +136,7 @@ module _ (ops : List Operation) (script : Script) (ranks size : ℕ) (processes 
 -- once processes have said what they have, the lists that they have made go out
 pub run_out : (ops : List Operation) (script : Script) (ranks size : ℕ) (begun : Moment) (turn : ℕ) (processes : List ProcessView) (frames : List FrameView) (run : IsUnderWay ops script ranks size begun Saying processes frames) (lists : List (List FrameView))
     → length lists ≡ length processes → ((p : ℕ) (list : List FrameView) → slice_get lists p ≡ Some list → (v : ProcessView) → slice_get processes p ≡ Some v → IsListOf size turn v.rank.me v.node list)
-    → IsUnderWay ops script ranks size begun (Coming turn (drawn_for (joined lists) begun.schedule)) processes (frames ++ those_out begun.schedule (joined lists))
+    → IsUnderWay ops script ranks size begun (Coming turn (drawn_for (frames ++ those_out begun.schedule (joined lists)) (drawn_for (joined lists) begun.schedule))) processes (frames ++ those_out begun.schedule (joined lists))
 run_out ops script ranks size begun turn processes frames run lists many are =
     let s = run.system in
     let made = joined lists in
@@ -249,3 +250,45 @@ written_back (suc len) (y ∷ ys) (x ∷ xs) e f = ap (λ zs. x ∷ zs) (written
 -- once a number is drawn
 pub drawn_of : (old new : Schedule) → new.loss ≡ old.loss → new.words ≡ drawn old.words → schedule_of new ≡ drawn_once (schedule_of old)
 drawn_of old new loss words = λ i. record { loss = loss i; draws = words i }
+
+-- one number first, and then the others
+drawn_first : (n : ℕ) (g : Lcg) → drawn_times n (drawn g) ≡ drawn (drawn_times n g)
+drawn_first zero g = refl
+drawn_first (suc n) g = ap drawn (drawn_first n g)
+
+pub drawn_more : (n m : ℕ) (g : Lcg) → m ≡ n + 1 → drawn_times m g ≡ drawn (drawn_times n g)
+drawn_more n m g e = let same : m ≡ suc n = omega (arith, e) in ap (λ k. drawn_times k g) same
+
+-- a number for each frame is as many as there are frames
+for_each : (frames : List FrameView) (s : ScheduleView) → drawn_for frames s ≡ record { loss = s.loss; draws = drawn_times (length frames) s.draws }
+for_each [] s = refl
+for_each (f ∷ frames) s = for_each frames (drawn_once s) ∙ ap (λ g. let t : ScheduleView = record { loss = s.loss; draws = g } in t) (drawn_first (length frames) s.draws)
+
+pub mixed_of : (old new : Schedule) (frames : List FrameView) (n : ℕ) → n ≡ length frames → new.loss ≡ old.loss → new.words ≡ drawn_times n old.words → drawn_for frames (schedule_of old) ≡ schedule_of new
+mixed_of old new frames n many loss words =
+    let same : new.words ≡ drawn_times (length frames) old.words = words ∙ ap (λ k. drawn_times k old.words) many in
+    for_each frames (schedule_of old) ∙ (λ i. let t : ScheduleView = record { loss = sym loss i; draws = sym same i } in t)
+
+-- it is drawn whether a frame comes again
+pub again_is : (s : ScheduleView) → draw 4 s.draws ≡ 0 → drawn_again s ≡ drawn_once (drawn_once s)
+again_is s comes =
+    let is : nat_eq (draw 4 s.draws) 0 ≡ true = grind (arith, nat_tests, comes) in
+    ap (λ b. if b then drawn_once (drawn_once s) else drawn_once s) is
+
+pub again_not : (s : ScheduleView) → (draw 4 s.draws ≡ 0 → ⊥) → drawn_again s ≡ drawn_once s
+again_not s gone =
+    let not : nat_eq (draw 4 s.draws) 0 ≡ false = grind (arith, nat_tests, gone) in
+    ap (λ b. if b then drawn_once (drawn_once s) else drawn_once s) not
+
+again_loss : (s : ScheduleView) → (drawn_again s).loss ≡ s.loss
+again_loss s = by_number (nat_eq (draw 4 s.draws) 0) where
+  by_number : (comes : Bool) → (if comes then drawn_once (drawn_once s) else drawn_once s).loss ≡ s.loss
+  by_number true = refl
+  by_number false = refl
+
+pub again_for_loss : (turn : ℕ) (frames : List FrameView) (s : ScheduleView) → (drawn_again_for turn frames s).loss ≡ s.loss
+again_for_loss turn [] s = refl
+again_for_loss turn (f ∷ frames) s = again_for_loss turn frames (asked turn f s) ∙ by_turn (nat_eq f.turn turn) where
+  by_turn : (now : Bool) → (if now then drawn_again s else s).loss ≡ s.loss
+  by_turn true = again_loss s
+  by_turn false = refl

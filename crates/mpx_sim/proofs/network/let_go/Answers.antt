@@ -1,8 +1,10 @@
-use Rattle.std.proofs.Common.{◌≡◌, ◌<◌, ℕ, Some, arith, map, subst, sym}
+use Rattle.std.proofs.Common.{◌≡◌, ◌<◌, ◌≤◌, ◌∙◌, ℕ, Some, ap, arith, get_or, length, map, subst, sym}
 use Rattle.std.specs.Prelude.{slice_get}
 use Rattle.std.specs.List.{All}
 use Rattle.mpx_sim.specs.declared.frame_under_way.FrameUnderWay.{FrameUnderWay}
-use Rattle.mpx_sim.specs.Shown.{part_of}
+use Rattle.mpx_sim.specs.Shown.{frame_of, part_of}
+use Rattle.mpx_sim.specs.SideBySide.{left_from}
+use Rattle.mpx_sim.proofs.Left.{left_gone}
 use Rattle.mpx_sim.specs.Running.{IsAmong}
 use Rattle.mpx_sim.proofs.Running.{among_itself}
 use Rattle.mpx_sim.proofs.Sending.{all_without, stays_without}
@@ -25,3 +27,10 @@ returns-clause-kept c f place at later =
 
 pub returns-then-i-len-clause-kept : goal.returns-then-i-len-clause-kept
 returns-then-i-len-clause-kept c f place at later = (place, at)
+
+pub returns-clause-left : goal.returns-clause-left
+returns-clause-left c few =
+    let frames = c.args.network.now.frames.items in
+    let here = c.index.result.now in
+    let gone : (get_or frames c.args.i here).turn ≤ c.args.turn = subst (λ (x : FrameUnderWay). x.turn ≤ c.args.turn) c.index.ensures (omega arith) in
+    ap (λ fs. left_from c.args.turn c.args.i (map frame_of fs)) c.remove-frame.ensures.items ∙ left_gone c.args.turn frames c.args.i here few gone
