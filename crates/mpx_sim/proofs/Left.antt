@@ -1,5 +1,5 @@
 -- What is under way behind a turn.
-use Rattle.std.proofs.Common.{◌≡◌, ◌+◌, ◌<◌, ◌≤◌, ℕ, zero, suc, Bool, true, false, get_or, take, drop, cond, List, [], ◌∷◌, ◌++◌, length, map, set, Option, Some, None, refl, inl, inr, sym, ap, ◌∙◌, subst, arith}
+use Rattle.std.proofs.Common.{◌≡◌, ◌+◌, ◌^◌, ◌<◌, ◌≤◌, ℕ, zero, suc, Bool, true, false, get_or, take, drop, cond, List, [], ◌∷◌, ◌++◌, length, map, set, Option, Some, None, refl, inl, inr, sym, ap, ◌∙◌, subst, arith}
 use Rattle.std.specs.Prelude.{All, nat_eq, nat_lt, slice_get, ◌&&◌, if◌then◌else◌}
 use Rattle.std.specs.List.{filter, remove}
 use Rattle.std.proofs.lemmas.Bool.Decides.{eqb_tells, nat_tests}
@@ -7,10 +7,24 @@ use Rattle.std.proofs.lemmas.List.Elements.{All-filter, All-nil, All-cons, All-h
 use Rattle.std.proofs.lemmas.Option.{same_Some, slice_get-get_or}
 use Rattle.mpx_board.specs.Boards.{Look}
 use Rattle.mpx_sim.specs.declared.frame_under_way.FrameUnderWay.{FrameUnderWay}
-use Rattle.mpx_sim.specs.Draws.{ScheduleView, draw, drawn, drawn_again, drawn_once}
+use Rattle.mpx_sim.specs.Draws.{ScheduleView, draw, drawn, drawn_again, powers_below}
 use Rattle.mpx_sim.specs.Turns.{FrameView, IsUnder, all_put_off, asked, put_off, those_left}
 use Rattle.mpx_sim.specs.Shown.{frame_of}
 use Rattle.mpx_sim.specs.SideBySide.{left_from}
+
+-- HOW MANY SHIFTS
+
+pub powers_more : (k m limit : ℕ) → m ≡ k + 1 → 2 ^ k < limit → powers_below m limit ≡ suc (powers_below k limit)
+powers_more k m limit e below =
+    let next : m ≡ suc k = omega (arith, e) in
+    let is : nat_lt (2 ^ k) limit ≡ true = grind (arith, nat_tests, below) in
+    ap (λ n. powers_below n limit) next ∙ ap (λ b. if b then suc (powers_below k limit) else powers_below k limit) is
+
+pub powers_same : (k m limit : ℕ) → m ≡ k + 1 → limit ≤ 2 ^ k → powers_below m limit ≡ powers_below k limit
+powers_same k m limit e over =
+    let next : m ≡ suc k = omega (arith, e) in
+    let not : nat_lt (2 ^ k) limit ≡ false = grind (arith, nat_tests, over) in
+    ap (λ n. powers_below n limit) next ∙ ap (λ b. if b then suc (powers_below k limit) else powers_below k limit) not
 
 -- WHETHER A FRAME COMES AGAIN
 
@@ -54,6 +68,10 @@ module _ (turn : ℕ) (f : FrameView) (s : ScheduleView) where
 
 -- WHAT IS LEFT
 
+pub off_length : (turn : ℕ) (frames : List FrameView) (s : ScheduleView) → length (all_put_off turn frames s) ≡ length frames
+off_length turn [] s = refl
+off_length turn (f ∷ frames) s = ap suc (off_length turn frames (asked turn f s))
+
 off_parts : (P : Look → Type 0) (turn : ℕ) (frames : List FrameView) (s : ScheduleView) → All (λ (f : FrameView). P f.part) frames → All (λ (f : FrameView). P f.part) (all_put_off turn frames s)
 off_parts P turn [] s h = All-nil (λ (f : FrameView). P f.part)
 off_parts P turn (f ∷ frames) s h =
@@ -94,13 +112,13 @@ taken_set f (y ∷ ys) zero x l = refl
 taken_set f (y ∷ ys) (suc i) x l = ap (λ zs. f y ∷ zs) (taken_set f ys i x (omega (arith, l)))
 
 -- one more stays
-pub left_kept : (turn : ℕ) (xs : List FrameView) (i : ℕ) (d : FrameView) → i < length xs → turn < (get_or xs i d).turn → left_from turn (suc i) xs ≡ left_from turn i xs
+pub left_kept : (turn : ℕ) (xs : List FrameUnderWay) (i : ℕ) (d : FrameUnderWay) → i < length xs → turn < (get_or xs i d).turn → left_from turn (suc i) (map frame_of xs) ≡ left_from turn i (map frame_of xs)
 left_kept turn [] i d l later = absurd (omega (arith, l))
 left_kept turn (x ∷ xs) zero d l later =
     let is : nat_lt turn x.turn ≡ true = grind (arith, nat_tests, later) in
-    let rest = filter (λ (f : FrameView). nat_lt turn f.turn) xs in
-    sym (ap (λ b. cond b (x ∷ rest) rest) is)
-left_kept turn (x ∷ xs) (suc i) d l later = ap (λ fs. x ∷ fs) (left_kept turn xs i d (omega (arith, l)) later)
+    let rest = filter (λ (f : FrameView). nat_lt turn f.turn) (map frame_of xs) in
+    sym (ap (λ b. cond b (frame_of x ∷ rest) rest) is)
+left_kept turn (x ∷ xs) (suc i) d l later = ap (λ fs. frame_of x ∷ fs) (left_kept turn xs i d (omega (arith, l)) later)
 
 -- or one goes
 pub left_gone : (turn : ℕ) (xs : List FrameUnderWay) (i : ℕ) (d : FrameUnderWay) → i < length xs → (get_or xs i d).turn ≤ turn → left_from turn i (map frame_of (remove xs i)) ≡ left_from turn i (map frame_of xs)

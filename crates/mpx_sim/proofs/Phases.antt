@@ -27,9 +27,6 @@ more_by P ranks from to d l is m = record {
 pub under_itself : (frames : List FrameView) → All (IsUnder frames) frames
 under_itself frames k d l = (k, slice_get-get_or frames k d l)
 
-pub under_later : (turn : ℕ) (frames : List FrameView) → All (λ (f : FrameView). turn < f.turn → IsUnder frames f) frames
-under_later turn frames k d l later = under_itself frames k d l
-
 -- one more is done
 pub since_on : (ranks size : ℕ) (begun : Moment) (phase : Phase) (frames : List FrameView) (s : System) → Since ranks size begun phase frames s → (d : Doing) → IsIn phase d → MayDo ranks s d → Since ranks size begun phase frames (does s d)
 since_on ranks size begun Alone frames s h d is m = (more_by IsOwn ranks begun.system s d h.0 is m, h.1)

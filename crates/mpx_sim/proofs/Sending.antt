@@ -42,10 +42,6 @@ spelled_shown version bytes v s = ap shown (decoded_again version bytes v s)
 
 -- PARTS
 
-pub all_behind : {A B : Type 0} (f : A → B) (P : B → Type 0) (xs : List A) → All P (map f xs) → All (λ x. P (f x)) xs
-all_behind f P [] h = All-nil (λ x. P (f x))
-all_behind f P (x ∷ xs) h = All-cons (λ y. P (f y)) x xs (All-head P (f x) (map f xs) h) (all_behind f P xs (All-tail P (f x) (map f xs) h))
-
 -- FRAMES GO OUT
 
 pub out_append : (s : ScheduleView) (xs ys : List FrameView) → those_out s (xs ++ ys) ≡ those_out s xs ++ those_out (drawn_for xs s) ys
@@ -187,20 +183,6 @@ pub parts_of_frames : (frames : List FrameUnderWay) → map (λ (f : FrameView).
 parts_of_frames [] = refl
 parts_of_frames (f ∷ frames) = ap (λ bs. part_of f ∷ bs) (parts_of_frames frames)
 
--- what is so of the boards that frames spell
-pub all_of_parts : (P : Look → Type 0) (frames : List FrameUnderWay) → All P (map part_of frames) → All (λ (f : FrameView). P f.part) (map frame_of frames)
-all_of_parts P frames h = all_behind (λ (f : FrameView). f.part) P (map frame_of frames) (subst (All P) (sym (parts_of_frames frames)) h)
-
-pub parts_of_all : (P : Look → Type 0) (frames : List FrameUnderWay) → All (λ (f : FrameView). P f.part) (map frame_of frames) → All P (map part_of frames)
-parts_of_all P frames h = subst (All P) (parts_of_frames frames) (All-map P (λ (f : FrameView). f.part) (map frame_of frames) h)
-
--- frames that stay are under way
-pub still_under : (turn : ℕ) (old new : List FrameUnderWay) → StillToCome turn old new → All (λ (f : FrameView). turn < f.turn → IsUnder (map frame_of new) f) (map frame_of old)
-still_under turn old new stay k d l later =
-    let f = mapped_at frame_of old k (get_or (map frame_of old) k d) (slice_get-get_or (map frame_of old) k d l) in
-    let now = stay f.0 k f.1 (subst (λ (g : FrameView). turn < g.turn) (sym f.2) later) in
-    (now.0, slice_get-map frame_of new now.0 ∙ ap (option_map frame_of) now.1 ∙ ap (λ g. Some g) f.2)
-
 -- THE CODE'S LISTS
 
 -- a write that leaves what f reads
@@ -208,29 +190,6 @@ pub kept : {A B : Type 0} (f : A → B) (xs : List A) (p : ℕ) (d x : A) → p 
 kept f [] p d x l e = refl
 kept f (y ∷ ys) zero d x l e = ap (λ z. z ∷ map f ys) e
 kept f (y ∷ ys) (suc p) d x l e = ap (λ zs. f y ∷ zs) (kept f ys p d x (omega (arith, l)) e)
-
--- all but one
-pub all_without : {A B : Type 0} (f : A → B) (P : B → Type 0) (i : ℕ) (xs : List A) → All P (map f xs) → All P (map f (remove xs i))
-all_without f P zero [] h = h
-all_without f P zero (x ∷ xs) h = All-tail P (f x) (map f xs) h
-all_without f P (suc i) [] h = h
-all_without f P (suc i) (x ∷ xs) h = All-cons P (f x) (map f (remove xs i)) (All-head P (f x) (map f xs) h) (all_without f P i xs (All-tail P (f x) (map f xs) h))
-
--- one goes of which P doesn't hold: those of which it holds stay
-pub stays_without : {A : Type 0} (P : A → Type 0) (i : ℕ) (d : A) (xs : List A) → (P (get_or xs i d) → ⊥) → i < length xs → (k : ℕ) (x : A) → slice_get xs k ≡ Some x → P x → (j : ℕ) × (slice_get (remove xs i) j ≡ Some x)
-stays_without P i d [] unlike l k x at p = cc at
-stays_without P zero d (y ∷ ys) unlike l zero x at p = absurd (unlike (subst P (sym (same_Some y x at)) p))
-stays_without P zero d (y ∷ ys) unlike l (suc k) x at p = (k, at)
-stays_without P (suc i) d (y ∷ ys) unlike l zero x at p = (zero, at)
-stays_without P (suc i) d (y ∷ ys) unlike l (suc k) x at p = let h = stays_without P i d ys unlike (omega (arith, l)) k x at p in (suc h.0, h.1)
-
--- one is written, and stays as it was where P holds of it: so do all others
-pub stays_written : {A : Type 0} (P : A → Type 0) (i : ℕ) (y : A) (xs : List A) → ((x : A) → slice_get xs i ≡ Some x → P x → y ≡ x) → (k : ℕ) (x : A) → slice_get xs k ≡ Some x → P x → slice_get (set xs i y) k ≡ Some x
-stays_written P i y [] same k x at p = cc at
-stays_written P zero y (z ∷ zs) same zero x at p = ap (λ w. Some w) (same x at p)
-stays_written P zero y (z ∷ zs) same (suc k) x at p = at
-stays_written P (suc i) y (z ∷ zs) same zero x at p = at
-stays_written P (suc i) y (z ∷ zs) same (suc k) x at p = stays_written P i y zs same k x at p
 
 -- one of those that are left
 pub one_left : {A : Type 0} (xs : List A) (p : ℕ) (x : A) → slice_get xs p ≡ Some x → drop p xs ≡ x ∷ drop (p + 1) xs

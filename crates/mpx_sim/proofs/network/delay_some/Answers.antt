@@ -1,18 +1,18 @@
-use Rattle.std.proofs.Common.{rules, ◌≡◌, ◌∙◌, ◌<◌, ◌≤◌, ◌+◌, ◌∷◌, ◌++◌, [], Some, drop, take, get_or, length, map, set, suc, append_assoc, ap, refl, subst, sym, arith}
+use Rattle.std.proofs.Common.{rules, ◌≡◌, ◌∙◌, ◌<◌, ◌≤◌, ◌+◌, ◌∷◌, ◌++◌, [], Some, drop, take, get_or, length, map, set, suc, append_assoc, ap, refl, sym, arith}
 use Rattle.std.specs.Prelude.{slice_get}
 use Rattle.std.specs.Option.{option_map}
-use Rattle.std.proofs.lemmas.List.{append-nil, drop_all, length-map, take_all}
-use Rattle.std.proofs.lemmas.Option.{get_or_from_slice_get, slice_get-get_or, slice_get-map}
+use Rattle.std.proofs.lemmas.List.{append-nil, drop_all, length-map, length-set, take_all}
+use Rattle.std.proofs.lemmas.Option.{slice_get-get_or, slice_get-map}
 use Rattle.mpx_format.specs.Decoding.{decoded}
 use Rattle.mpx_post.proofs.Lists.{set_cases}
 use Rattle.mpx_sim.specs.Shown.{frame_of, frames_of, part_of, schedule_of, shown}
 use Rattle.mpx_sim.specs.Turns.{all_put_off, drawn_again_for}
 use Rattle.mpx_sim.proofs.Left.{taken_set}
-use Rattle.mpx_sim.proofs.Sending.{kept, one_left, stays_written}
+use Rattle.mpx_sim.proofs.Sending.{kept, one_left}
 use Rattle.mpx_sim.proofs.network.delay_some.Goals as goal
 
 pub loop-i-init : goal.loop-i-init
-loop-i-init c = record { parts = refl; off = refl; rest = λ q x l at. at; schedule = refl; kept = λ f place at later. (place, at) }
+loop-i-init c = record { parts = refl; off = refl; rest = λ q x l at. at; schedule = refl; many = refl }
 
 pub loop-i-preserved : goal.loop-i-preserved
 loop-i-preserved c =
@@ -39,21 +39,13 @@ loop-i-preserved c =
       parts = kept part_of frames i f new within (ap (λ bytes. shown (decoded bytes)) c.delay.ensures.bytes ∙ ap part_of c.index_mut.ensures.value) ∙ c.loop-i.invariant.parts;
       rest = λ q y less at. set_cases frames i q new y (λ z. slice_get c.args.network.now.frames.items q ≡ Some z) at (λ same. absurd (omega (arith, less, same))) (λ old other. c.loop-i.invariant.rest q y (omega (arith, less)) old);
       schedule = ap (drawn_again_for c.args.turn (drop (i + 1) all)) c.delay.ensures.schedule ∙ ap (λ fs. drawn_again_for c.args.turn fs (schedule_of c.loop-i.network.schedule)) (sym left) ∙ c.loop-i.invariant.schedule;
-      kept = λ f place at later.
-          let h = c.loop-i.invariant.kept f place at later in (
-            h.0,
-            stays_written (λ x. c.args.turn < x.turn) c.loop-i.i c.delay.new.frame frames
-                (λ x here then.
-                let is : c.index_mut.result.now ≡ x = c.index_mut.ensures.value ∙ get_or_from_slice_get frames c.loop-i.i x c.index_mut.result.now here in
-                c.delay.ensures.kept (subst (λ z. c.args.turn < z.turn) (sym is) then) ∙ is)
-                h.0 f h.1 later,
-          );
+      many = length-set frames i new ∙ c.loop-i.invariant.many;
     }
 
 pub returns-clause-frames : goal.returns-clause-frames
 returns-clause-frames c =
     let all = frames_of c.args.network.now in
-    let many : length (frames_of c.loop-i.network) ≤ c.loop-i.i = omega (arith, c.loop-i-test.false, length-map c.loop-i.network.frames.items frame_of) in
+    let many : length (frames_of c.loop-i.network) ≤ c.loop-i.i = omega (arith, c.loop-i-test.false, c.loop-i.invariant.many, length-map c.loop-i.network.frames.items frame_of) in
     let none : drop c.loop-i.i all ≡ [] = drop_all c.loop-i.i all (omega (arith, c.loop-i-test.false, length-map c.args.network.now.frames.items frame_of)) in
     sym (take_all c.loop-i.i (frames_of c.loop-i.network) many) ∙ sym (append-nil (take c.loop-i.i (frames_of c.loop-i.network))) ∙ ap (λ fs. take c.loop-i.i (frames_of c.loop-i.network) ++ all_put_off c.args.turn fs (schedule_of c.loop-i.network.schedule)) (sym none) ∙ c.loop-i.invariant.off
 
