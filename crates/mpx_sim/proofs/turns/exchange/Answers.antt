@@ -32,9 +32,9 @@ returns-clause-run g c =
     let out = run_out ops script ranks size begun turn said before made lists (length-map qs to_send ∙ sym (length-map qs process_of)) (λ p list e v at. subst (λ n. IsListOf n turn v.rank.me v.node list) many (all_lists count turn c.args.processes.now qs c.in_ok-say_all.ensures p list e v at)) in
     let mid = c.send_all.new.network in
     let drawn =
-        ap (λ fs. drawn_for fs (drawn_for (joined lists) (schedule_of c.args.network.now.schedule))) (sym c.in_ok-send_all.ensures.frames)
-        ∙ ap (drawn_for (frames_of mid)) (sym c.in_ok-send_all.ensures.schedule)
-        ∙ mixed_of mid.schedule c.mix.new.self.schedule (frames_of mid) (length mid.frames.items) (sym (length-map mid.frames.items frame_of)) c.mix.ensures.loss c.mix.ensures.words in
+    ap (λ fs. drawn_for fs (drawn_for (joined lists) (schedule_of c.args.network.now.schedule))) (sym c.in_ok-send_all.ensures.frames)
+    ∙ ap (drawn_for (frames_of mid)) (sym c.in_ok-send_all.ensures.schedule)
+    ∙ mixed_of mid.schedule c.mix.new.self.schedule (frames_of mid) (length mid.frames.items) (sym (length-map mid.frames.items frame_of)) c.mix.ensures.loss c.mix.ensures.words in
     let sent = run_scheduled ops script ranks size begun turn _ (schedule_of c.mix.new.self.schedule) _ _ _ _ drawn (sym c.in_ok-send_all.ensures.same) (sym c.in_ok-send_all.ensures.frames) out in
     let all = map process_of c.send_all.new.processes in
     let mixed = run_mixed ops script ranks size begun turn (schedule_of c.mix.new.self.schedule) all (frames_of mid) sent (frames_of c.mix.new.self) (IsPermutation-map frame_of mid.frames.items c.mix.new.self.frames.items c.mix.ensures.frames) in

@@ -45,8 +45,8 @@ returns-clause-run g c script ranks size begun few run =
       turn_is = run_turned _ script ranks size begun number t now all come came;
       run = run_same _ script ranks size next Alone _ _ next.frames next.frames (sym c.hand_out.ensures.same) refl gone;
       goes_on = λ more. (
-          ap (λ n. those_left n all t) (sym same) ∙ sym c.keep_some.ensures.frames,
-          ap (λ n. drawn_again_for n all t) (sym same) ∙ sym c.keep_some.ensures.schedule,
+        ap (λ n. those_left n all t) (sym same) ∙ sym c.keep_some.ensures.frames,
+        ap (λ n. drawn_again_for n all t) (sym same) ∙ sym c.keep_some.ensures.schedule,
       );
     }
 

@@ -41,8 +41,8 @@ loop-number-init g c =
     let many : length xs ≡ size = sym (length-map xs process_of) ∙ first.count in
     let counted : c.len.result ≡ size = omega (arith, many, c.len.ensures, c.in_ok-processes.processes.ok.0) in
     let seeded : schedule_of network.schedule ≡ first_schedule size c.args.options.now.seed c.args.options.now.loss =
-        (λ i. let s : ScheduleView = record { loss = c.in_ok-network.ensures.loss i; draws = c.in_ok-network.ensures.seed i } in s)
-        ∙ ap (λ n. first_schedule n c.args.options.now.seed c.args.options.now.loss) counted in
+    (λ i. let s : ScheduleView = record { loss = c.in_ok-network.ensures.loss i; draws = c.in_ok-network.ensures.seed i } in s)
+    ∙ ap (λ n. first_schedule n c.args.options.now.seed c.args.options.now.loss) counted in
     record {
       count = omega (arith, ap length same, kept, many);
       loss = c.in_ok-network.ensures.loss;
