@@ -29,7 +29,7 @@ powers_same k m limit e over =
 -- WHETHER A FRAME COMES AGAIN
 
 module _ (turn : ℕ) (f : FrameView) (s : ScheduleView) where
-  off : Bool → FrameView
+  abbrev off : Bool → FrameView
   off b = if b then record { from = f.from; to = f.to; turn = turn + suc (draw 4 (drawn s.draws)); part = f.part } else f
 
   pub asked_now : f.turn ≡ turn → asked turn f s ≡ drawn_again s
@@ -92,16 +92,16 @@ under_tail false x f rest h = h
 
 -- frames of later turns stay
 pub left_later : (turn : ℕ) (frames : List FrameView) (s : ScheduleView) (k : ℕ) (f : FrameView) → slice_get frames k ≡ Some f → turn < f.turn → IsUnder (those_left turn frames s) f
-left_later turn [] s k f at then = cc at
-left_later turn (g ∷ frames) s zero f at then =
+left_later turn [] s k f at later = cc at
+left_later turn (g ∷ frames) s zero f at later =
     let same : g ≡ f = same_Some g f at in
-    let stays : put_off turn g s ≡ f = off_not turn g s (λ now. omega (arith, now, subst (λ (y : FrameView). turn < y.turn) (sym same) then)) ∙ same in
-    let is : nat_lt turn f.turn ≡ true = grind (arith, nat_tests, then) in
+    let stays : put_off turn g s ≡ f = off_not turn g s (λ now. omega (arith, now, subst (λ (y : FrameView). turn < y.turn) (sym same) later)) ∙ same in
+    let is : nat_lt turn f.turn ≡ true = grind (arith, nat_tests, later) in
     under_head (nat_lt turn (put_off turn g s).turn) (put_off turn g s) f (those_left turn frames (asked turn g s)) (ap (λ (y : FrameView). nat_lt turn y.turn) stays ∙ is) stays
-left_later turn (g ∷ frames) s (suc k) f at then = under_tail (nat_lt turn (put_off turn g s).turn) (put_off turn g s) f (those_left turn frames (asked turn g s)) (left_later turn frames (asked turn g s) k f at then)
+left_later turn (g ∷ frames) s (suc k) f at later = under_tail (nat_lt turn (put_off turn g s).turn) (put_off turn g s) f (those_left turn frames (asked turn g s)) (left_later turn frames (asked turn g s) k f at later)
 
 pub left_under : (turn : ℕ) (frames : List FrameView) (s : ScheduleView) → All (λ (f : FrameView). turn < f.turn → IsUnder (those_left turn frames s) f) frames
-left_under turn frames s k d l then = left_later turn frames s k (get_or frames k d) (slice_get-get_or frames k d l) then
+left_under turn frames s k d l later = left_later turn frames s k (get_or frames k d) (slice_get-get_or frames k d l) later
 
 -- THE CODE'S FRAMES
 
@@ -143,8 +143,8 @@ again_some n k more comes same =
 pub some_again : (n k more : ℕ) (r : Option ℕ) → r ≡ (if nat_eq n 0 then Some k else None) → r ≡ Some more → (n ≡ 0) × (more ≡ k)
 some_again n k more r is at =
     elim (eqb_tells n 0) [
-      | inl yes ↦ (yes.1, same_Some more k (sym at ∙ is ∙ ap (λ b. if b then Some k else None) yes.0))
-      | inr no ↦ let never : Some more ≡ None = sym at ∙ is ∙ ap (λ b. if b then Some k else None) no.0 in cc never
+      | inl comes ↦ (comes.1, same_Some more k (sym at ∙ is ∙ ap (λ b. if b then Some k else None) comes.0))
+      | inr gone ↦ let never : Some more ≡ None = sym at ∙ is ∙ ap (λ b. if b then Some k else None) gone.0 in cc never
     ]
 
 pub none_again : (n k : ℕ) (r : Option ℕ) → r ≡ (if nat_eq n 0 then Some k else None) → r ≡ None → n ≡ 0 → ⊥

@@ -30,11 +30,11 @@ loop-i-preserved c =
     let rest = drop (i + 1) all in
     let next : i + 1 ≡ suc i = omega arith in
     let taken = ap (λ n. take n (map frame_of (set frames i new))) next ∙ taken_set frame_of frames i new within in
-    let then : frame_of new ∷ all_put_off turn rest (schedule_of c.delay.new.schedule) ≡ all_put_off turn (frame_of f ∷ rest) s = λ k. c.delay.ensures.frame k ∷ all_put_off turn rest (c.delay.ensures.schedule k) in
+    let first : frame_of new ∷ all_put_off turn rest (schedule_of c.delay.new.schedule) ≡ all_put_off turn (frame_of f ∷ rest) s = λ k. c.delay.ensures.frame k ∷ all_put_off turn rest (c.delay.ensures.schedule k) in
     record {
       off = ap (λ fs. fs ++ all_put_off turn rest (schedule_of c.delay.new.schedule)) taken
           ∙ append_assoc (take i (map frame_of frames)) (frame_of new ∷ []) (all_put_off turn rest (schedule_of c.delay.new.schedule))
-          ∙ ap (λ fs. take i (map frame_of frames) ++ fs) (then ∙ ap (λ fs. all_put_off turn fs s) (sym left))
+          ∙ ap (λ fs. take i (map frame_of frames) ++ fs) (first ∙ ap (λ fs. all_put_off turn fs s) (sym left))
           ∙ c.loop-i.invariant.off;
       parts = kept part_of frames i f new within (ap (λ bytes. shown (decoded bytes)) c.delay.ensures.bytes ∙ ap part_of c.index_mut.ensures.value) ∙ c.loop-i.invariant.parts;
       rest = λ q y less at. set_cases frames i q new y (λ z. slice_get c.args.network.now.frames.items q ≡ Some z) at (λ same. absurd (omega (arith, less, same))) (λ old other. c.loop-i.invariant.rest q y (omega (arith, less)) old);
