@@ -98,7 +98,7 @@ parts_say processes p v at to turn (part ∷ parts) h =
 
 list_says : (processes : List ProcessView) (size turn p : ℕ) (v : ProcessView) → slice_get processes p ≡ Some v → (list : List FrameView) → IsListOf size turn p v.node list → All (Says processes) list
 list_says processes size turn p v at list no_list = All-nil (Says processes)
-list_says processes size turn p v at list (a_list to parts within facts whole few) = parts_say processes p v at to turn (map look parts) (All-map (λ b. OnlyFactsOf b v.node.board) look parts facts)
+list_says processes size turn p v at list (a_list to parts within facts whole fit few) = parts_say processes p v at to turn (map look parts) (All-map (λ b. OnlyFactsOf b v.node.board) look parts facts)
 
 module _ (ops : List Operation) (script : Script) (ranks size : ℕ) (processes : List ProcessView) where
   -- a system in which these frames are under way

@@ -7,7 +7,7 @@ use Rattle.mpx_board.specs.declared.board.Board.{Board}
 use Rattle.mpx_board.specs.Boards.{IsBoardBelow, Look, join_all}
 use Rattle.mpx_board.specs.Looks.{look}
 use Rattle.mpx_delta.specs.Facts.{OnlyFactsOf}
-use Rattle.mpx_delta.specs.Pieces.{NoNeighboursFit}
+use Rattle.mpx_delta.specs.Pieces.{AllFit, NoNeighboursFit}
 use Rattle.mpx_node.specs.Deltas.{lacking_on}
 use Rattle.mpx_node.specs.Nodes.{NodeView}
 use Rattle.mpx_script.specs.ScriptView.{ScriptView}
@@ -87,11 +87,11 @@ abbrev pub one_a_turn : (from to turn : ℕ) → List Look → List FrameView
 one_a_turn from to turn [] = []
 one_a_turn from to turn (part ∷ parts) = record { from = from; to = to; turn = turn; part = part } ∷ one_a_turn from to (suc turn) parts
 
--- what a process makes in a turn: nothing, or the frames of a list, which say only what its board has, and together all that others may lack of it. No two
--- neighbours of them fit into one
+-- what a process makes in a turn: nothing, or the frames of a list, which say only what its board has, and together all that others may lack of it. Each has
+-- a mebibyte at most, and no two neighbours would fit into one
 pub data IsListOf (size turn p : ℕ) (node : NodeView) : List FrameView → Type 0 where
   no_list : IsListOf size turn p node []
-  a_list : (to : ℕ) (parts : List Board) → to < size → All (λ part. OnlyFactsOf (look part) node.board) parts → join_all (map look parts) ≡ lacking_on node → NoNeighboursFit 1048576 parts
+  a_list : (to : ℕ) (parts : List Board) → to < size → All (λ part. OnlyFactsOf (look part) node.board) parts → join_all (map look parts) ≡ lacking_on node → AllFit 1048576 parts → NoNeighboursFit 1048576 parts
       → IsListOf size turn p node (one_a_turn p to turn (map look parts))
 
 -- the frames of all these lists, one behind the other

@@ -21,7 +21,7 @@ returns-clause-list c =
     IfOk-weaker c.frames_with.result _ _
     (λ sent same size within.
     subst (IsListOf size c.args.turn v.rank.me v.node) (sym (same ∙ (λ i. one_a_turn (c.me.ensures i) c.args.to c.args.turn (parts i))))
-    (a_list c.args.to made.parts within made.facts made.join made.few))
+    (a_list c.args.to made.parts within made.facts made.join made.fit made.few))
     c.frames_with.ensures
 
 pub returns-clause-join : goal.returns-clause-join
