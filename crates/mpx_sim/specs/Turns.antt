@@ -109,15 +109,15 @@ abbrev pub drawn_for : List FrameView → ScheduleView → ScheduleView
 drawn_for [] s = s
 drawn_for (f ∷ made) s = drawn_for made (drawn_once s)
 
--- for a frame, where it has come in this turn, it is drawn whether it comes again
+-- the schedule once a frame was asked whether it comes again, which is drawn where it has come in this turn
 abbrev pub asked : (turn : ℕ) → FrameView → ScheduleView → ScheduleView
 asked turn f s = if nat_eq f.turn turn then drawn_again s else s
 
--- it does where the number below four is 0: by the next number, one to four turns later
+-- the frame then: where the number below four is 0, it comes again, by the next number one to four turns later
 abbrev pub put_off : (turn : ℕ) → FrameView → ScheduleView → FrameView
 put_off turn f s = if nat_eq f.turn turn && nat_eq (draw 4 s.draws) 0 then record { from = f.from; to = f.to; turn = turn + suc (draw 4 (drawn s.draws)); part = f.part } else f
 
--- so for each of these, one after the other
+-- the same of each of these frames, one after the other
 abbrev pub drawn_again_for : (turn : ℕ) → List FrameView → ScheduleView → ScheduleView
 drawn_again_for turn [] s = s
 drawn_again_for turn (f ∷ frames) s = drawn_again_for turn frames (asked turn f s)
@@ -126,7 +126,7 @@ abbrev pub all_put_off : (turn : ℕ) → List FrameView → ScheduleView → Li
 all_put_off turn [] s = []
 all_put_off turn (f ∷ frames) s = put_off turn f s ∷ all_put_off turn frames (asked turn f s)
 
--- those that come in later turns then
+-- those of them that come in later turns
 abbrev pub those_left : (turn : ℕ) → List FrameView → ScheduleView → List FrameView
 those_left turn frames s = filter (λ (f : FrameView). nat_lt turn f.turn) (all_put_off turn frames s)
 
