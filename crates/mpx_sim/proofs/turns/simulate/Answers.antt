@@ -1,5 +1,7 @@
-use Rattle.std.proofs.Common.{◌≡◌, ◌+◌, ◌≤◌, [], List, map, length, ap, sym, ◌∙◌, refl, inr, subst, arith}
+use Rattle.std.proofs.Common.{◌≡◌, ℕ, ◌+◌, ◌≤◌, [], List, map, length, ap, sym, ◌∙◌, refl, inr, subst, arith}
 use Rattle.std.proofs.lemmas.List.{length-map}
+use Rattle.mpx_num.specs.declared.own.Operation.{Operation}
+use Rattle.mpx_meaning.specs.Evaluation.{Script}
 use Rattle.mpx_sim.specs.declared.process.Process.{Process}
 use Rattle.mpx_sim.specs.Ends.{OneWaits, RestsBy}
 use Rattle.mpx_sim.specs.Shown.{frame_of, frames_of, moment_of, process_of, schedule_of}
@@ -7,11 +9,16 @@ use Rattle.mpx_sim.specs.SideBySide.{AreReady}
 use Rattle.mpx_system.specs.Systems.{start_system}
 use Rattle.mpx_sim.specs.Draws.{ScheduleView, first_schedule}
 use Rattle.mpx_sim.specs.Turns.{Alone, AreTurns, Coming, Moment}
-use Rattle.mpx_sim.specs.Running.{HaveCome, IsUnderWay}
+use Rattle.mpx_sim.specs.Running.{HaveCome, IsUnderWay, ProcessView}
 use Rattle.mpx_sim.proofs.Running.{run_framed, run_same}
 use Rattle.mpx_sim.proofs.Phases.{turns_more}
 use Rattle.mpx_sim.proofs.Sending.{written_back}
 use Rattle.mpx_sim.proofs.turns.simulate.Goals as goal
+
+-- the turn begins there too
+moved : (ops : List Operation) (script : Script) (ranks size : ℕ) (processes : List ProcessView) (begun there : Moment) → begun ≡ there → IsUnderWay ops script ranks size begun Alone processes begun.frames
+    → IsUnderWay ops script ranks size there Alone processes there.frames
+moved ops script ranks size processes begun there same run = subst (λ (m : Moment). IsUnderWay ops script ranks size m Alone processes m.frames) same run
 
 pub first-requires-clause-count : goal.first-requires-clause-count
 first-requires-clause-count g c κs within =
@@ -85,7 +92,7 @@ loop-number-preserved g c =
     let begun = moment_of before.0.system network in
     let here : before.0 ≡ begun = λ i. let m : Moment = record { system = before.0.system; frames = is.0 i; schedule = is.1 i } in m in
     let lent = c.deref_mut-in-loop-number.ensures in
-    let stands = subst (λ (m : Moment). IsUnderWay _ script.statements script.ranks size m Alone (map process_of c.loop-number.processes.items) m.frames) here before.2 in
+    let stands = moved _ script.statements script.ranks size (map process_of c.loop-number.processes.items) before.0 begun here before.2 in
     let alone = c.in_ok-over.ensures.run script.statements script.ranks size begun begun.frames (run_same _ script.statements script.ranks size begun Alone _ _ _ _ (ap (map process_of) (sym lent.value)) refl stands) in
     let same = written_back len c.loop-number.processes.items c.is_over.new.processes (c.is_over.auto.processes ∙ ap length lent.value) (sym (ap length lent.value) ∙ lent.len) in
     let lent-2 = c.deref_mut-in-loop-number-2.ensures in
