@@ -251,9 +251,16 @@ impl<'a, L: PortLock, R: Wait> Carrier for ThreadDesk<'a, L, R> {
         call: Ticket,
         _ops: &Ops,
     ) -> Result<Heard<Ticket, (Name, Birth)>, OutOfMemory> {
-        match self.tell(alloc, &call)? {
-            Some(Said { text, given }) => Ok(Heard::Told { text, given }),
-            None => Ok(Heard::NotYet(call)),
+        match self.tell(alloc, &call) {
+            Ok(Some(Said { text, given })) => {
+                drop(call);
+                Ok(Heard::Told { text, given })
+            }
+            Ok(None) => Ok(Heard::NotYet(call)),
+            Err(e) => {
+                drop(call);
+                Err(e)
+            }
         }
     }
 
