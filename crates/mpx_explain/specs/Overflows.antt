@@ -90,7 +90,7 @@ taken reduction ranks rank = ranks
 -- OVERFLOWS
 
 -- a rank's statement is the rank's own among those with these places, one of each rank, which post a sum or a product on `world`, as rank 0 has
--- it. What they give at an index, as far as the rank gets it, comes to a number that is past the type
+-- it. What they give at an index, as far as the rank gets it, comes to a number that is past the type, be it told or past 128 bits
 pub record IsPast (statements : List (List Statement)) (rank : ℕ) (places : List ℕ) (index statement : ℕ) (ty : Ty) (exact : Option ℤ) : Type 0 where
   pub own : slice_get places rank ≡ Some statement
   pub place : ℕ
@@ -103,7 +103,7 @@ pub record IsPast (statements : List (List Statement)) (rank : ℕ) (places : Li
   pub typed : ty ≡ draft.ty
   pub whole : ℤ
   pub comes : exact_from statements draft.op index 0 (neutral draft.op) (take (taken reduction (length places) rank) places) ≡ Some whole
-  pub told : (z : ℤ) → exact ≡ Some z → z ≡ whole
+  pub known : IsKnownAs exact whole
   pub past : IsOutOfRange ty whole
 
 abbrev pub IsOverflow : List (List Statement) → Overflow → Type 0
