@@ -14,7 +14,7 @@ ghost use Rattle.mpx_wire.specs.Reading.{front};
 
 use join_core::{Exact, OutOfMemory};
 use mpx_board::{Board, Parts};
-use mpx_decode::{read_parts, read_version, take_parts};
+use mpx_decode::{read_parts, read_version, take_apart, take_parts};
 use mpx_format::{Defect, Kept, ReadError, SHORT, Version, WireError, placed};
 use mpx_rope::{RopeRef, Source};
 use std::alloc::Global;
@@ -136,10 +136,51 @@ pub fn take_rope(
 {
     match rope.in_one_place() {
         Some(bytes) => take_from(rope.source(alloc), board, kept, bytes),
-        None => match rope.joined(alloc) {
-            Err(_) => Err(OutOfMemory),
-            Ok(bytes) => take_from(rope.source(alloc), board, kept, &bytes),
+        None => match take_where_it_lies(alloc, board, kept, rope) {
+            Ok(()) => Ok(()),
+            Err(_) => take_joined(alloc, board, kept, rope),
         },
+    }
+}
+
+// The same, read where its bytes lie. An `Err` says that memory is refused, or that a piece stands where it isn't read so.
+fn take_where_it_lies(
+    alloc: Global,
+    board: &mut Board,
+    kept: &mut Kept,
+    rope: &RopeRef<'_>,
+) -> Result<(), OutOfMemory>
+    requires kept { AreKept kept.old.of.items (parts_of board.old).1 }
+    requires spelled { (v : PartsView) × IsSpelled rope.now v }
+    ensures kept { AreKept kept.new.of.items (parts_of board.new).1 }
+    ensures ok { OnOk result ((v : PartsView) → IsSpelled rope.now v → look board.new ≡ join (look board.old) (look_of v)) }
+    ensures err { OnErr result ((v : PartsView) → IsSpelled rope.now v → IsBetween (look board.old) (look_of v) (look board.new)) }
+    ensures again { OnErr result ((v : PartsView) → IsSpelled rope.now v → join (look board.new) (look_of v) ≡ join (look board.old) (look_of v)) }
+{
+    let (near, mut beyond) = rope.apart(alloc);
+    let Ok((version, rest)) = read_front(near) else {
+        return Err(OutOfMemory);
+    };
+    let _after = take_apart(version, &mut beyond, board, kept, rest)?;
+    Ok(())
+}
+
+// The same, of a copy of all bytes in one place.
+fn take_joined(
+    alloc: Global,
+    board: &mut Board,
+    kept: &mut Kept,
+    rope: &RopeRef<'_>,
+) -> Result<(), OutOfMemory>
+    requires kept { AreKept kept.old.of.items (parts_of board.old).1 }
+    requires spelled { (v : PartsView) × IsSpelled rope.now v }
+    ensures kept { AreKept kept.new.of.items (parts_of board.new).1 }
+    ensures ok { OnOk result ((v : PartsView) → IsSpelled rope.now v → look board.new ≡ join (look board.old) (look_of v)) }
+    ensures err { OnErr result ((v : PartsView) → IsSpelled rope.now v → IsBetween (look board.old) (look_of v) (look board.new)) }
+{
+    match rope.joined(alloc) {
+        Err(_) => Err(OutOfMemory),
+        Ok(bytes) => take_from(rope.source(alloc), board, kept, &bytes),
     }
 }
 

@@ -1,9 +1,11 @@
+use Rattle.std.proofs.Common.{◌≡◌, ◌++◌, [], List, ℕ, IfOk, OnErr, ap, subst, sym, ◌∙◌}
+use Rattle.std.proofs.lemmas.List.{append-nil}
+use Rattle.mpx_board.specs.Looks.{parts_of}
+use Rattle.mpx_board.specs.Parts.{parts_between}
+use Rattle.mpx_board.specs.Tidy.{is_tidy}
 use Rattle.mpx_format.specs.Contexts.{parts}
-use Rattle.mpx_decode.proofs.Taken.{parts_tidy}
+use Rattle.mpx_decode.specs.Raising.{StandsTidy, StopsBetween}
 use Rattle.mpx_decode.proofs.taking.take_parts.Goals as goal
 
-pub from_tidy-requires : goal.from_tidy-requires
-from_tidy-requires c = parts_tidy c.take_both-taken.result (λ x. x.now) (parts c.args.version) c.args.bytes.now _ _ c.into_pair-first.ensures.tidy c.requires.spelled c.take_both-taken.ensures.ok c.take_both-taken.ensures.err
-
-pub take_both-taken-requires-clause-spelled : goal.take_both-taken-requires-clause-spelled
-take_both-taken-requires-clause-spelled c = (c.requires.spelled.0, c.requires.spelled.1)
+pub take_apart-requires-clause-spelled : goal.take_apart-requires-clause-spelled
+take_apart-requires-clause-spelled c = ?

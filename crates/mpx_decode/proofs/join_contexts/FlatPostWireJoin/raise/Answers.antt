@@ -1,3 +1,4 @@
+use Rattle.std.proofs.Common.{◌++◌}
 use Rattle.join_core.specs.laws.Between.{old_or_joined-laws}
 use Rattle.join_core.specs.Flat.{flat_joining}
 use Rattle.join_core.specs.laws.Flat.{flat_laws}
@@ -10,15 +11,15 @@ use Rattle.mpx_decode.proofs.Taken.{read_joined, read_stops, same_joined, stops_
 use Rattle.mpx_decode.proofs.join_contexts.FlatPostWireJoin.raise.Goals as goal
 
 pub returns-in-Some-clause-ok : goal.returns-in-Some-clause-ok
-returns-in-Some-clause-ok c = same_joined (posted c.args.version) c.args.bytes.now c.in-Some.rest.now (flat_view (λ p. p) c.args.self.now) c.in-Some.ensures (flat_laws given_equality)
+returns-in-Some-clause-ok c = same_joined (posted c.args.version) (c.args.bytes.now ++ c.args.beyond.now) (c.in-Some.rest.now ++ c.behind_told.new.beyond) (flat_view (λ p. p) c.args.self.now) c.in-Some.ensures.some (flat_laws given_equality)
 
 pub returns-in-Err-clause-err : goal.returns-in-Err-clause-err
 returns-in-Err-clause-err c =
-    stops_at_once (posted c.args.version) (old_or_joined (flat_joining same_given)) c.args.bytes.now (flat_view (λ p. p) c.args.self.now) (λ b. (old_or_joined-laws (flat_laws given_equality)).old (flat_view (λ p. p) c.args.self.now) b) c.requires
+    stops_at_once (posted c.args.version) (old_or_joined (flat_joining same_given)) (c.args.bytes.now ++ c.args.beyond.now) (flat_view (λ p. p) c.args.self.now) (λ b. (old_or_joined-laws (flat_laws given_equality)).old (flat_view (λ p. p) c.args.self.now) b) c.requires
 
 pub returns-in_err-join_in-in-Ok-clause-err : goal.returns-in_err-join_in-in-Ok-clause-err
 returns-in_err-join_in-in-Ok-clause-err c =
-    on_err c.from_residual.result (read_stops (posted c.args.version) c.args.bytes.now c.in-Ok.rest.now (flat_view (λ p. p) c.in-Ok.told) c.in-Ok.ensures c.in_err-join_in-in-Ok.ensures.err)
+    on_err c.from_residual.result (read_stops (posted c.args.version) (c.args.bytes.now ++ c.args.beyond.now) (c.in-Ok.rest.now ++ c.read_new.new.beyond) (flat_view (λ p. p) c.in-Ok.told) c.in-Ok.ensures.read c.in_err-join_in-in-Ok.ensures.err)
 
 pub returns-in_ok-join_in-in-Ok-clause-ok : goal.returns-in_ok-join_in-in-Ok-clause-ok
-returns-in_ok-join_in-in-Ok-clause-ok c = read_joined (posted c.args.version) c.args.bytes.now c.in-Ok.rest.now (flat_view (λ p. p) c.in-Ok.told) c.in-Ok.ensures c.in_ok-join_in-in-Ok.ensures.ok
+returns-in_ok-join_in-in-Ok-clause-ok c = read_joined (posted c.args.version) (c.args.bytes.now ++ c.args.beyond.now) (c.in-Ok.rest.now ++ c.read_new.new.beyond) (flat_view (λ p. p) c.in-Ok.told) c.in-Ok.ensures.read c.in_ok-join_in-in-Ok.ensures.ok
