@@ -7,6 +7,9 @@ use Rattle.join_core.specs.Max.{max_joining}
 use Rattle.join_core.specs.laws.Max.{max_laws}
 use Rattle.join_nest.proofs.Fronts.{on_err}
 use Rattle.mpx_format.specs.Fields.{process, some_calls}
+use Rattle.mpx_format.proofs.FieldLaws.{process_laws, some_calls_laws}
+use Rattle.mpx_format.proofs.FormatLaws.{both_laws}
+use Rattle.mpx_decode.proofs.NearBytes.{rows_on}
 use Rattle.mpx_decode.proofs.Fours.{number_of, rows_so_far}
 use Rattle.mpx_decode.proofs.RaisedRows.{SoFar, all_raised, none_yet, one_more, row_stands, stops_there}
 use Rattle.mpx_decode.proofs.join_numbers.raise_numbers.Goals as goal
@@ -17,10 +20,11 @@ loop-init c =
     let from_start : 0 + some.result.0 ≡ some.result.0 = omega arith in
     record {
       rising = some.ensures.rising;
-      so_far = subst (λ (n : ℕ). SoFar nat_cmp process some_calls number_of max_joining c.args.count n some.result.1.now (c.args.bytes.now ++ c.args.beyond.now) c.args.entries.now.items some.new.entries.items) from_start
+      so_far = subst (λ (n : ℕ). SoFar nat_cmp process some_calls number_of max_joining c.args.count n (some.result.1.now ++ c.args.beyond.now) (c.args.bytes.now ++ c.args.beyond.now) c.args.entries.now.items some.new.entries.items) from_start
           (rows_so_far nat_cmp_total nat_cmp-IsAntisymmetric process some_calls number_of c.args.count (c.args.bytes.now ++ c.args.beyond.now) c.args.entries.now.items
-          some.result.0 0 (c.args.bytes.now ++ c.args.beyond.now) some.result.1.now c.args.entries.now.items some.new.entries.items (omega (arith, some.ensures.few))
-          (none_yet nat_cmp_total nat_cmp-IsAntisymmetric process some_calls number_of c.args.count (c.args.bytes.now ++ c.args.beyond.now) c.args.entries.now.items) c.requires.spelled some.ensures.joined);
+          some.result.0 0 (c.args.bytes.now ++ c.args.beyond.now) (some.result.1.now ++ c.args.beyond.now) c.args.entries.now.items some.new.entries.items (omega (arith, some.ensures.few))
+          (none_yet nat_cmp_total nat_cmp-IsAntisymmetric process some_calls number_of c.args.count (c.args.bytes.now ++ c.args.beyond.now) c.args.entries.now.items) c.requires.spelled
+          (rows_on nat_cmp number_of (both_laws process_laws (λ a fits. some_calls_laws)) max_joining some.result.0 c.args.bytes.now some.result.1.now c.args.beyond.now c.args.entries.now.items some.new.entries.items (λ i. omega (arith, c.type_inv.bytes i)) some.ensures.joined));
     }
 
 pub raise_entry-requires-clause-spelled : goal.raise_entry-requires-clause-spelled
