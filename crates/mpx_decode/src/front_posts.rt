@@ -156,11 +156,7 @@ fn behind_list<'a>(list: &[u16], bytes: &'a [u8]) -> Option<&'a [u8]>
 }
 
 // The bytes behind these items.
-fn behind_items<'a>(
-    items: &Spelled,
-    beyond: &mut Beyond<'a>,
-    bytes: &'a [u8],
-) -> Option<&'a [u8]>
+fn behind_items<'a>(items: &Spelled, beyond: &mut Beyond<'a>, bytes: &'a [u8]) -> Option<&'a [u8]>
     ensures some { IfSome result (λ rest. (items_format items.now.ty).read (bytes.now ++ beyond.old) ≡ Ok (items.now.nums, rest.now ++ beyond.new)) }
     ensures none { IfNone result (beyond.new ≡ beyond.old) }
     ensures less { length beyond.new ≤ length beyond.old }
@@ -180,17 +176,17 @@ fn behind_items<'a>(
 }
 
 // The bytes behind these ones, where they stand at the front, or are shared items beyond it.
-fn behind_bytes<'a>(
-    front: &[u8],
-    beyond: &mut Beyond<'a>,
-    bytes: &'a [u8],
-) -> Option<&'a [u8]>
+fn behind_bytes<'a>(front: &[u8], beyond: &mut Beyond<'a>, bytes: &'a [u8]) -> Option<&'a [u8]>
     ensures some { IfSome result (λ rest. bytes.now ++ beyond.old ≡ front.now ++ (rest.now ++ beyond.new)) }
     ensures none { IfNone result (beyond.new ≡ beyond.old) }
     ensures less { length beyond.new ≤ length beyond.old }
 {
     if bytes.len() < front.len() {
-        return if bytes.is_empty() { behind_shared(front, beyond) } else { None };
+        return if bytes.is_empty() {
+            behind_shared(front, beyond)
+        } else {
+            None
+        };
     }
     let (there, rest) = bytes.split_at(front.len());
     if are_equal(front, there) {

@@ -48,11 +48,7 @@ fn read_numbers<'a>(
 
 // So many numbers of the type, where they are the shared items that stand first beyond.
 #[inline(never)]
-fn read_shared<'a>(
-    ty: Ty,
-    beyond: &mut Beyond<'a>,
-    count: usize,
-) -> Option<(Spelled, &'a [u8])>
+fn read_shared<'a>(ty: Ty, beyond: &mut Beyond<'a>, count: usize) -> Option<(Spelled, &'a [u8])>
     ensures read { IfSome result (λ x. many_read (λ before. integer ty) count [] beyond.old ≡ Ok (x.0.nums, x.1.now ++ beyond.new)) }
     ensures ty { IfSome result (λ x. x.0.ty ≡ ty) }
     ensures len { IfSome result (λ x. length x.0.nums ≡ count) }

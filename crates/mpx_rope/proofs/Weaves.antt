@@ -187,7 +187,7 @@ first_place from own s (x ∷ ss) some is p =
     omega (arith, same, front_within from own x ss p)
 
 module _ (end n : ℕ) (own : List ℕ) (ss : List (ℕ × List ℕ)) (inside : (length own ≤ end) × ArePlaced (end - length own) end ss) (is : n ≡ near_len (end - length own) own ss) where
-  from : ℕ
+  abbrev from : ℕ
   from = end - length own
 
   placed : ArePlaced from (from + length own) ss
@@ -202,7 +202,8 @@ module _ (end n : ℕ) (own : List ℕ) (ss : List (ℕ × List ℕ)) (inside : 
   pub beyond_placed : (length (drop n own) ≤ end) × ArePlaced (end - length (drop n own)) end ss
   beyond_placed =
       let there : ArePlaced (from + n) (from + length own) ss = subst (λ k. ArePlaced (from + k) (from + length own) ss) (sym is) (near_placed from own ss placed) in
-      (omega (arith, length-drop n own, inside.0), subst (λ (x : ℕ × ℕ). ArePlaced x.0 x.1 ss) (λ i. (sym moved i, (omega (arith, inside.0) : from + length own ≡ end) i)) there)
+      let whole : from + length own ≡ end = omega (arith, inside.0) in
+      (omega (arith, length-drop n own, inside.0), subst (λ (x : ℕ × ℕ). ArePlaced x.0 x.1 ss) (λ i. (sym moved i, whole i)) there)
 
   pub beyond_woven : woven from own ss ≡ take n own ++ woven (end - length (drop n own)) (drop n own) ss
   beyond_woven =

@@ -118,8 +118,8 @@ pub fn take_spelled(alloc: Global, board: &mut Board, bytes: &[u8]) -> Result<()
     take_from(Source::of(alloc), board, &mut Kept::new(alloc), bytes)
 }
 
-/// The same of a frame whose items may be shared: what it joins to the board shares them, and copies none. Where pieces are shared, it
-/// joins all bytes in one place first, to read them. What is kept of acknowledgements as they are spelled is passed over where its bytes
+/// The same of a frame whose items may be shared: what it joins to the board shares them, and copies none. Where pieces are shared, its
+/// bytes are read where they lie; only where a field isn't found whole there are all copied into one place. What is kept of acknowledgements as they are spelled is passed over where its bytes
 /// stand, and stays right.
 pub fn take_rope(
     alloc: Global,

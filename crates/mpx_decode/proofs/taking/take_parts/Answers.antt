@@ -17,9 +17,9 @@ take_apart-requires-clause-spelled c =
 pub returns-clause-ok : goal.returns-clause-ok
 returns-clause-ok c =
     if_ok c.take_apart.result _ _ (λ x g. record {
-        value = g.value;
-        read = read_near (parts c.args.version) c.args.bytes.now c.nothing.result c.nothing.ensures c.take_apart.new.beyond c.take_apart.ensures.less g.value x.now g.read;
-        joined = g.joined;
+      value = g.value;
+      read = read_near (parts c.args.version) c.args.bytes.now c.nothing.result c.nothing.ensures c.take_apart.new.beyond c.take_apart.ensures.less g.value x.now g.read;
+      joined = g.joined;
     }) c.take_apart.ensures.ok
 
 pub returns-clause-err : goal.returns-clause-err
