@@ -30,7 +30,7 @@ use mpx_board::{Acks, VersionVector};
 use mpx_format::{ReadError, Version};
 use mpx_group::Proc;
 use mpx_name::{Name, Step};
-use mpx_rope::Beyond;
+use mpx_rope::{Beyond, Source};
 use std::mem;
 
 impl FrontKey for Proc {
@@ -186,7 +186,7 @@ impl WireJoin for Max {
         beyond: &mut Beyond<'a>,
         bytes: &'a [u8],
     ) -> Result<(Max, &'a [u8]), ReadError> {
-        <Max as WireValue>::read(version, beyond.source(), bytes)
+        <Max as WireValue>::read(version, Source::of(beyond.alloc()), bytes)
     }
 
     fn raise<'a>(
@@ -227,7 +227,7 @@ impl WireJoin for VersionVector {
         beyond: &mut Beyond<'a>,
         bytes: &'a [u8],
     ) -> Result<(VersionVector, &'a [u8]), ReadError> {
-        <VersionVector as WireValue>::read(version, beyond.source(), bytes)
+        <VersionVector as WireValue>::read(version, Source::of(beyond.alloc()), bytes)
     }
 
     fn raise<'a>(
@@ -268,7 +268,7 @@ impl WireJoin for Acks {
         beyond: &mut Beyond<'a>,
         bytes: &'a [u8],
     ) -> Result<(Acks, &'a [u8]), ReadError> {
-        <Acks as WireValue>::read(version, beyond.source(), bytes)
+        <Acks as WireValue>::read(version, Source::of(beyond.alloc()), bytes)
     }
 
     fn raise<'a>(

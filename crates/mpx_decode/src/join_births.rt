@@ -16,7 +16,7 @@ use join_core::{Flat, Join, OutOfMemory};
 use mpx_birth::Birth;
 use mpx_format::{ReadError, Version};
 use mpx_group::Proc;
-use mpx_rope::Beyond;
+use mpx_rope::{Beyond, Source};
 
 // What is told of the birth.
 pub fn raise_birth<'a>(
@@ -33,7 +33,7 @@ pub fn raise_birth<'a>(
     if let Some(rest) = behind_told(birth, bytes) {
         return Ok(rest);
     }
-    let read: Result<(Flat<Birth>, &[u8]), ReadError> = read_told(version, beyond.source(), bytes);
+    let read: Result<(Flat<Birth>, &[u8]), ReadError> = read_told(version, Source::of(beyond.alloc()), bytes);
     match read {
         Err(_) => Err(OutOfMemory),
         Ok((told, rest)) => {

@@ -16,7 +16,7 @@ use join_core::{Join, Max, OutOfMemory};
 use join_nest::Keyed;
 use mpx_format::Version;
 use mpx_group::Proc;
-use mpx_rope::Beyond;
+use mpx_rope::{Beyond, Source};
 use std::mem;
 
 // Where at least so many are new, they are read as a list, to which the taker's are joined: each that is put in moves all behind it.
@@ -70,7 +70,7 @@ fn merge_numbers<'a>(
     ensures rising { IsTrue (is_sorted nat_cmp entries.new.items) }
     ensures less { length beyond.new ≤ length beyond.old }
 {
-    let Ok((read, rest)) = read_rows(version, beyond.source(), count, bytes) else {
+    let Ok((read, rest)) = read_rows(version, Source::of(beyond.alloc()), count, bytes) else {
         return Err(OutOfMemory);
     };
     let held = Keyed::from_rising(mem::replace(entries, Vec::new(beyond.alloc())));

@@ -86,7 +86,7 @@ returns-in_err-items-clause-read c =
     let ty = rw c.fields-fields.ensures at c.in_ok-ty.ensures.read in
     let scounts = rw (c.is_had-sent.ensures, c.fields-fields.ensures) at c.in_ok-scounts.ensures.read in
     let rcounts = rw (c.is_had-got.ensures, c.fields-fields.ensures) at c.in_ok-rcounts.ensures.read in
-    rw (p.1, p.2) (λ none. fails_all (post c.args.version) c.args.bytes.now c.args.beyond.now none e (rw (c.in_ok-kind.ensures, c.in_ok-mode.ensures.read, root, op, ty, scounts, rcounts) (fails_on e _ _ (fails_on e _ _ (fails_on e _ _ (fails_on e _ _ (fails_on e _ _ (fails_on e _ _ (fails_on e _ _ (fails_on e _ _ (fails_on e _ _ (fails_near (items_for c.in_ok-ty.ty) c.in_ok-rcounts.b7.now c.args.beyond.now none e (c.in_err-items.ensures.read none))))))))))))))
+    rw (p.1, p.2) (λ none. fails_all (post c.args.version) c.args.bytes.now c.args.beyond.now none e (rw (c.in_ok-kind.ensures, c.in_ok-mode.ensures.read, root, op, ty, scounts, rcounts) (fails_on e _ _ (fails_on e _ _ (fails_on e _ _ (fails_on e _ _ (fails_on e _ _ (fails_on e _ _ (fails_on e _ _ (fails_on e _ _ (fails_on e _ _ (fails_near (items_for c.in_ok-ty.ty) c.in_ok-rcounts.b7.now c.args.beyond.now none e (c.in_err-items.ensures.read none)))))))))))))
 
 pub returns-in_err-making-clause-read : goal.returns-in_err-making-clause-read
 unfolding post
@@ -153,14 +153,12 @@ returns-clause-read c =
     let h5 = left_bytes l5 b4 b5 c.in_ok-ty.ty h4 ty in
     let h6 = left_bytes l6 b5 b6 c.in_ok-scounts.scounts h5 scounts in
     let h8 = λ i. omega (arith, c.type_inv.b8 i) in
-    rw (read_on l1 bytes b1 k h0 c.in_ok-kind.ensures more,
-        read_on l2 b1 b2 c.in_ok-mode.mode h1 c.in_ok-mode.ensures.read more,
-        read_on l3 b2 b3 c.in_ok-root.root h2 root more,
-        read_on l4 b3 b4 c.in_ok-op.op h3 op more,
-        read_on l5 b4 b5 c.in_ok-ty.ty h4 ty more,
-        read_on l6 b5 b6 c.in_ok-scounts.scounts h5 scounts more,
-        read_on l7 b6 b7 c.in_ok-rcounts.rcounts h6 rcounts more,
-        c.in_ok-items.ensures.read,
-        read_on (making_for_laws (fields_of k).makes) c.in_ok-items.b8.now c.in_ok-making.rest.now c.in_ok-making.making h8 making c.read_items_for.new.beyond,
-        c.new-post.ensures)
-    (post_whole k c.in_ok-mode.mode c.in_ok-root.root c.in_ok-op.op c.in_ok-ty.ty c.in_ok-scounts.scounts c.in_ok-rcounts.rcounts c.in_ok-items.items c.in_ok-making.making (c.in_ok-making.rest.now ++ c.read_items_for.new.beyond) c.in_ok-items.ensures.ty)
+    let kind_on = read_on l1 bytes b1 k h0 c.in_ok-kind.ensures more in
+    let mode_on = read_on l2 b1 b2 c.in_ok-mode.mode h1 c.in_ok-mode.ensures.read more in
+    let root_on = read_on l3 b2 b3 c.in_ok-root.root h2 root more in
+    let op_on = read_on l4 b3 b4 c.in_ok-op.op h3 op more in
+    let ty_on = read_on l5 b4 b5 c.in_ok-ty.ty h4 ty more in
+    let scounts_on = read_on l6 b5 b6 c.in_ok-scounts.scounts h5 scounts more in
+    let rcounts_on = read_on l7 b6 b7 c.in_ok-rcounts.rcounts h6 rcounts more in
+    let making_on = read_on (making_for_laws (fields_of k).makes) c.in_ok-items.b8.now c.in_ok-making.rest.now c.in_ok-making.making h8 making c.read_items_for.new.beyond in
+    rw (kind_on, mode_on, root_on, op_on, ty_on, scounts_on, rcounts_on, c.in_ok-items.ensures.read, making_on, c.new-post.ensures) (post_whole k c.in_ok-mode.mode c.in_ok-root.root c.in_ok-op.op c.in_ok-ty.ty c.in_ok-scounts.scounts c.in_ok-rcounts.rcounts c.in_ok-items.items c.in_ok-making.making (c.in_ok-making.rest.now ++ c.read_items_for.new.beyond) c.in_ok-items.ensures.ty)
