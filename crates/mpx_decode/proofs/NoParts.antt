@@ -68,7 +68,7 @@ module _ {K V : Type 0} {R : K → K → Ordering} (o : IsTotalOrder R) (exact :
 entries_none : {K V : Type 0} (R : K → K → Ordering) → entries (empty {X = V} {R = R}) ≡ []
 entries_none R = nil_from_length _ (sym (len-entries (empty {R = R})) ∙ len-empty R _)
 
-map_none : {K V : Type 0} (R : K → K → Ordering) → from_sorted {X = V} {R = R} [] ≡ empty
+pub map_none : {K V : Type 0} (R : K → K → Ordering) → from_sorted {X = V} {R = R} [] ≡ empty
 map_none R = same_entries_map _ _ (entries-from_sorted R [] tt ∙ sym (entries_none R))
 
 pub three_zeros : (version : Version) → (parts version).spelling no_parts ≡ 0 ∷ 0 ∷ 0 ∷ []

@@ -33,7 +33,11 @@ pub fn raise_birth<'a>(
     if let Some(rest) = behind_told(birth, bytes) {
         return Ok(rest);
     }
-    let read: Result<(Flat<Birth>, &[u8]), ReadError> = read_told(version, Source::of(beyond.alloc()), bytes);
+    let read: Result<(Flat<Birth>, &[u8]), ReadError> = read_told(
+        version,
+        Source::of(beyond.alloc()),
+        bytes,
+    );
     match read {
         Err(_) => Err(OutOfMemory),
         Ok((told, rest)) => {

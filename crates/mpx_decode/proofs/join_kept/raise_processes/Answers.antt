@@ -1,4 +1,4 @@
-use Rattle.std.proofs.Common.{◌++◌}
+use Rattle.std.proofs.Common.{◌++◌, arith}
 use Rattle.std.specs.Cmp.{nat_cmp_total}
 use Rattle.std.specs.FinMap.{nat_cmp-IsAntisymmetric}
 use Rattle.join_nest.proofs.Fronts.{on_err}
@@ -13,6 +13,7 @@ loop-init c = record {
   rising = c.requires.rising;
   so_far = none_yet nat_cmp_total nat_cmp-IsAntisymmetric process acks view_of_acks c.args.count (c.args.bytes.now ++ c.args.beyond.now) c.args.entries.now.items;
   kept = c.requires.kept;
+  less = omega arith;
 }
 
 pub raise_process-requires-clause-spelled : goal.raise_process-requires-clause-spelled
@@ -30,6 +31,7 @@ loop-preserved c = record {
   so_far = one_more nat_cmp_total nat_cmp-IsAntisymmetric process acks view_of_acks c.args.count (c.args.bytes.now ++ c.args.beyond.now) c.args.entries.now.items
       c.loop.counter (c.loop.rest.now ++ c.loop.beyond) (c.in_ok-after.left.now ++ c.raise_process.new.beyond) c.loop.entries.items c.raise_process.new.entries.items c.loop-test.true c.loop.invariant.so_far c.requires.spelled c.in_ok-after.ensures.ok;
   kept = c.raise_process.ensures.kept;
+  less = omega (arith, c.loop.invariant.less, c.raise_process.ensures.less);
 }
 
 pub returns-clause-ok : goal.returns-clause-ok

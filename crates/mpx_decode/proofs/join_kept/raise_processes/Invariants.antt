@@ -1,4 +1,4 @@
-use Rattle.std.proofs.Common.{IsTrue, ◌++◌}
+use Rattle.std.proofs.Common.{IsTrue, ◌++◌, ◌≤◌, length}
 use Rattle.std.specs.Ordering.{nat_cmp}
 use Rattle.std.specs.FinMap.{is_sorted}
 use Rattle.join_nest.specs.Seen.{keyed_view}
@@ -14,4 +14,5 @@ invariant-loop l = record {
   rising : IsTrue (is_sorted nat_cmp l.entries.items);
   so_far : SoFar nat_cmp process acks view_of_acks acks_joining l.count l.counter (l.rest ++ l.beyond) (l.bytes ++ l.fn.beyond) l.fn.entries.items l.entries.items;
   kept : AreKept l.kept.of.items (keyed_view nat_cmp view_of_acks l.entries.items);
+  less : length l.beyond ≤ length l.fn.beyond;
 }

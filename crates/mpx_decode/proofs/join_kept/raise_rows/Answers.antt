@@ -27,6 +27,7 @@ loop-done-preserved c =
       so_far = rows_so_far name_total name_exact name numbers view_of_numbers c.args.count (c.args.bytes.now ++ c.args.beyond.now) c.args.entries.now.items c.in_ok-some.some
           c.loop-done.done (c.loop-done.rest.now ++ c.loop-done.beyond) (c.in_ok-some.after.now ++ c.raise_some.new.beyond) c.loop-done.entries.items c.raise_some.new.entries.items le c.loop-done.invariant.so_far c.requires.spelled c.in_ok-some.ensures.ok;
       kept = c.raise_some.ensures.kept;
+      less = omega (arith, c.loop-done.invariant.less, c.raise_some.ensures.less);
     }
 
 pub returns-clause-ok : goal.returns-clause-ok

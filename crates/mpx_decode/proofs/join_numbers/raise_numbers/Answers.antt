@@ -25,6 +25,7 @@ loop-init c =
           some.result.0 0 (c.args.bytes.now ++ c.args.beyond.now) (some.result.1.now ++ c.args.beyond.now) c.args.entries.now.items some.new.entries.items (omega (arith, some.ensures.few))
           (none_yet nat_cmp_total nat_cmp-IsAntisymmetric process some_calls number_of c.args.count (c.args.bytes.now ++ c.args.beyond.now) c.args.entries.now.items) c.requires.spelled
           (rows_on nat_cmp number_of (both_laws process_laws (λ a fits. some_calls_laws)) max_joining some.result.0 c.args.bytes.now some.result.1.now c.args.beyond.now c.args.entries.now.items some.new.entries.items (λ i. omega (arith, c.type_inv.bytes i)) some.ensures.joined));
+      less = omega arith;
     }
 
 pub raise_entry-requires-clause-spelled : goal.raise_entry-requires-clause-spelled
@@ -41,6 +42,7 @@ loop-preserved c = record {
   rising = c.raise_entry.ensures.rising;
   so_far = one_more nat_cmp_total nat_cmp-IsAntisymmetric process some_calls number_of c.args.count (c.args.bytes.now ++ c.args.beyond.now) c.args.entries.now.items
       c.loop.counter (c.loop.rest.now ++ c.loop.beyond) (c.in_ok-after.left.now ++ c.raise_entry.new.beyond) c.loop.entries.items c.raise_entry.new.entries.items c.loop-test.true c.loop.invariant.so_far c.requires.spelled c.in_ok-after.ensures.ok;
+  less = omega (arith, c.loop.invariant.less, c.raise_entry.ensures.less);
 }
 
 pub returns-clause-ok : goal.returns-clause-ok
