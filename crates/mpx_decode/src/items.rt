@@ -1,5 +1,6 @@
 //! Reading items, which stand near, or are shared where they lie beyond.
 ghost use Rattle.std.specs.Prelude.{◌≡◌, ◌*◌, ◌/◌, ◌++◌, ◌≤◌, [], IfOk, IfSome, Ok, length};
+ghost use Rattle.mpx_num.specs.ItemList.{AreItems};
 ghost use Rattle.mpx_num.specs.Types.{item_len};
 ghost use Rattle.std.specs.Bool.{OnTrue};
 ghost use Rattle.mpx_format.specs.Format.{Gives, many_read};
@@ -75,6 +76,7 @@ fn read_shared<'a>(ty: Ty, beyond: &mut Beyond<'a>, count: usize) -> Option<(Spe
 fn are_so_many(items: &Spelled, ty: Ty, count: usize) -> bool
     ensures ty { OnTrue result (items.now.ty ≡ ty) }
     ensures count { OnTrue result (length items.now.nums ≡ count) }
+    ensures items { AreItems items.now.ty items.now.nums }
 {
     // so that their number is known to be small
     let bytes = items.bytes();

@@ -1,7 +1,9 @@
-use Rattle.std.proofs.Common.{◌≡◌, ◌*◌, ◌++◌, ◌∙◌, [], length, sym, ap, rules, Ok, append_assoc}
+use Rattle.std.proofs.Common.{◌≡◌, ◌*◌, ◌++◌, ◌∙◌, [], length, sym, ap, rules, Ok, append_assoc, Err, subst}
+use Rattle.std.proofs.lemmas.List.{append-nil}
 use Rattle.std.specs.List.{flat_map}
 use Rattle.mpx_num.specs.ItemList.{AreItems}
 use Rattle.mpx_num.specs.Spelling.{bytes_of, number_len}
+use Rattle.mpx_format.specs.declared.defects.Defect.TheVariants.{ShortFrame}
 use Rattle.mpx_format.specs.Format.{many_read}
 use Rattle.mpx_format.specs.Posts.{integer}
 use Rattle.mpx_num.proofs.Spellings.{length-spelled}
@@ -10,8 +12,9 @@ use Rattle.mpx_decode.proofs.Integers.{as_many, too_short, whole_bytes}
 use Rattle.mpx_decode.proofs.items.read_numbers.Goals as goal
 
 pub returns-then-bytes-len-clause-read : goal.returns-then-bytes-len-clause-read
-returns-then-bytes-len-clause-read c =
-    too_short c.args.ty c.args.count [] c.args.bytes.now (rw (← c.number_len.ensures.value) c.if-bytes-len.true)
+returns-then-bytes-len-clause-read c = λ none.
+    let all = ap (λ l. c.args.bytes.now ++ l) none ∙ append-nil c.args.bytes.now in
+    subst (λ b. many_read (λ before. integer c.args.ty) c.args.count [] b ≡ Err ShortFrame) (sym all) (too_short c.args.ty c.args.count [] c.args.bytes.now (rw (← c.number_len.ensures.value) c.if-bytes-len.true))
 
 pub items-requires : goal.items-requires
 items-requires c =

@@ -50,11 +50,14 @@ returns-in-Err-clause-some c = fails_not name_count c.args.bytes.now c.in-Err.fi
 -- no context is told
 pub returns-then-count-eq0-clause-ok : goal.returns-then-count-eq0-clause-ok
 returns-then-count-eq0-clause-ok c =
+    let more = c.args.beyond.now in
+    let count = read_on name_count_laws c.args.bytes.now c.in-Ok.rest.now c.in-Ok.count (λ i. omega (arith, c.type_inv.bytes i)) c.in-Ok.ensures.gives more in
     let asks = keyed_asked name_cmp name_count name (lifted c.args.version) says_something in
     let any = keyed name_cmp name_count name (lifted c.args.version) always in
-    let rows_there = rows_stand name_cmp name_count name (lifted c.args.version) (c.args.bytes.now ++ c.args.beyond.now) c.in-Ok.count (c.in-Ok.rest.now ++ c.args.beyond.now) (read_on name_count_laws c.args.bytes.now c.in-Ok.rest.now c.in-Ok.count (λ i. omega (arith, c.type_inv.bytes i)) c.in-Ok.ensures.gives c.args.beyond.now) (stands_asked (contexts c.args.version) any asks (c.args.bytes.now ++ c.args.beyond.now) c.requires) in
-    joins_asked (contexts c.args.version) any asks (c.args.bytes.now ++ c.args.beyond.now) c.requires (Ok c.in-Ok.rest) (λ x. x.now ++ c.args.beyond.now) _ _ (keyed_joining lifted_joining)
-    (map_raised name_cmp name_count name (lifted c.args.version) (c.args.bytes.now ++ c.args.beyond.now) c.in-Ok.count (c.in-Ok.rest.now ++ c.args.beyond.now) (read_on name_count_laws c.args.bytes.now c.in-Ok.rest.now c.in-Ok.count (λ i. omega (arith, c.type_inv.bytes i)) c.in-Ok.ensures.gives c.args.beyond.now) (Ok c.in-Ok.rest) (λ x. x.now ++ c.args.beyond.now) _ _ _ _ refl refl lifted_joining (no_rows name_total name_exact name (lifted c.args.version) lifted_joining c.in-Ok.count (c.in-Ok.rest.now ++ c.args.beyond.now) (view_of_entries c.args.contexts.now) c.if-count-eq0.true))
+    let old = view_of_entries c.args.contexts.now in
+    joins_asked (contexts c.args.version) any asks (c.args.bytes.now ++ more) c.requires (Ok c.in-Ok.rest) (λ x. x.now ++ more) old old (keyed_joining lifted_joining)
+    (map_raised name_cmp name_count name (lifted c.args.version) (c.args.bytes.now ++ more) c.in-Ok.count (c.in-Ok.rest.now ++ more) count (Ok c.in-Ok.rest) (λ x. x.now ++ more) old old old old refl refl lifted_joining
+    (no_rows name_total name_exact name (lifted c.args.version) lifted_joining c.in-Ok.count (c.in-Ok.rest.now ++ more) old c.if-count-eq0.true))
 
 pub returns-then-count-eq0-clause-none : goal.returns-then-count-eq0-clause-none
 returns-then-count-eq0-clause-none c = λ left is. (count_is name_count c.args.bytes.now c.in-Ok.count c.in-Ok.rest.now c.in-Ok.ensures.gives 0 left is).1

@@ -2,6 +2,7 @@ use Rattle.std.proofs.Common.{◌++◌, arith}
 use Rattle.std.specs.Int.{w32}
 use Rattle.join_nest.specs.Between.{trunc_between}
 use Rattle.join_nest.specs.laws.Between.{trunc_between_laws}
+use Rattle.mpx_num.proofs.Spellings.{IsBytes}
 use Rattle.mpx_board.specs.Parts.{call_between, call_between_laws, call_laws}
 use Rattle.mpx_board.specs.Views.{view_of_calls}
 use Rattle.mpx_format.specs.Contexts.{held}
@@ -24,7 +25,7 @@ returns-in-Err-read_u32-clause-err c =
 pub raise_calls-requires : goal.raise_calls-requires
 raise_calls-requires c =
     let laws = number_laws w32 wide32 in
-    let are = λ i. omega (arith, c.type_inv.bytes i) in
+    let are : IsBytes c.args.bytes.now = λ i. omega (arith, c.type_inv.bytes i) in
     let first = read_on laws c.args.bytes.now c.in-Ok.rest.now c.in-Ok.dropped are c.in-Ok.ensures.gives in
     let left = left_bytes laws c.args.bytes.now c.in-Ok.rest.now c.in-Ok.dropped are c.in-Ok.ensures.gives in
     let second = read_on laws c.in-Ok.rest.now c.in-Ok-read_u32.rest.now c.in-Ok-read_u32.count left c.in-Ok-read_u32.ensures.gives in
@@ -34,7 +35,7 @@ raise_calls-requires c =
 pub returns-clause-ok : goal.returns-clause-ok
 returns-clause-ok c =
     let laws = number_laws w32 wide32 in
-    let are = λ i. omega (arith, c.type_inv.bytes i) in
+    let are : IsBytes c.args.bytes.now = λ i. omega (arith, c.type_inv.bytes i) in
     let first = read_on laws c.args.bytes.now c.in-Ok.rest.now c.in-Ok.dropped are c.in-Ok.ensures.gives in
     let left = left_bytes laws c.args.bytes.now c.in-Ok.rest.now c.in-Ok.dropped are c.in-Ok.ensures.gives in
     let second = read_on laws c.in-Ok.rest.now c.in-Ok-read_u32.rest.now c.in-Ok-read_u32.count left c.in-Ok-read_u32.ensures.gives in
@@ -45,7 +46,7 @@ returns-clause-ok c =
 pub returns-clause-err : goal.returns-clause-err
 returns-clause-err c =
     let laws = number_laws w32 wide32 in
-    let are = λ i. omega (arith, c.type_inv.bytes i) in
+    let are : IsBytes c.args.bytes.now = λ i. omega (arith, c.type_inv.bytes i) in
     let first = read_on laws c.args.bytes.now c.in-Ok.rest.now c.in-Ok.dropped are c.in-Ok.ensures.gives in
     let left = left_bytes laws c.args.bytes.now c.in-Ok.rest.now c.in-Ok.dropped are c.in-Ok.ensures.gives in
     let second = read_on laws c.in-Ok.rest.now c.in-Ok-read_u32.rest.now c.in-Ok-read_u32.count left c.in-Ok-read_u32.ensures.gives in

@@ -2,6 +2,7 @@ use Rattle.std.proofs.Common.{◌++◌, ap, ◌∙◌, arith}
 use Rattle.std.proofs.lemmas.Result.{err_from_is_err_and}
 use Rattle.mpx_kind.specs.Kinds.{fields_of, is_had}
 use Rattle.mpx_kind.specs.declared.kinds.Fields.{Fields}
+use Rattle.mpx_num.proofs.Spellings.{IsBytes}
 use Rattle.mpx_format.specs.Posts.{items_for, nums_of, post}
 use Rattle.mpx_format.proofs.CodeLaws.{kind_laws, mode_laws, operation_laws, when_laws}
 use Rattle.mpx_format.proofs.FieldLaws.{process_laws}
@@ -98,9 +99,8 @@ returns-in_err-making-clause-read c =
     let ty = rw c.fields-fields.ensures at c.in_ok-ty.ensures.read in
     let scounts = rw (c.is_had-sent.ensures, c.fields-fields.ensures) at c.in_ok-scounts.ensures.read in
     let rcounts = rw (c.is_had-got.ensures, c.fields-fields.ensures) at c.in_ok-rcounts.ensures.read in
-    let items = λ none. read_near (items_for c.in_ok-ty.ty) c.in_ok-rcounts.b7.now c.args.beyond.now none c.read_items_for.new.beyond c.read_items_for.ensures.less (nums_of c.in_ok-items.items) c.in_ok-items.b8.now c.in_ok-items.ensures.read in
     let h = rw c.fields-fields.ensures at c.in_err-making.ensures.read in
-    rw (p.1, p.2) (λ none. fails_all (post c.args.version) c.args.bytes.now c.args.beyond.now none e (rw (c.in_ok-kind.ensures, c.in_ok-mode.ensures.read, root, op, ty, scounts, rcounts, items none) (fails_on e _ _ (fails_on e _ _ (fails_on e _ _ (fails_on e _ _ (fails_on e _ _ (fails_on e _ _ (fails_on e _ _ (fails_on e _ _ (fails_on e _ _ h)))))))))))
+    rw (p.1, p.2) (λ none. fails_all (post c.args.version) c.args.bytes.now c.args.beyond.now none e (rw (c.in_ok-kind.ensures, c.in_ok-mode.ensures.read, root, op, ty, scounts, rcounts, read_near (items_for c.in_ok-ty.ty) c.in_ok-rcounts.b7.now c.args.beyond.now none c.read_items_for.new.beyond c.read_items_for.ensures.less (nums_of c.in_ok-items.items) c.in_ok-items.b8.now c.in_ok-items.ensures.read) (fails_on e _ _ (fails_on e _ _ (fails_on e _ _ (fails_on e _ _ (fails_on e _ _ (fails_on e _ _ (fails_on e _ _ (fails_on e _ _ (fails_on e _ _ h)))))))))))
 
 pub new-post-requires : goal.new-post-requires
 new-post-requires c =
@@ -132,7 +132,7 @@ returns-clause-read c =
     let b5 = c.in_ok-ty.b5.now in
     let b6 = c.in_ok-scounts.b6.now in
     let b7 = c.in_ok-rcounts.b7.now in
-    let h0 = λ i. omega (arith, c.type_inv.bytes i) in
+    let h0 : IsBytes bytes = λ i. omega (arith, c.type_inv.bytes i) in
     let root = rw c.fields-fields.ensures at c.in_ok-root.ensures.read in
     let op = rw c.fields-fields.ensures at c.in_ok-op.ensures.read in
     let ty = rw c.fields-fields.ensures at c.in_ok-ty.ensures.read in
@@ -152,7 +152,7 @@ returns-clause-read c =
     let h4 = left_bytes l4 b3 b4 c.in_ok-op.op h3 op in
     let h5 = left_bytes l5 b4 b5 c.in_ok-ty.ty h4 ty in
     let h6 = left_bytes l6 b5 b6 c.in_ok-scounts.scounts h5 scounts in
-    let h8 = λ i. omega (arith, c.type_inv.b8 i) in
+    let h8 : IsBytes c.in_ok-items.b8.now = λ i. omega (arith, c.type_inv.b8 i) in
     let kind_on = read_on l1 bytes b1 k h0 c.in_ok-kind.ensures more in
     let mode_on = read_on l2 b1 b2 c.in_ok-mode.mode h1 c.in_ok-mode.ensures.read more in
     let root_on = read_on l3 b2 b3 c.in_ok-root.root h2 root more in
