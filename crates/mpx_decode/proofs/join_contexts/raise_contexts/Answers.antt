@@ -1,4 +1,4 @@
-use Rattle.std.proofs.Common.{refl, ◌++◌, arith, Ok, List, ℕ, ◌≡◌}
+use Rattle.std.proofs.Common.{refl, ◌++◌, arith, Ok, List, ℕ, ◌≡◌, Result}
 use Rattle.join_nest.specs.Between.{keyed_between}
 use Rattle.join_nest.specs.Keyed.{keyed_joining}
 use Rattle.join_nest.specs.laws.Between.{keyed_between_laws}
@@ -55,8 +55,9 @@ returns-then-count-eq0-clause-ok c =
     let asks = keyed_asked name_cmp name_count name (lifted c.args.version) says_something in
     let any = keyed name_cmp name_count name (lifted c.args.version) always in
     let old = view_of_entries c.args.contexts.now in
-    joins_asked (contexts c.args.version) any asks (c.args.bytes.now ++ more) c.requires (Ok c.in-Ok.rest) (λ x. x.now ++ more) old old (keyed_joining lifted_joining)
-    (map_raised name_cmp name_count name (lifted c.args.version) (c.args.bytes.now ++ more) c.in-Ok.count (c.in-Ok.rest.now ++ more) count (Ok c.in-Ok.rest) (λ x. x.now ++ more) old old old old refl refl lifted_joining
+    let left : Result (List ℕ) ℕ = Ok (c.in-Ok.rest.now ++ more) in
+    joins_asked (contexts c.args.version) any asks (c.args.bytes.now ++ more) c.requires left (λ x. x) old old (keyed_joining lifted_joining)
+    (map_raised name_cmp name_count name (lifted c.args.version) (c.args.bytes.now ++ more) c.in-Ok.count (c.in-Ok.rest.now ++ more) count left (λ x. x) old old old old refl refl lifted_joining
     (no_rows name_total name_exact name (lifted c.args.version) lifted_joining c.in-Ok.count (c.in-Ok.rest.now ++ more) old c.if-count-eq0.true))
 
 pub returns-then-count-eq0-clause-none : goal.returns-then-count-eq0-clause-none

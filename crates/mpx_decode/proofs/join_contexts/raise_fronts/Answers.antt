@@ -1,4 +1,4 @@
-use Rattle.std.proofs.Common.{◌++◌, Ok, arith, refl, sym, ◌∙◌}
+use Rattle.std.proofs.Common.{◌++◌, Ok, arith, refl, sym, ◌∙◌, List, ℕ, Result}
 use Rattle.std.specs.Ordering.{nat_cmp}
 use Rattle.std.specs.Cmp.{nat_cmp_total}
 use Rattle.std.specs.FinMap.{nat_cmp-IsAntisymmetric}
@@ -24,7 +24,8 @@ returns-then-count-eq0-clause-ok c =
     let more = c.args.beyond.now in
     let count = read_on byte_laws c.args.bytes.now c.in-Ok.rest.now c.in-Ok.count (λ i. omega (arith, c.type_inv.bytes i)) c.in-Ok.ensures.gives more in
     let old = view_of_numbers c.args.fronts.now in
-    map_raised nat_cmp byte process some_calls (c.args.bytes.now ++ more) c.in-Ok.count (c.in-Ok.rest.now ++ more) count (Ok c.in-Ok.rest) (λ x. x.now ++ more) old old old old refl refl max_joining
+    let left : Result (List ℕ) ℕ = Ok (c.in-Ok.rest.now ++ more) in
+    map_raised nat_cmp byte process some_calls (c.args.bytes.now ++ more) c.in-Ok.count (c.in-Ok.rest.now ++ more) count left (λ x. x) old old old old refl refl max_joining
     (no_rows nat_cmp_total nat_cmp-IsAntisymmetric process some_calls max_joining c.in-Ok.count (c.in-Ok.rest.now ++ more) old c.if-count-eq0.true)
 
 pub raise-requires : goal.raise-requires
