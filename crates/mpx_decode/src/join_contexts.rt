@@ -71,15 +71,15 @@ impl WireJoin for Flat<Post> {
         beyond: &mut Beyond<'a>,
         bytes: &'a [u8],
     ) -> Result<&'a [u8], OutOfMemory> {
-        if let Some(rest) = behind_told(version, self, beyond, bytes) {
-            return Ok(rest);
-        }
-        match <Flat<Post> as WireJoin>::read_new(version, beyond, bytes) {
-            Err(_) => Err(OutOfMemory),
-            Ok((told, rest)) => {
-                self.join_in(beyond.alloc(), &told)?;
-                Ok(rest)
-            }
+        match behind_told(version, self, beyond, bytes) {
+            Some(rest) => Ok(rest),
+            None => match <Flat<Post> as WireJoin>::read_new(version, beyond, bytes) {
+                Err(_) => Err(OutOfMemory),
+                Ok((told, rest)) => {
+                    self.join_in(beyond.alloc(), &told)?;
+                    Ok(rest)
+                }
+            },
         }
     }
 

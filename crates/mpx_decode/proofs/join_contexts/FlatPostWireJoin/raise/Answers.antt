@@ -1,4 +1,4 @@
-use Rattle.std.proofs.Common.{◌++◌}
+use Rattle.std.proofs.Common.{◌++◌, ap, sym, ◌∙◌}
 use Rattle.join_core.specs.laws.Between.{old_or_joined-laws}
 use Rattle.join_core.specs.Flat.{flat_joining}
 use Rattle.join_core.specs.laws.Flat.{flat_laws}
@@ -19,7 +19,10 @@ returns-in-Err-clause-err c =
 
 pub returns-in_err-join_in-in-Ok-clause-err : goal.returns-in_err-join_in-in-Ok-clause-err
 returns-in_err-join_in-in-Ok-clause-err c =
-    on_err c.from_residual.result (read_stops (posted c.args.version) (c.args.bytes.now ++ c.args.beyond.now) (c.in-Ok.rest.now ++ c.read_new.new.beyond) (flat_view (λ p. p) c.in-Ok.told) c.in-Ok.ensures.read c.in_err-join_in-in-Ok.ensures.err)
+    let read = ap (λ l. (posted c.args.version).read (c.args.bytes.now ++ l)) (sym c.in-None.ensures.none) ∙ c.in-Ok.ensures.read in
+    on_err c.from_residual.result (read_stops (posted c.args.version) (c.args.bytes.now ++ c.args.beyond.now) (c.in-Ok.rest.now ++ c.read_new.new.beyond) (flat_view (λ p. p) c.in-Ok.told) read c.in_err-join_in-in-Ok.ensures.err)
 
 pub returns-in_ok-join_in-in-Ok-clause-ok : goal.returns-in_ok-join_in-in-Ok-clause-ok
-returns-in_ok-join_in-in-Ok-clause-ok c = read_joined (posted c.args.version) (c.args.bytes.now ++ c.args.beyond.now) (c.in-Ok.rest.now ++ c.read_new.new.beyond) (flat_view (λ p. p) c.in-Ok.told) c.in-Ok.ensures.read c.in_ok-join_in-in-Ok.ensures.ok
+returns-in_ok-join_in-in-Ok-clause-ok c =
+    let read = ap (λ l. (posted c.args.version).read (c.args.bytes.now ++ l)) (sym c.in-None.ensures.none) ∙ c.in-Ok.ensures.read in
+    read_joined (posted c.args.version) (c.args.bytes.now ++ c.args.beyond.now) (c.in-Ok.rest.now ++ c.read_new.new.beyond) (flat_view (λ p. p) c.in-Ok.told) read c.in_ok-join_in-in-Ok.ensures.ok
