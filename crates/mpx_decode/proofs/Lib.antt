@@ -8,6 +8,7 @@ pub mod OneRow
 pub mod RaisedRows
 pub mod Taken
 pub mod NearBytes
+mod FirstPosts
 mod Stricter
 mod RaisedCalls
 mod HeldFront

@@ -27,13 +27,14 @@ use crate::entries::WireValue;
 use crate::fields::{read_call, read_name_count, read_some_byte};
 use crate::front_posts::behind_told;
 use crate::join_births::raise_birth;
-use crate::join_rows::{WireJoin, raise_map};
+use crate::join_rows::{WireJoin, raise_entries, raise_map};
 use crate::posts::read_post;
 use join_core::{Flat, Join, OutOfMemory, Pair};
 use join_nest::{Keyed, Lift, Trunc};
 use mpx_birth::Birth;
 use mpx_board::{CallPosts, Entry, Lifted, VersionVector};
 use mpx_format::{ReadError, Version};
+use mpx_group::Proc;
 use mpx_name::Name;
 use mpx_post::Post;
 use mpx_rope::Beyond;
@@ -104,6 +105,9 @@ impl WireJoin for CallPosts {
         beyond: &mut Beyond<'a>,
         bytes: &'a [u8],
     ) -> Result<(CallPosts, &'a [u8]), ReadError> {
+        if beyond.has_items() {
+            return read_beside(version, beyond, bytes);
+        }
         <CallPosts as WireValue>::read(version, beyond.source(), bytes)
     }
 
@@ -122,6 +126,29 @@ impl WireJoin for CallPosts {
     ghost laws = { call_laws };
 
     ghost between_laws = { call_between_laws };
+}
+
+// The posts of a call, of which some may have their items beyond: they are joined to none.
+#[inline(never)]
+fn read_beside<'a>(
+    version: Version,
+    beyond: &mut Beyond<'a>,
+    bytes: &'a [u8],
+) -> Result<(CallPosts, &'a [u8]), ReadError>
+    requires { StandsInFront (call_posts version) (bytes.now ++ beyond.old) }
+    ensures read { IfOk result (λ x. (call_posts version).read (bytes.now ++ beyond.old) ≡ Ok (view_of_call x.0, x.1.now ++ beyond.new)) }
+    ensures less { length beyond.new ≤ length beyond.old }
+{
+    match read_some_byte(bytes) {
+        Err(e) => Err(e),
+        Ok((count, rest)) => {
+            let mut entries: Vec<(Proc, Flat<Post>)> = Vec::new(beyond.alloc());
+            match raise_entries(version, beyond, &mut entries, count as usize, rest) {
+                Err(_) => Err(ReadError::OutOfMemory),
+                Ok(rest) => Ok((Keyed::from_rising(entries), rest)),
+            }
+        }
+    }
 }
 
 // HELD CALLS

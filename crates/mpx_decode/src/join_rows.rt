@@ -42,6 +42,7 @@ pub trait WireJoin: Drop {
         beyond: &mut Beyond<'a>,
         bytes: &'a [u8],
     ) -> Result<(Self, &'a [u8]), ReadError>
+        requires { StandsInFront (wire version) (bytes.now ++ beyond.old) }
         ensures read { IfOk result (λ x. (wire version).read (bytes.now ++ beyond.old) ≡ Ok (view x.0, x.1.now ++ beyond.new)) }
         ensures less { length beyond.new ≤ length beyond.old };
 

@@ -7,6 +7,9 @@ use Rattle.mpx_decode.proofs.join_rows.raise_placed.Goals as goal
 pub raise-requires : goal.raise-requires
 raise-requires g c = value_stands g.K.WireKey.format (g.J.WireJoin.wire c.args.version) (c.args.bytes.now ++ c.args.beyond.now) c.in-Ok.key (c.in-Ok.rest.now ++ c.args.beyond.now) (c.in-Ok.ensures.whole c.args.beyond.now) c.requires.spelled
 
+pub read_new-requires : goal.read_new-requires
+read_new-requires g c = value_stands g.K.WireKey.format (g.J.WireJoin.wire c.args.version) (c.args.bytes.now ++ c.args.beyond.now) c.in-Ok.key (c.in-Ok.rest.now ++ c.args.beyond.now) (c.in-Ok.ensures.whole c.args.beyond.now) c.requires.spelled
+
 pub returns-in_err-rest-in-Ok-place_of_key-clause-err : goal.returns-in_err-rest-in-Ok-place_of_key-clause-err
 returns-in_err-rest-in-Ok-place_of_key-clause-err g c =
     let there = rw c.deref.ensures.value at c.in-Ok-place_of_key.ensures.found in

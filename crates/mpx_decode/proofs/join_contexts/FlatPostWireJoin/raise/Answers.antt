@@ -1,4 +1,4 @@
-use Rattle.std.proofs.Common.{◌++◌, ap, sym, ◌∙◌}
+use Rattle.std.proofs.Common.{◌++◌, ap, sym, ◌∙◌, subst}
 use Rattle.join_core.specs.laws.Between.{old_or_joined-laws}
 use Rattle.join_core.specs.Flat.{flat_joining}
 use Rattle.join_core.specs.laws.Flat.{flat_laws}
@@ -7,6 +7,7 @@ use Rattle.join_core.specs.Joins.{old_or_joined}
 use Rattle.join_nest.proofs.Fronts.{on_err}
 use Rattle.mpx_post.specs.Equality.{given_equality, same_given}
 use Rattle.mpx_format.specs.Contexts.{posted}
+use Rattle.mpx_decode.specs.Raising.{StandsInFront}
 use Rattle.mpx_decode.proofs.Taken.{read_joined, read_stops, same_joined, stops_at_once}
 use Rattle.mpx_decode.proofs.join_contexts.FlatPostWireJoin.raise.Goals as goal
 
@@ -26,3 +27,6 @@ pub returns-in_ok-join_in-in-Ok-clause-ok : goal.returns-in_ok-join_in-in-Ok-cla
 returns-in_ok-join_in-in-Ok-clause-ok c =
     let read = ap (λ l. (posted c.args.version).read (c.args.bytes.now ++ l)) (sym c.in-None.ensures.none) ∙ c.in-Ok.ensures.read in
     read_joined (posted c.args.version) (c.args.bytes.now ++ c.args.beyond.now) (c.in-Ok.rest.now ++ c.read_new.new.beyond) (flat_view (λ p. p) c.in-Ok.told) read c.in_ok-join_in-in-Ok.ensures.ok
+
+pub read_new-requires : goal.read_new-requires
+read_new-requires c = subst (λ l. StandsInFront (posted c.args.version) (c.args.bytes.now ++ l)) (sym c.in-None.ensures.none) c.requires
