@@ -1,7 +1,8 @@
 //! Reading posts, each by the fields of its kind.
-ghost use Rattle.std.specs.Prelude.{◌≡◌, ◌++◌, ◌≤◌, length, true};
-ghost use Rattle.mpx_post.specs.Posts.{Given};
-ghost use Rattle.mpx_format.specs.Posts.{post};
+ghost use Rattle.std.specs.Prelude.{◌≡◌, ◌++◌, ◌≤◌, ℕ, IfOk, List, Ok, length, true};
+ghost use Rattle.mpx_post.specs.Posts.{Given, IsMaking};
+ghost use Rattle.mpx_format.specs.Format.{Gives};
+ghost use Rattle.mpx_format.specs.Posts.{making_for, post};
 ghost use Rattle.mpx_decode.specs.Near.{GivesNear};
 
 use crate::codes::{read_kind, read_mode, read_op, read_root, read_type};
@@ -9,8 +10,10 @@ use crate::counts::{read_counts, read_items_for};
 use crate::entries::WireValue;
 use crate::making::read_making;
 use mpx_format::{ReadError, Version};
-use mpx_post::Post;
+use mpx_kind::Makes;
+use mpx_post::{Making, Post};
 use mpx_rope::{Beyond, Source};
+use std::alloc::Global;
 
 impl WireValue for Post {
     ghost Seen = { Given };
@@ -34,6 +37,15 @@ impl WireValue for Post {
     }
 }
 
+// What a post of such a kind says of a new communicator, which stands there whatever follows.
+fn read_made(makes: Makes, alloc: Global, bytes: &[u8]) -> Result<(Making, &[u8]), ReadError>
+    ensures read { Gives (λ x. (x.0, x.1.now)) result ((making_for makes).read bytes.now) }
+    ensures is { IfOk result (λ x. IsMaking makes x.0) }
+    ensures whole { IfOk result (λ x. (more : List ℕ) → (making_for makes).read (bytes.now ++ more) ≡ Ok (x.0, x.1.now ++ more)) }
+{
+    read_making(makes, alloc, bytes)
+}
+
 // The post at the front, whose items may lie beyond, and the bytes after it.
 #[tactic(auto, unfolding(mpx_format::specs::Posts::post))]
 pub fn read_post<'a>(
@@ -55,7 +67,7 @@ pub fn read_post<'a>(
     let (scounts, b6) = read_counts(sent, beyond.alloc(), b5)?;
     let (rcounts, b7) = read_counts(got, beyond.alloc(), b6)?;
     let (items, b8) = read_items_for(ty, beyond, b7)?;
-    let (making, rest) = read_making(fields.makes, beyond.alloc(), b8)?;
+    let (making, rest) = read_made(fields.makes, beyond.alloc(), b8)?;
     let post = Post::new(kind, mode, root, op, scounts, rcounts, items, making);
     Ok((post, rest))
 }

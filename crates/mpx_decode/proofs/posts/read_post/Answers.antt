@@ -6,7 +6,7 @@ use Rattle.mpx_num.proofs.Spellings.{IsBytes}
 use Rattle.mpx_format.specs.Posts.{items_for, nums_of, post}
 use Rattle.mpx_format.proofs.CodeLaws.{kind_laws, mode_laws, operation_laws, when_laws}
 use Rattle.mpx_format.proofs.FieldLaws.{process_laws}
-use Rattle.mpx_format.proofs.PostLaws.{making_for_laws, type_for_laws}
+use Rattle.mpx_format.proofs.PostLaws.{type_for_laws}
 use Rattle.mpx_decode.proofs.Loop.{fails_on}
 use Rattle.mpx_decode.proofs.NearBytes.{counts_if_laws, fails_all, fails_near, left_bytes, read_near, read_on}
 use Rattle.mpx_decode.proofs.PostLimits.{items_there, operation_fits, post_whole}
@@ -138,7 +138,7 @@ returns-clause-read c =
     let ty = rw c.fields-fields.ensures at c.in_ok-ty.ensures.read in
     let scounts = rw (c.is_had-sent.ensures, c.fields-fields.ensures) at c.in_ok-scounts.ensures.read in
     let rcounts = rw (c.is_had-got.ensures, c.fields-fields.ensures) at c.in_ok-rcounts.ensures.read in
-    let making = rw c.fields-fields.ensures at c.in_ok-making.ensures.read in
+    let making = rw c.fields-fields.ensures at c.in_ok-making.ensures.whole in
     let l1 = kind_laws v in
     let l2 = mode_laws k in
     let l3 = when_laws (fields_of k).root process_laws in
@@ -152,7 +152,6 @@ returns-clause-read c =
     let h4 = left_bytes l4 b3 b4 c.in_ok-op.op h3 op in
     let h5 = left_bytes l5 b4 b5 c.in_ok-ty.ty h4 ty in
     let h6 = left_bytes l6 b5 b6 c.in_ok-scounts.scounts h5 scounts in
-    let h8 : IsBytes c.in_ok-items.b8.now = λ i. omega (arith, c.type_inv.b8 i) in
     let kind_on = read_on l1 bytes b1 k h0 c.in_ok-kind.ensures more in
     let mode_on = read_on l2 b1 b2 c.in_ok-mode.mode h1 c.in_ok-mode.ensures.read more in
     let root_on = read_on l3 b2 b3 c.in_ok-root.root h2 root more in
@@ -160,5 +159,5 @@ returns-clause-read c =
     let ty_on = read_on l5 b4 b5 c.in_ok-ty.ty h4 ty more in
     let scounts_on = read_on l6 b5 b6 c.in_ok-scounts.scounts h5 scounts more in
     let rcounts_on = read_on l7 b6 b7 c.in_ok-rcounts.rcounts h6 rcounts more in
-    let making_on = read_on (making_for_laws (fields_of k).makes) c.in_ok-items.b8.now c.in_ok-making.rest.now c.in_ok-making.making h8 making c.read_items_for.new.beyond in
+    let making_on = making c.read_items_for.new.beyond in
     rw (kind_on, mode_on, root_on, op_on, ty_on, scounts_on, rcounts_on, c.in_ok-items.ensures.read, making_on, c.new-post.ensures) (post_whole k c.in_ok-mode.mode c.in_ok-root.root c.in_ok-op.op c.in_ok-ty.ty c.in_ok-scounts.scounts c.in_ok-rcounts.rcounts c.in_ok-items.items c.in_ok-making.making (c.in_ok-making.rest.now ++ c.read_items_for.new.beyond) c.in_ok-items.ensures.ty)
