@@ -198,9 +198,7 @@ impl WireJoin for Max {
         match read_some_calls(bytes) {
             Err(_) => Err(OutOfMemory),
             Ok((number, rest)) => {
-                if self.0 < number {
-                    self.0 = number;
-                }
+                self.0 = self.0.max(number);
                 Ok(rest)
             }
         }

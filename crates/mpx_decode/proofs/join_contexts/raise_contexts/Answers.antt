@@ -24,20 +24,20 @@ raise_map-requires-clause-spelled c =
     let asks = keyed_asked name_cmp name_count name (lifted c.args.version) says_something in
     rows_stand name_cmp name_count name (lifted c.args.version) (c.args.bytes.now ++ c.args.beyond.now) c.in-Ok.count (c.in-Ok.rest.now ++ c.args.beyond.now) (read_on name_count_laws c.args.bytes.now c.in-Ok.rest.now c.in-Ok.count (λ i. omega (arith, c.type_inv.bytes i)) c.in-Ok.ensures.gives c.args.beyond.now) (stands_asked (contexts c.args.version) (keyed name_cmp name_count name (lifted c.args.version) always) asks (c.args.bytes.now ++ c.args.beyond.now) c.requires)
 
-pub returns-clause-ok : goal.returns-clause-ok
-returns-clause-ok c =
+pub returns-else-count-eq0-clause-ok : goal.returns-else-count-eq0-clause-ok
+returns-else-count-eq0-clause-ok c =
     let asks = keyed_asked name_cmp name_count name (lifted c.args.version) says_something in
     joins_asked (contexts c.args.version) (keyed name_cmp name_count name (lifted c.args.version) always) asks (c.args.bytes.now ++ c.args.beyond.now) c.requires c.raise_map.result (λ x. x.now ++ c.raise_map.new.beyond) _ _ (keyed_joining lifted_joining)
     (map_raised name_cmp name_count name (lifted c.args.version) (c.args.bytes.now ++ c.args.beyond.now) c.in-Ok.count (c.in-Ok.rest.now ++ c.args.beyond.now) (read_on name_count_laws c.args.bytes.now c.in-Ok.rest.now c.in-Ok.count (λ i. omega (arith, c.type_inv.bytes i)) c.in-Ok.ensures.gives c.args.beyond.now) c.raise_map.result (λ x. x.now ++ c.raise_map.new.beyond) _ _ _ _ refl refl lifted_joining c.raise_map.ensures.ok)
 
-pub returns-clause-err : goal.returns-clause-err
-returns-clause-err c =
+pub returns-else-count-eq0-clause-err : goal.returns-else-count-eq0-clause-err
+returns-else-count-eq0-clause-err c =
     let asks = keyed_asked name_cmp name_count name (lifted c.args.version) says_something in
     stops_asked (contexts c.args.version) (keyed name_cmp name_count name (lifted c.args.version) always) asks (c.args.bytes.now ++ c.args.beyond.now) c.requires c.raise_map.result (λ x. x.now ++ c.raise_map.new.beyond) _ _ (keyed_between lifted_between)
     (map_stops name_cmp name_count name (lifted c.args.version) (c.args.bytes.now ++ c.args.beyond.now) c.in-Ok.count (c.in-Ok.rest.now ++ c.args.beyond.now) (read_on name_count_laws c.args.bytes.now c.in-Ok.rest.now c.in-Ok.count (λ i. omega (arith, c.type_inv.bytes i)) c.in-Ok.ensures.gives c.args.beyond.now) c.raise_map.result (λ x. x.now ++ c.raise_map.new.beyond) _ _ _ _ refl refl lifted_between c.raise_map.ensures.err)
 
-pub returns-clause-some : goal.returns-clause-some
-returns-clause-some c = if_err c.raise_map.result (not_none name_count c.args.bytes.now c.in-Ok.count c.in-Ok.rest.now c.in-Ok.ensures.gives) c.raise_map.ensures.some
+pub returns-else-count-eq0-clause-some : goal.returns-else-count-eq0-clause-some
+returns-else-count-eq0-clause-some c = if_err c.raise_map.result (not_none name_count c.args.bytes.now c.in-Ok.count c.in-Ok.rest.now c.in-Ok.ensures.gives) c.raise_map.ensures.some
 
 pub returns-in-Err-clause-err : goal.returns-in-Err-clause-err
 returns-in-Err-clause-err c =
@@ -63,5 +63,5 @@ returns-then-count-eq0-clause-ok c =
 pub returns-then-count-eq0-clause-none : goal.returns-then-count-eq0-clause-none
 returns-then-count-eq0-clause-none c = λ left is. (count_is name_count c.args.bytes.now c.in-Ok.count c.in-Ok.rest.now c.in-Ok.ensures.gives 0 left is).1
 
-pub returns-clause-none : goal.returns-clause-none
-returns-clause-none c = on_each c.raise_map.result (λ x. (left : List ℕ) → name_count.read c.args.bytes.now ≡ Ok (0, left) → x.now ≡ left) (λ x left is. absurd (c.if-count-eq0.false (count_is name_count c.args.bytes.now c.in-Ok.count c.in-Ok.rest.now c.in-Ok.ensures.gives 0 left is).0))
+pub returns-else-count-eq0-clause-none : goal.returns-else-count-eq0-clause-none
+returns-else-count-eq0-clause-none c = on_each c.raise_map.result (λ x. (left : List ℕ) → name_count.read c.args.bytes.now ≡ Ok (0, left) → x.now ≡ left) (λ x left is. absurd (c.if-count-eq0.false (count_is name_count c.args.bytes.now c.in-Ok.count c.in-Ok.rest.now c.in-Ok.ensures.gives 0 left is).0))

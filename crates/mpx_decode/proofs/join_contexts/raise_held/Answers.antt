@@ -32,8 +32,8 @@ raise_calls-requires c =
     let more = c.args.beyond.now in
     calls_stand c.args.version (c.args.bytes.now ++ more) (c.in-Ok.rest.now ++ more) c.in-Ok.dropped (first more) (c.in-Ok-read_u32.rest.now ++ more) c.in-Ok-read_u32.count (second more) c.requires
 
-pub returns-clause-ok : goal.returns-clause-ok
-returns-clause-ok c =
+pub returns-in-Ok-read_u32-clause-ok : goal.returns-in-Ok-read_u32-clause-ok
+returns-in-Ok-read_u32-clause-ok c =
     let laws = number_laws w32 wide32 in
     let are : IsBytes c.args.bytes.now = λ i. omega (arith, c.type_inv.bytes i) in
     let first = read_on laws c.args.bytes.now c.in-Ok.rest.now c.in-Ok.dropped are c.in-Ok.ensures.gives in
@@ -43,8 +43,8 @@ returns-clause-ok c =
     held_joined c.args.version (c.args.bytes.now ++ more) (c.in-Ok.rest.now ++ more) c.in-Ok.dropped (first more) (c.in-Ok-read_u32.rest.now ++ more) c.in-Ok-read_u32.count (second more) c.requires
     c.raise_calls.result (λ x. x.now ++ c.raise_calls.new.beyond) (view_of_calls c.args.held.now) (view_of_calls c.drop_below.new.self) (view_of_calls c.raise_calls.new.held) c.drop_below.ensures c.raise_calls.ensures.ok
 
-pub returns-clause-err : goal.returns-clause-err
-returns-clause-err c =
+pub returns-in-Ok-read_u32-clause-err : goal.returns-in-Ok-read_u32-clause-err
+returns-in-Ok-read_u32-clause-err c =
     let laws = number_laws w32 wide32 in
     let are : IsBytes c.args.bytes.now = λ i. omega (arith, c.type_inv.bytes i) in
     let first = read_on laws c.args.bytes.now c.in-Ok.rest.now c.in-Ok.dropped are c.in-Ok.ensures.gives in

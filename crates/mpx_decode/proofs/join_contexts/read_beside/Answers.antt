@@ -23,9 +23,9 @@ raise_entries-requires-clause-spelled c =
     rows_stand nat_cmp some_byte process (posted c.args.version) (c.args.bytes.now ++ more) c.in-Ok.count (c.in-Ok.rest.now ++ more) count c.requires
 
 -- what is joined to none is what was read
-pub returns-in-Ok-raise_entries-clause-read : goal.returns-in-Ok-raise_entries-clause-read
+pub returns-clause-read : goal.returns-clause-read
 unfolding call_posts
-returns-in-Ok-raise_entries-clause-read c =
+returns-clause-read c =
     let more = c.args.beyond.now in
     let count = read_on some_byte_laws c.args.bytes.now c.in-Ok.rest.now c.in-Ok.count (λ i. omega (arith, c.type_inv.bytes i)) c.in-Ok.ensures.gives more in
     let left = c.in-Ok-raise_entries.rest.now ++ c.raise_entries.new.beyond in

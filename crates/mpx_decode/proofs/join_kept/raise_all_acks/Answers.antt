@@ -21,28 +21,28 @@ pub raise_processes-raised-requires-clause-spelled : goal.raise_processes-raised
 unfolding all_acks
 raise_processes-raised-requires-clause-spelled c = rows_stand nat_cmp byte process acks (c.args.bytes.now ++ c.args.beyond.now) c.in-Ok.count (c.in-Ok.rest.now ++ c.args.beyond.now) (read_on byte_laws c.args.bytes.now c.in-Ok.rest.now c.in-Ok.count (λ i. omega (arith, c.type_inv.bytes i)) c.in-Ok.ensures.gives c.args.beyond.now) c.requires.spelled
 
-pub returns-clause-ok : goal.returns-clause-ok
+pub returns-in-Ok-clause-ok : goal.returns-in-Ok-clause-ok
 unfolding all_acks
-returns-clause-ok c =
+returns-in-Ok-clause-ok c =
     let was = ap (λ m. keyed_view nat_cmp (λ a. keyed_view name_cmp (λ m. keyed_view nat_cmp (λ n. n.0) m.entries.items) a.entries.items) m.entries.items) (sym c.replace.ensures.value) ∙ c.into_entries-entries.ensures.entries in
     map_raised nat_cmp byte process acks (c.args.bytes.now ++ c.args.beyond.now) c.in-Ok.count (c.in-Ok.rest.now ++ c.args.beyond.now) (read_on byte_laws c.args.bytes.now c.in-Ok.rest.now c.in-Ok.count (λ i. omega (arith, c.type_inv.bytes i)) c.in-Ok.ensures.gives c.args.beyond.now) c.raise_processes-raised.result (λ x. x.now ++ c.raise_processes-raised.new.beyond) _ _ _ _ was c.from_rising.ensures acks_joining c.raise_processes-raised.ensures.ok
 
-pub returns-clause-err : goal.returns-clause-err
+pub returns-in-Ok-clause-err : goal.returns-in-Ok-clause-err
 unfolding all_acks
-returns-clause-err c =
+returns-in-Ok-clause-err c =
     let was = ap (λ m. keyed_view nat_cmp (λ a. keyed_view name_cmp (λ m. keyed_view nat_cmp (λ n. n.0) m.entries.items) a.entries.items) m.entries.items) (sym c.replace.ensures.value) ∙ c.into_entries-entries.ensures.entries in
     map_stops nat_cmp byte process acks (c.args.bytes.now ++ c.args.beyond.now) c.in-Ok.count (c.in-Ok.rest.now ++ c.args.beyond.now) (read_on byte_laws c.args.bytes.now c.in-Ok.rest.now c.in-Ok.count (λ i. omega (arith, c.type_inv.bytes i)) c.in-Ok.ensures.gives c.args.beyond.now) c.raise_processes-raised.result (λ x. x.now ++ c.raise_processes-raised.new.beyond) _ _ _ _ was c.from_rising.ensures acks_between c.raise_processes-raised.ensures.err
 
-pub returns-clause-some : goal.returns-clause-some
-returns-clause-some c = if_err c.raise_processes-raised.result (not_none byte c.args.bytes.now c.in-Ok.count c.in-Ok.rest.now c.in-Ok.ensures.gives) c.raise_processes-raised.ensures.some
+pub returns-in-Ok-clause-some : goal.returns-in-Ok-clause-some
+returns-in-Ok-clause-some c = if_err c.raise_processes-raised.result (not_none byte c.args.bytes.now c.in-Ok.count c.in-Ok.rest.now c.in-Ok.ensures.gives) c.raise_processes-raised.ensures.some
 
 pub raise_processes-raised-requires-clause-kept : goal.raise_processes-raised-requires-clause-kept
 raise_processes-raised-requires-clause-kept c =
     let was = ap view_of_all_acks (sym c.replace.ensures.value) ∙ c.into_entries-entries.ensures.entries in
     subst (AreKept c.args.kept.now.of.items) was c.requires.kept
 
-pub returns-clause-kept : goal.returns-clause-kept
-returns-clause-kept c = subst (AreKept c.raise_processes-raised.new.kept.of.items) (sym c.from_rising.ensures) c.raise_processes-raised.ensures.kept
+pub returns-in-Ok-clause-kept : goal.returns-in-Ok-clause-kept
+returns-in-Ok-clause-kept c = subst (AreKept c.raise_processes-raised.new.kept.of.items) (sym c.from_rising.ensures) c.raise_processes-raised.ensures.kept
 
 pub returns-in-Err-clause-err : goal.returns-in-Err-clause-err
 returns-in-Err-clause-err c =

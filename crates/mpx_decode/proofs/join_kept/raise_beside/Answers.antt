@@ -20,20 +20,20 @@ raise_rows-raised-requires-clause-kept c =
     let was = ap view_of_acks (sym c.replace.ensures.value) ∙ c.into_entries-entries.ensures.entries in
     subst (ArePieces c.args.kept.now.pieces.items) (ap entries was ∙ entries_of name_cmp view_of_numbers c.into_entries-entries.result.items c.into_entries-entries.ensures.rising) c.requires.kept
 
-pub returns-clause-ok : goal.returns-clause-ok
+pub returns-in-Ok-clause-ok : goal.returns-in-Ok-clause-ok
 unfolding acks
-returns-clause-ok c =
+returns-in-Ok-clause-ok c =
     let was = ap view_of_acks (sym c.replace.ensures.value) ∙ c.into_entries-entries.ensures.entries in
     map_raised name_cmp some_names name numbers (c.args.bytes.now ++ c.args.beyond.now) c.in-Ok.count (c.in-Ok.rest.now ++ c.args.beyond.now) (read_on some_names_laws c.args.bytes.now c.in-Ok.rest.now c.in-Ok.count (λ i. omega (arith, c.type_inv.bytes i)) c.in-Ok.ensures.gives c.args.beyond.now) c.raise_rows-raised.result (λ x. x.now ++ c.raise_rows-raised.new.beyond) _ _ _ _ was c.from_rising.ensures numbers_joining c.raise_rows-raised.ensures.ok
 
-pub returns-clause-err : goal.returns-clause-err
+pub returns-in-Ok-clause-err : goal.returns-in-Ok-clause-err
 unfolding acks
-returns-clause-err c =
+returns-in-Ok-clause-err c =
     let was = ap view_of_acks (sym c.replace.ensures.value) ∙ c.into_entries-entries.ensures.entries in
     map_stops name_cmp some_names name numbers (c.args.bytes.now ++ c.args.beyond.now) c.in-Ok.count (c.in-Ok.rest.now ++ c.args.beyond.now) (read_on some_names_laws c.args.bytes.now c.in-Ok.rest.now c.in-Ok.count (λ i. omega (arith, c.type_inv.bytes i)) c.in-Ok.ensures.gives c.args.beyond.now) c.raise_rows-raised.result (λ x. x.now ++ c.raise_rows-raised.new.beyond) _ _ _ _ was c.from_rising.ensures numbers_between c.raise_rows-raised.ensures.err
 
-pub returns-clause-kept : goal.returns-clause-kept
-returns-clause-kept c =
+pub returns-in-Ok-clause-kept : goal.returns-in-Ok-clause-kept
+returns-in-Ok-clause-kept c =
     subst (ArePieces c.raise_rows-raised.new.kept.pieces.items) (sym (ap entries c.from_rising.ensures ∙ entries_of name_cmp view_of_numbers c.raise_rows-raised.new.entries.items c.raise_rows-raised.ensures.rising)) c.raise_rows-raised.ensures.kept
 
 pub returns-in-Err-clause-err : goal.returns-in-Err-clause-err

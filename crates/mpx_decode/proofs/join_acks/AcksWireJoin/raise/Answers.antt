@@ -15,14 +15,14 @@ pub raise_map-requires-clause-spelled : goal.raise_map-requires-clause-spelled
 unfolding acks
 raise_map-requires-clause-spelled c = rows_stand name_cmp some_names name numbers (c.args.bytes.now ++ c.args.beyond.now) c.in-Ok.count (c.in-Ok.rest.now ++ c.args.beyond.now) (read_on some_names_laws c.args.bytes.now c.in-Ok.rest.now c.in-Ok.count (λ i. omega (arith, c.type_inv.bytes i)) c.in-Ok.ensures.gives c.args.beyond.now) c.requires
 
-pub returns-clause-ok : goal.returns-clause-ok
+pub returns-in-Ok-clause-ok : goal.returns-in-Ok-clause-ok
 unfolding acks
-returns-clause-ok c =
+returns-in-Ok-clause-ok c =
     map_raised name_cmp some_names name numbers (c.args.bytes.now ++ c.args.beyond.now) c.in-Ok.count (c.in-Ok.rest.now ++ c.args.beyond.now) (read_on some_names_laws c.args.bytes.now c.in-Ok.rest.now c.in-Ok.count (λ i. omega (arith, c.type_inv.bytes i)) c.in-Ok.ensures.gives c.args.beyond.now) c.raise_map.result (λ x. x.now ++ c.raise_map.new.beyond) _ _ _ _ refl refl numbers_joining c.raise_map.ensures.ok
 
-pub returns-clause-err : goal.returns-clause-err
+pub returns-in-Ok-clause-err : goal.returns-in-Ok-clause-err
 unfolding acks
-returns-clause-err c =
+returns-in-Ok-clause-err c =
     map_stops name_cmp some_names name numbers (c.args.bytes.now ++ c.args.beyond.now) c.in-Ok.count (c.in-Ok.rest.now ++ c.args.beyond.now) (read_on some_names_laws c.args.bytes.now c.in-Ok.rest.now c.in-Ok.count (λ i. omega (arith, c.type_inv.bytes i)) c.in-Ok.ensures.gives c.args.beyond.now) c.raise_map.result (λ x. x.now ++ c.raise_map.new.beyond) _ _ _ _ refl refl numbers_between c.raise_map.ensures.err
 
 pub returns-in-Err-clause-err : goal.returns-in-Err-clause-err

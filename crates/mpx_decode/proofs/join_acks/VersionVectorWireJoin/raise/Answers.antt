@@ -15,15 +15,15 @@ pub raise_numbers-raised-requires-clause-spelled : goal.raise_numbers-raised-req
 unfolding numbers
 raise_numbers-raised-requires-clause-spelled c = rows_stand nat_cmp some_byte process some_calls (c.args.bytes.now ++ c.args.beyond.now) c.in-Ok.count (c.in-Ok.rest.now ++ c.args.beyond.now) (read_on some_byte_laws c.args.bytes.now c.in-Ok.rest.now c.in-Ok.count (λ i. omega (arith, c.type_inv.bytes i)) c.in-Ok.ensures.gives c.args.beyond.now) c.requires
 
-pub returns-clause-ok : goal.returns-clause-ok
+pub returns-in-Ok-clause-ok : goal.returns-in-Ok-clause-ok
 unfolding numbers
-returns-clause-ok c =
+returns-in-Ok-clause-ok c =
     let was = ap (λ m. keyed_view nat_cmp (λ n. n.0) m.entries.items) (sym c.replace.ensures.value) ∙ c.into_entries-entries.ensures.entries in
     map_raised nat_cmp some_byte process some_calls (c.args.bytes.now ++ c.args.beyond.now) c.in-Ok.count (c.in-Ok.rest.now ++ c.args.beyond.now) (read_on some_byte_laws c.args.bytes.now c.in-Ok.rest.now c.in-Ok.count (λ i. omega (arith, c.type_inv.bytes i)) c.in-Ok.ensures.gives c.args.beyond.now) c.raise_numbers-raised.result (λ x. x.now ++ c.raise_numbers-raised.new.beyond) _ _ _ _ was c.from_rising.ensures max_joining c.raise_numbers-raised.ensures.ok
 
-pub returns-clause-err : goal.returns-clause-err
+pub returns-in-Ok-clause-err : goal.returns-in-Ok-clause-err
 unfolding numbers
-returns-clause-err c =
+returns-in-Ok-clause-err c =
     let was = ap (λ m. keyed_view nat_cmp (λ n. n.0) m.entries.items) (sym c.replace.ensures.value) ∙ c.into_entries-entries.ensures.entries in
     map_stops nat_cmp some_byte process some_calls (c.args.bytes.now ++ c.args.beyond.now) c.in-Ok.count (c.in-Ok.rest.now ++ c.args.beyond.now) (read_on some_byte_laws c.args.bytes.now c.in-Ok.rest.now c.in-Ok.count (λ i. omega (arith, c.type_inv.bytes i)) c.in-Ok.ensures.gives c.args.beyond.now) c.raise_numbers-raised.result (λ x. x.now ++ c.raise_numbers-raised.new.beyond) _ _ _ _ was c.from_rising.ensures (old_or_joined max_joining) c.raise_numbers-raised.ensures.err
 

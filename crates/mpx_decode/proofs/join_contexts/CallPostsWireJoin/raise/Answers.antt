@@ -19,14 +19,14 @@ pub raise_map-requires-clause-spelled : goal.raise_map-requires-clause-spelled
 unfolding call_posts
 raise_map-requires-clause-spelled c = rows_stand nat_cmp some_byte process (posted c.args.version) (c.args.bytes.now ++ c.args.beyond.now) c.in-Ok.count (c.in-Ok.rest.now ++ c.args.beyond.now) (read_on some_byte_laws c.args.bytes.now c.in-Ok.rest.now c.in-Ok.count (λ i. omega (arith, c.type_inv.bytes i)) c.in-Ok.ensures.gives c.args.beyond.now) c.requires
 
-pub returns-clause-ok : goal.returns-clause-ok
+pub returns-in-Ok-clause-ok : goal.returns-in-Ok-clause-ok
 unfolding call_posts
-returns-clause-ok c =
+returns-in-Ok-clause-ok c =
     map_raised nat_cmp some_byte process (posted c.args.version) (c.args.bytes.now ++ c.args.beyond.now) c.in-Ok.count (c.in-Ok.rest.now ++ c.args.beyond.now) (read_on some_byte_laws c.args.bytes.now c.in-Ok.rest.now c.in-Ok.count (λ i. omega (arith, c.type_inv.bytes i)) c.in-Ok.ensures.gives c.args.beyond.now) c.raise_map.result (λ x. x.now ++ c.raise_map.new.beyond) _ _ _ _ refl refl (flat_joining same_given) c.raise_map.ensures.ok
 
-pub returns-clause-err : goal.returns-clause-err
+pub returns-in-Ok-clause-err : goal.returns-in-Ok-clause-err
 unfolding call_posts
-returns-clause-err c =
+returns-in-Ok-clause-err c =
     map_stops nat_cmp some_byte process (posted c.args.version) (c.args.bytes.now ++ c.args.beyond.now) c.in-Ok.count (c.in-Ok.rest.now ++ c.args.beyond.now) (read_on some_byte_laws c.args.bytes.now c.in-Ok.rest.now c.in-Ok.count (λ i. omega (arith, c.type_inv.bytes i)) c.in-Ok.ensures.gives c.args.beyond.now) c.raise_map.result (λ x. x.now ++ c.raise_map.new.beyond) _ _ _ _ refl refl (old_or_joined (flat_joining same_given)) c.raise_map.ensures.err
 
 pub returns-in-Err-clause-err : goal.returns-in-Err-clause-err
