@@ -1,4 +1,4 @@
-use Rattle.std.proofs.Common.{◌++◌, [], Ok, ap, arith, refl, sym, ◌∙◌, List, ℕ, Result}
+use Rattle.std.proofs.Common.{◌++◌, [], Ok, ap, arith, refl, sym, ◌∙◌, List, ℕ, Result, ◌≡◌, rules}
 use Rattle.std.specs.Ordering.{nat_cmp}
 use Rattle.std.specs.Cmp.{nat_cmp_total}
 use Rattle.std.specs.FinMap.{nat_cmp-IsAntisymmetric}
@@ -32,4 +32,6 @@ returns-clause-read c =
     let done : Result (List ℕ) ℕ = Ok left in
     let made = keyed_view nat_cmp (flat_view (λ p. p)) c.raise_entries.new.entries.items in
     let raised = map_raised nat_cmp some_byte process (posted c.args.version) (c.args.bytes.now ++ more) c.in-Ok.count (c.in-Ok.rest.now ++ more) count done (λ x. x) _ made _ made refl refl (flat_joining same_given) c.in-Ok-raise_entries.ensures.ok in
-    read_whole nat_cmp_total nat_cmp-IsAntisymmetric (flat_joining same_given) (call_posts c.args.version) (c.args.bytes.now ++ more) left _ made (map_none nat_cmp) raised ∙ ap (λ m. Ok (m, left)) (sym c.from_rising.ensures)
+    let first : c.new-entries.result.items ≡ [] = search rules in
+    let none = ap (λ es. keyed_view nat_cmp (flat_view (λ p. p)) es) first ∙ map_none nat_cmp in
+    read_whole nat_cmp_total nat_cmp-IsAntisymmetric (flat_joining same_given) (call_posts c.args.version) (c.args.bytes.now ++ more) left _ made none raised ∙ ap (λ m. Ok (m, left)) (sym c.from_rising.ensures)
