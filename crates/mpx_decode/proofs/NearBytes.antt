@@ -23,7 +23,7 @@ use Rattle.mpx_format.proofs.FormatLaws.{Exactly, IsBytes-after, both_laws, many
 use Rattle.mpx_format.proofs.PostLaws.{counts_laws, no_list_laws, type_for_laws}
 use Rattle.mpx_format.proofs.Rows.{rising_sorted}
 use Rattle.mpx_decode.specs.Near.{GivesNear}
-use Rattle.mpx_decode.specs.Raising.{RaisesRow, RaisesRows, rows}
+use Rattle.mpx_decode.specs.Raising.{RaisesRows, rows}
 use Rattle.mpx_decode.proofs.FrontPosts.{FieldsStand}
 
 module _ {V : Type 0} {f : Format V} (p : Exactly f) (near left : List ℕ) (v : V) (are : IsBytes near) (read : f.read near ≡ Ok (v, left)) where

@@ -14,7 +14,6 @@ use Rattle.mpx_board.specs.Parts.{LiftedView, OfNames}
 use Rattle.mpx_format.specs.declared.versions.Version.{Version}
 use Rattle.mpx_format.specs.Contexts.{parts}
 use Rattle.mpx_format.specs.Fields.{all_acks, name_count}
-use Rattle.mpx_format.specs.declared.defects.Defect.{Defect}
 use Rattle.mpx_format.specs.declared.defects.ReadError.{ReadError}
 use Rattle.mpx_format.specs.declared.defects.ReadError.TheVariants as errors
 use Rattle.mpx_format.specs.Format.{Fails, Format, byte, many_read}

@@ -2,7 +2,6 @@ use Rattle.std.proofs.Common.{◌≡◌, ◌++◌, [], Ok, ap, length, sym, ◌�
 use Rattle.std.specs.List.{flat_map}
 use Rattle.mpx_num.specs.ItemList.{ItemList}
 use Rattle.mpx_num.specs.Spelling.{bytes_of}
-use Rattle.mpx_num.specs.declared.types.Ty.{Ty}
 use Rattle.mpx_format.specs.Format.{many_read}
 use Rattle.mpx_format.specs.Posts.{integer}
 use Rattle.mpx_format.proofs.Integers.{numbers_stand}
