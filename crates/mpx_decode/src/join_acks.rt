@@ -198,7 +198,9 @@ impl WireJoin for Max {
         match read_some_calls(bytes) {
             Err(_) => Err(OutOfMemory),
             Ok((number, rest)) => {
-                self.0 = self.0.max(number);
+                if self.0 < number {
+                    self.0 = number;
+                }
                 Ok(rest)
             }
         }

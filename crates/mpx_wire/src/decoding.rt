@@ -1,5 +1,5 @@
 //! Reading whole frames, into boards of their own or joined to another.
-ghost use Rattle.std.specs.Prelude.{◌≡◌, ◌≢◌, IfOk, IfErr, IsTrue, Ok, OnErr, OnOk, is_ok};
+ghost use Rattle.std.specs.Prelude.{◌≡◌, ◌≢◌, ◌++◌, ℕ, IfOk, IfErr, IsTrue, List, Ok, OnErr, OnOk, is_ok};
 ghost use Rattle.mpx_board.specs.Boards.{IsBetween, empty, join};
 ghost use Rattle.mpx_board.specs.Contexts.{look_of};
 ghost use Rattle.mpx_board.specs.Parts.{PartsView, parts_between, parts_joining};
@@ -46,6 +46,13 @@ fn read_front(bytes: &[u8]) -> Result<(Version, &[u8]), ReadError>
     let rest = read_mark(Defect::BadMagic, 0x58, rest)?;
     let rest = read_mark(Defect::BadMagic, 0x47, rest)?;
     read_version(rest)
+}
+
+// The same, which stands there whatever follows.
+fn read_near_front(bytes: &[u8]) -> Result<(Version, &[u8]), ReadError>
+    ensures { IfOk result (λ x. (more : List ℕ) → front.read (bytes.now ++ more) ≡ Ok (x.0, x.1.now ++ more)) }
+{
+    read_front(bytes)
 }
 
 // The version, and the parts as it spells them.
@@ -158,7 +165,7 @@ fn take_where_it_lies(
     ensures again { OnErr result ((v : PartsView) → IsSpelled rope.now v → join (look board.new) (look_of v) ≡ join (look board.old) (look_of v)) }
 {
     let (near, mut beyond) = rope.apart(alloc);
-    let Ok((version, rest)) = read_front(near) else {
+    let Ok((version, rest)) = read_near_front(near) else {
         return Err(OutOfMemory);
     };
     let _after = take_apart(version, &mut beyond, board, kept, rest)?;
