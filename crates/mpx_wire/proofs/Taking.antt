@@ -1,5 +1,5 @@
 -- What is spelled is joined as it is read.
-use Rattle.std.proofs.Common.{◌≡◌, ◌≢◌, ℕ, ◌≤◌, ◌⊎◌, inl, inr, true, List, [], ◌∷◌, length, Result, Ok, Err, OnOk, refl, sym, ap, ◌∙◌, subst, arith}
+use Rattle.std.proofs.Common.{◌≡◌, ◌≢◌, ℕ, ◌≤◌, ◌⊎◌, inl, inr, List, [], ◌∷◌, length, Result, Ok, Err, OnOk, refl, sym, ap, ◌∙◌, subst, arith}
 use Rattle.std.proofs.lemmas.List.{append-nil}
 use Rattle.mpx_board.specs.Boards.{Fact, Has, IsBetween, IsBoardBelow, Look, empty, join}
 use Rattle.mpx_board.specs.Contexts.{look_of}
@@ -18,7 +18,7 @@ use Rattle.mpx_format.specs.declared.defects.ReadError.TheVariants as errors
 use Rattle.mpx_format.specs.declared.versions.Version.{Version}
 use Rattle.mpx_format.specs.Codes.{version_byte}
 use Rattle.mpx_format.specs.Contexts.{frame, parts}
-use Rattle.mpx_format.specs.Decoding.{IsSpelled, Spells}
+use Rattle.mpx_format.specs.Decoding.{IsSpelled}
 use Rattle.mpx_format.specs.declared.versions.Version.TheVariants.{One, Two}
 use Rattle.mpx_format.specs.Format.{Fails, Format, ◌>>=◌, both, mark, mark_at}
 use Rattle.mpx_format.proofs.ContextLaws.{frame_laws}
