@@ -9,6 +9,7 @@ import re
 import shutil
 import subprocess
 import sys
+import tempfile
 
 ROOT = pathlib.Path(__file__).resolve().parent.parent
 
@@ -27,11 +28,43 @@ def load():
     return module
 
 
+class Sums:
+    """Sums of files, kept for the next command on this machine: those of all libraries take a minute of one processor. A file is known by its place on the
+    disk, its size and its times. What this gives is no verdict: `rt ci` sums all anew."""
+
+    def __init__(self, sum_of):
+        self.sum_of, self.new = sum_of, False
+        self.at = pathlib.Path(tempfile.gettempdir(), f"gossipmpi-sums-{os.getuid()}.json")
+        try:
+            self.known = json.loads(self.at.read_text()) if self.at.stat().st_uid == os.getuid() else {}
+        except (OSError, ValueError):
+            self.known = {}
+
+    def of(self, file):
+        if not os.path.isfile(file):
+            return self.sum_of(file)
+        st = os.stat(file)
+        key = f"{st.st_dev} {st.st_ino} {st.st_size} {st.st_mtime_ns}"
+        if key not in self.known:
+            self.known[key], self.new = self.sum_of(file), True
+        return self.known[key]
+
+    def keep(self):
+        """Writes them, where there are new ones; another command's are lost where both write at once."""
+        if self.new:
+            with tempfile.NamedTemporaryFile("w", dir=self.at.parent, delete=False) as file:
+                json.dump(self.known, file)
+            os.replace(file.name, self.at)
+            self.new = False
+
+
 class Kit:
     def __init__(self):
         sys.dont_write_bytecode = True
         self.rt = load()
         self.lib = self.rt.rtlib
+        self.sums = Sums(self.lib.sum_of)
+        self.lib.sum_of = self.sums.of
         self.lib.Crate = self.rt.Crate
         self.rt.Crate.allowed = self.rt.handles_of(str(ROOT))
         self.crates = {it.name: it for it in self.lib.crates_below(str(ROOT))}
@@ -43,6 +76,7 @@ class Kit:
         for crate in sorted((it for it in self.crates.values() if not it.is_program), key=lambda it: len(it.below())):
             if any(it.name in lacking for it in crate.below()) or not self.takes(kept, crate):
                 lacking.append(crate.name)
+        self.sums.keep()
         return lacking
 
     def kept(self):

@@ -1,5 +1,5 @@
 -- Results that are past their signed type, by what the statements of their call give. That these statements meet in one call isn't said here.
-use Rattle.std.specs.Prelude.{◌≡◌, ℕ, ◌+◌, Bool, true, false, cond, List, [], ◌∷◌, ◌++◌, bytes_eq, codes, length, slice_get, slice_index_or, take, Option, Some, None, option_and_then, ℤ, pos, ◌+ℤ◌, ◌*ℤ◌}
+use Rattle.std.specs.Prelude.{◌≡◌, ℕ, ◌+◌, ◌^◌, ◌≤◌, Bool, true, false, cond, List, [], ◌∷◌, ◌++◌, bytes_eq, codes, length, slice_get, slice_index_or, take, Option, Some, None, option_and_then, ℤ, pos, ◌+ℤ◌, ◌*ℤ◌, unsigned_abs}
 use Rattle.std.specs.List.{All, flat_map}
 use Rattle.mpx_num.specs.Text.{number_text}
 use Rattle.mpx_num.specs.Types.{IsOutOfRange}
@@ -60,6 +60,23 @@ abbrev pub exact_from : List (List Statement) → Op → (index rank : ℕ) → 
 exact_from statements op index rank before [] = Some before
 exact_from statements op index rank before (place ∷ places) = option_and_then (λ z. exact_from statements op index (rank + 1) (combined op before z) places) (given_at statements index rank place)
 
+-- what is known of a number: the number, or that it is past 128 bits
+abbrev pub IsKnownAs : Option ℤ → ℤ → Type 0
+IsKnownAs (Some z) whole = z ≡ whole
+IsKnownAs None whole = 2 ^ 127 ≤ unsigned_abs whole
+
+-- a number combined with that which the statement with this place gives
+pub record IsCombined (statements : List (List Statement)) (op : Op) (index rank place : ℕ) (before exact : Option ℤ) : Type 0 where
+  pub given : ℤ
+  pub gives : given_at statements index rank place ≡ Some given
+  pub known : (b : ℤ) → IsKnownAs before b → IsKnownAs exact (combined op b given)
+
+-- what the statements with these places give, combined, one of each rank from rank 0 on
+pub record ComesTo (statements : List (List Statement)) (op : Op) (index : ℕ) (places : List ℕ) (exact : Option ℤ) : Type 0 where
+  pub whole : ℤ
+  pub comes : exact_from statements op index 0 (neutral op) places ≡ Some whole
+  pub known : IsKnownAs exact whole
+
 abbrev pub reduction_in : Call → Option Reduction
 reduction_in (C.Reduction reduction mode) = Some reduction
 reduction_in call = None
@@ -73,7 +90,7 @@ taken reduction ranks rank = ranks
 -- OVERFLOWS
 
 -- a rank's statement is the rank's own among those with these places, one of each rank, which post a sum or a product on `world`, as rank 0 has
--- it. What they give at an index, as far as the rank gets it, comes to a number that is past the type
+-- it. What they give at an index, as far as the rank gets it, comes to a number that is past the type, be it told or past 128 bits
 pub record IsPast (statements : List (List Statement)) (rank : ℕ) (places : List ℕ) (index statement : ℕ) (ty : Ty) (exact : Option ℤ) : Type 0 where
   pub own : slice_get places rank ≡ Some statement
   pub place : ℕ
@@ -84,8 +101,10 @@ pub record IsPast (statements : List (List Statement)) (rank : ℕ) (places : Li
   pub reduction : Reduction
   pub reduces : reduction_in draft.call ≡ Some reduction
   pub typed : ty ≡ draft.ty
-  pub comes : (z : ℤ) → exact ≡ Some z → exact_from statements draft.op index 0 (neutral draft.op) (take (taken reduction (length places) rank) places) ≡ Some z
-  pub past : (z : ℤ) → exact ≡ Some z → IsOutOfRange ty z
+  pub whole : ℤ
+  pub comes : exact_from statements draft.op index 0 (neutral draft.op) (take (taken reduction (length places) rank) places) ≡ Some whole
+  pub known : IsKnownAs exact whole
+  pub past : IsOutOfRange ty whole
 
 abbrev pub IsOverflow : List (List Statement) → Overflow → Type 0
 IsOverflow statements o = IsPast statements o.rank o.places.items o.index o.statement o.ty o.exact

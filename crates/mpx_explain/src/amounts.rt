@@ -1,53 +1,41 @@
 //! Of which two ranks the one sends another number of items than the other awaits.
 
 use crate::aspects::{Share, items_of};
+use crate::size::push_value;
 use join_core::OutOfMemory;
 use mpx_kind::Exchange;
-use std::alloc::Global;
 
-/// The first two ranks of which the one sends what the other doesn't await.
-pub(crate) fn unmet(
-    alloc: Global,
+/// Adds the first two ranks of which the one sends what the other doesn't await.
+pub(crate) fn push_unmet(
     exchange: Exchange,
     shares: &[Share<'_>],
-) -> Result<Option<String>, OutOfMemory> {
+    told: &mut String,
+) -> Result<(), OutOfMemory> {
     for from in shares {
-        if let Some(told) = unmet_from(alloc, exchange, from, shares)? {
-            return Ok(Some(told));
+        if let Some((sent, to, awaited)) = unmet_from(exchange, from, shares) {
+            push_value("rank ", i128::from(from.rank), " sends ", told)?;
+            push_value("", sent, " to rank ", told)?;
+            push_value("", i128::from(to), ", which awaits ", told)?;
+            return push_value("", awaited, "", told);
         }
     }
-    Ok(None)
+    Ok(())
 }
 
-// The first rank that awaits something else of this one than it sends.
+// What this one sends to the first rank that awaits something else, that rank, and what it awaits, where both numbers are there.
 fn unmet_from(
-    alloc: Global,
     exchange: Exchange,
     from: &Share<'_>,
     shares: &[Share<'_>],
-) -> Result<Option<String>, OutOfMemory> {
+) -> Option<(i128, u8, i128)> {
     for to in shares {
         let sent = sent(exchange, from, to);
         let awaited = awaited(exchange, from, to);
         if sent != awaited {
-            return between(alloc, from.rank, sent, to.rank, awaited);
+            return Some((sent?, to.rank, awaited?));
         }
     }
-    Ok(None)
-}
-
-// Where both numbers are there.
-fn between(
-    alloc: Global,
-    from: u8,
-    sent: Option<i128>,
-    to: u8,
-    awaited: Option<i128>,
-) -> Result<Option<String>, OutOfMemory> {
-    let (Some(sent), Some(awaited)) = (sent, awaited) else {
-        return Ok(None);
-    };
-    Ok(Some(format!(in alloc; "rank {from} sends {sent} to rank {to}, which awaits {awaited}")?))
+    None
 }
 
 // How many items the one sends to the other; none where it sends none there by the kind of call.

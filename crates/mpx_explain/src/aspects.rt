@@ -1,10 +1,10 @@
 //! What ranks may give differently to one call, and what each gives, in words.
 
 use crate::naming::{call_word, operation_word, type_word};
+use crate::size::{push_counted, push_value};
 use join_core::OutOfMemory;
 use mpx_kind::{Exchange, Kind, Reduction};
 use mpx_post::Draft;
-use std::alloc::Global;
 
 /// What a rank gives to a call.
 #[derive(Drop)]
@@ -77,43 +77,44 @@ pub(crate) fn items_of(draft: &Draft) -> usize {
     draft.items.as_slice().len() / draft.ty.item_len().max(1)
 }
 
-/// What the draft gives.
-pub(crate) fn says(alloc: Global, aspect: Aspect, draft: &Draft) -> Result<String, OutOfMemory> {
+/// Adds what the draft gives.
+pub(crate) fn push_says(
+    aspect: Aspect,
+    draft: &Draft,
+    told: &mut String,
+) -> Result<(), OutOfMemory> {
     match aspect {
-        Aspect::Call => word(alloc, "calls", call_word(draft.call.kind())),
-        Aspect::Root => number(alloc, "root", draft.root),
-        Aspect::Operation => word(alloc, "gives", operation_word(draft.op)),
-        Aspect::ItemType => word(alloc, "gives", type_word(draft.ty)),
-        Aspect::Items | Aspect::Between(_) => items(alloc, items_of(draft)),
-        Aspect::Count => number(alloc, "COUNT", first(draft.rcounts.as_slice())),
-        Aspect::Counts => counts(alloc, draft.rcounts.as_slice()),
+        Aspect::Call => push_word("calls ", call_word(draft.call.kind()), told),
+        Aspect::Root => push_value("gives root ", draft.root, "", told),
+        Aspect::Operation => push_word("gives ", operation_word(draft.op), told),
+        Aspect::ItemType => push_word("gives ", type_word(draft.ty), told),
+        Aspect::Items | Aspect::Between(_) => push_items(items_of(draft), told),
+        Aspect::Count => push_value("gives COUNT ", first(draft.rcounts.as_slice()), "", told),
+        Aspect::Counts => push_counts(draft.rcounts.as_slice(), told),
     }
 }
 
-fn word(alloc: Global, verb: &str, word: &str) -> Result<String, OutOfMemory> {
-    Ok(format!(in alloc; "{verb} {word}")?)
+fn push_word(verb: &str, word: &str, told: &mut String) -> Result<(), OutOfMemory> {
+    told.push_str(verb)?;
+    told.push_str(word)?;
+    Ok(())
 }
 
-fn number(alloc: Global, what: &str, number: i128) -> Result<String, OutOfMemory> {
-    Ok(format!(in alloc; "gives {what} {number}")?)
-}
-
-fn items(alloc: Global, number: usize) -> Result<String, OutOfMemory> {
-    let noun = if number == 1 { "item" } else { "items" };
-    Ok(format!(in alloc; "gives {number} {noun}")?)
+fn push_items(number: usize, told: &mut String) -> Result<(), OutOfMemory> {
+    told.push_str("gives ")?;
+    push_counted(number, "item", told)
 }
 
 fn first(counts: &[i128]) -> i128 {
     counts.first().copied().unwrap_or(0)
 }
 
-fn counts(alloc: Global, counts: &[i128]) -> Result<String, OutOfMemory> {
-    let mut told = String::from_str(alloc, "gives RCOUNTS")?;
+fn push_counts(counts: &[i128], told: &mut String) -> Result<(), OutOfMemory> {
+    told.push_str("gives RCOUNTS")?;
     let mut between = " ";
     for count in counts {
-        let text = format!(in alloc; "{between}{count}")?;
-        told.push_str(text.as_str())?;
+        push_value(between, *count, "", told)?;
         between = ",";
     }
-    Ok(told)
+    Ok(())
 }

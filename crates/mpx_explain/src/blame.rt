@@ -1,9 +1,9 @@
 //! Which word of a refused line is to blame, found by trials of the line with other words. Nothing is claimed of it.
 use crate::forms::{Misfit, form_of, misfit_of};
-use crate::meant::is_foreign_type;
+use crate::trials::{Change, RANKS, fault_of};
 use join_core::OutOfMemory;
 use mpx_num::Ops;
-use mpx_script::{ReadScriptError, ScriptError, ScriptFault, read_script};
+use mpx_script::{ScriptError, ScriptFault};
 use std::alloc::Global;
 
 /// A word of a line, and its place in it, from 1 on.
@@ -11,23 +11,6 @@ use std::alloc::Global;
 pub struct Blamed {
     pub place: usize,
     pub word: String,
-}
-
-// What is changed of a line's words, whose places are counted from 0 on.
-#[derive(Clone, Copy, Drop)]
-enum Change {
-    /// So many words are left.
-    Cut(usize),
-    /// Another word at this place.
-    One(usize, &'static str),
-    /// One more word, before that at this place.
-    More(usize, &'static str),
-    /// The same, and a type of scripts for each of programs.
-    MoreTyped(usize, &'static str),
-    /// A number at this place and in each one behind it, but for operations and types.
-    Numbers(usize),
-    /// A number at this place and in each one behind it up to an arrow, but for operations and types.
-    NumbersToArrow(usize),
 }
 
 // In a line of more words than these none is to blame.
@@ -59,12 +42,8 @@ pub fn word_to_blame(
     }
 }
 
-/// The word at this place of a line, from 0 on.
-pub(crate) fn blamed_at(
-    alloc: Global,
-    line: &Line<'_>,
-    place: usize,
-) -> Result<Option<Blamed>, OutOfMemory> {
+// The word at this place of a line, from 0 on.
+fn blamed_at(alloc: Global, line: &Line<'_>, place: usize) -> Result<Option<Blamed>, OutOfMemory> {
     match line.words.get(place) {
         Some(word) => Ok(Some(Blamed {
             place: place.saturating_add(1),
@@ -234,8 +213,8 @@ fn lacks(
 }
 
 fn stand_in(part: &str) -> Option<&'static str> {
-    for (name, word) in STAND_INS {
-        if name == part {
+    for (name, word) in &STAND_INS {
+        if *name == part {
             return Some(word);
         }
     }
@@ -327,65 +306,4 @@ fn unbound(
         }
     }
     Ok(None)
-}
-
-// Before a line that is tried alone.
-const RANKS: &str = "ranks 64\n";
-
-// What a line of changed words is refused for behind such lines.
-fn fault_of(
-    alloc: Global,
-    before: &str,
-    words: &[&str],
-    change: Change,
-    ops: &Ops,
-) -> Result<Option<ScriptFault>, OutOfMemory> {
-    let text = tried(alloc, before, words, change, ops)?;
-    match read_script(alloc, text.as_bytes(), ops) {
-        Ok(_) => Ok(None),
-        Err(ReadScriptError::Refused(refusal)) => Ok(Some(refusal.what)),
-        Err(ReadScriptError::OutOfMemory) => Err(OutOfMemory),
-    }
-}
-
-// Whether the word is an operation, one of the job's own too, or a type.
-fn is_named(word: &str, ops: &Ops) -> bool {
-    NAMED.contains(&word) || ops.place_named(word.as_bytes()).is_some()
-}
-
-const NAMED: [&str; 21] = [
-    "max", "min", "sum", "prod", "land", "lor", "lxor", "band", "bor", "bxor", "maxloc", "minloc",
-    "i8", "i16", "i32", "i64", "u8", "u16", "u32", "u64", "2int",
-];
-
-fn tried(
-    alloc: Global,
-    before: &str,
-    words: &[&str],
-    change: Change,
-    ops: &Ops,
-) -> Result<String, OutOfMemory> {
-    let mut text = String::from_str(alloc, before)?;
-    let mut is_behind_arrow = false;
-    for (place, word) in words.iter().enumerate() {
-        is_behind_arrow |= *word == "->";
-        if let Change::More(at, other) | Change::MoreTyped(at, other) = change {
-            if place == at {
-                text.push_str(other)?;
-                text.push_str(" ")?;
-            }
-        }
-        let word = match change {
-            Change::MoreTyped(_, _) if is_foreign_type(alloc, word)? => "i32",
-            Change::Cut(count) if place >= count => "",
-            Change::One(at, other) if place == at => other,
-            Change::Numbers(from) if place >= from && !is_named(word, ops) => "0",
-            Change::NumbersToArrow(from)
-                if place >= from && !is_behind_arrow && !is_named(word, ops) => "0",
-            _ => *word,
-        };
-        text.push_str(word)?;
-        text.push_str(" ")?;
-    }
-    Ok(text)
 }

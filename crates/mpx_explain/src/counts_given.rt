@@ -1,11 +1,11 @@
 //! What is wrong with the counts of a refused call.
 
 use crate::given::Place;
-use crate::size::counted;
+use crate::size::push_counted;
 use join_core::OutOfMemory;
 use mpx_kind::{Kind, Neighbourhood, Number};
+use mpx_num::push_number;
 use mpx_post::Draft;
-use std::alloc::Global;
 
 // So many items a call has at most, and so great is a count.
 const MOST: usize = 4096;
@@ -18,25 +18,33 @@ struct List<'s> {
     asked: Number,
 }
 
-/// Which list of counts has another length than the call asks for, and what that is: on `world` the list that is wrong, elsewhere each.
-pub(crate) fn counts(
-    alloc: Global,
+/// Adds which list of counts has another length than the call asks for, and what that is: on `world` the list that is wrong, elsewhere each.
+pub(crate) fn push_counts(
     at: &Place<'_>,
     draft: &Draft,
-) -> Result<Option<String>, OutOfMemory> {
+    told: &mut String,
+) -> Result<(), OutOfMemory> {
     let sent = sent_list(draft);
     let received = received_list(draft);
-    let is_root = draft.root == i128::from(at.rank);
     if at.is_world() {
-        for list in [sent, received] {
-            if let Some(wanted) = wanted(list.asked, at.ranks, is_root) {
-                if list.counts.len() != wanted {
-                    return of_length(alloc, at, list, wanted);
-                }
-            }
+        let is_root = draft.root == i128::from(at.rank);
+        if let Some(wanted) = other_length(sent, at.ranks, is_root) {
+            return push_wrong_length(at, sent, wanted, told);
+        }
+        if let Some(wanted) = other_length(received, at.ranks, is_root) {
+            return push_wrong_length(at, received, wanted, told);
         }
     }
-    of_lists(alloc, sent, received)
+    push_asked(sent, told)?;
+    push_asked(received, told)
+}
+
+// How many counts are wanted on `world` with so many ranks, at the root or elsewhere, where a list has another number.
+fn other_length(list: List<'_>, ranks: u8, is_root: bool) -> Option<usize> {
+    match wanted(list.asked, ranks, is_root) {
+        Some(wanted) if list.counts.len() != wanted => Some(wanted),
+        _ => None,
+    }
 }
 
 fn sent_list(draft: &Draft) -> List<'_> {
@@ -87,83 +95,91 @@ fn wanted(asked: Number, ranks: u8, is_root: bool) -> Option<usize> {
     }
 }
 
-// What is wrong with a list, of which so many counts are wanted.
-fn of_length(
-    alloc: Global,
+// Adds what is wrong with a list, of which so many counts are wanted.
+fn push_wrong_length(
     at: &Place<'_>,
     list: List<'_>,
     wanted: usize,
-) -> Result<Option<String>, OutOfMemory> {
-    let has = length(alloc, list)?;
+    told: &mut String,
+) -> Result<(), OutOfMemory> {
+    push_length(list, told)?;
     if wanted == 0 {
-        return Ok(Some(format!(in alloc; "{has}, the root alone gives any")?));
+        return Ok(told.push_str(", the root alone gives any")?);
     }
-    let ranks = counted(alloc, usize::from(at.ranks), "rank")?;
-    Ok(Some(format!(in alloc; "{has}, world has {ranks}")?))
+    told.push_str(", world has ")?;
+    push_counted(usize::from(at.ranks), "rank", told)
 }
 
-// The list's name, and how many counts it has.
-fn length(alloc: Global, list: List<'_>) -> Result<String, OutOfMemory> {
-    let name = list.name;
+// Adds the list's name, and how many counts it has.
+fn push_length(list: List<'_>, told: &mut String) -> Result<(), OutOfMemory> {
+    told.push_str(list.name)?;
+    told.push_str(" has ")?;
     if list.counts.is_empty() {
-        return Ok(format!(in alloc; "{name} has no count")?);
+        return Ok(told.push_str("no count")?);
     }
-    let counts = counted(alloc, list.counts.len(), "count")?;
-    Ok(format!(in alloc; "{name} has {counts}")?)
+    push_counted(list.counts.len(), "count", told)
 }
 
-// How many counts the lists have, and what is asked for.
-fn of_lists(
-    alloc: Global,
-    sent: List<'_>,
-    received: List<'_>,
-) -> Result<Option<String>, OutOfMemory> {
-    let sent = asked_of(alloc, sent)?;
-    let received = asked_of(alloc, received)?;
-    match (sent, received) {
-        (Some(sent), Some(received)) => Ok(Some(format!(in alloc; "{sent}; {received}")?)),
-        (Some(told), None) | (None, Some(told)) => Ok(Some(told)),
-        (None, None) => Ok(None),
-    }
-}
-
-// How many counts a list has, and what is asked for, where it is no single count.
-fn asked_of(alloc: Global, list: List<'_>) -> Result<Option<String>, OutOfMemory> {
-    let asked = match list.asked {
-        Number::Zero | Number::One | Number::OneAtRoot => return Ok(None),
-        Number::Members => "one for each rank is asked for",
-        Number::MembersAtRoot => "one for each rank is asked for at the root, none elsewhere",
-        Number::Indegree => "one for each source is asked for",
-        Number::Outdegree => "one for each destination is asked for",
+// Adds how many counts a list has, and what is asked for, where it is no single count, behind another.
+fn push_asked(list: List<'_>, told: &mut String) -> Result<(), OutOfMemory> {
+    let Some(asked) = asked_of(list.asked) else {
+        return Ok(());
     };
-    let has = length(alloc, list)?;
-    Ok(Some(format!(in alloc; "{has}, {asked}")?))
+    if !told.is_empty() {
+        told.push_str("; ")?;
+    }
+    push_length(list, told)?;
+    told.push_str(asked)?;
+    Ok(())
 }
 
-/// How many items are too many, or which count is too great or below 0.
-pub(crate) fn too_many(alloc: Global, draft: &Draft) -> Result<Option<String>, OutOfMemory> {
+fn asked_of(asked: Number) -> Option<&'static str> {
+    match asked {
+        Number::Zero | Number::One | Number::OneAtRoot => None,
+        Number::Members => Some(", one for each rank is asked for"),
+        Number::MembersAtRoot => {
+            Some(", one for each rank is asked for at the root, none elsewhere")
+        }
+        Number::Indegree => Some(", one for each source is asked for"),
+        Number::Outdegree => Some(", one for each destination is asked for"),
+    }
+}
+
+/// Adds how many items are too many, or which count is too great or below 0.
+pub(crate) fn push_too_many(draft: &Draft, told: &mut String) -> Result<(), OutOfMemory> {
     let items = draft.items.as_slice().len() / draft.ty.item_len().max(1);
     if items > MOST {
-        return Ok(Some(format!(in alloc; "gave {items} items, at most {MOST} are taken")?));
+        told.push_str("gave ")?;
+        push_number(told, items as i128)?;
+        return Ok(told.push_str(" items, at most 4096 are taken")?);
     }
-    for list in [sent_list(draft), received_list(draft)] {
-        for count in list.counts {
-            if *count < 0 || *count > MOST as i128 {
-                return strange_count(alloc, list, *count);
-            }
-        }
+    let sent = sent_list(draft);
+    if let Some(count) = strange_in(sent.counts) {
+        return push_strange(sent, count, told);
     }
-    Ok(None)
+    let received = received_list(draft);
+    match strange_in(received.counts) {
+        Some(count) => push_strange(received, count, told),
+        None => Ok(()),
+    }
 }
 
-fn strange_count(
-    alloc: Global,
-    list: List<'_>,
-    count: i128,
-) -> Result<Option<String>, OutOfMemory> {
-    let name = list.name;
-    let verb = if is_one(list.asked) { "is" } else { "has" };
-    Ok(Some(format!(in alloc; "{name} {verb} {count}, counts go from 0 to {MOST}")?))
+// The first of these counts that is too great or below 0.
+fn strange_in(counts: &[i128]) -> Option<i128> {
+    for count in counts {
+        if *count < 0 || *count > MOST as i128 {
+            return Some(*count);
+        }
+    }
+    None
+}
+
+fn push_strange(list: List<'_>, count: i128, told: &mut String) -> Result<(), OutOfMemory> {
+    told.push_str(list.name)?;
+    told.push_str(if is_one(list.asked) { " is " } else { " has " })?;
+    push_number(told, count)?;
+    told.push_str(", counts go from 0 to 4096")?;
+    Ok(())
 }
 
 fn is_one(asked: Number) -> bool {

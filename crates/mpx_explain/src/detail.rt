@@ -1,8 +1,9 @@
 //! What is told of a refused line beside its refusal: which word is missing, one too many or wrong, and what was meant, perhaps.
 
-use crate::blame::{Blamed, Line, blamed_at, line_in, missing_beside_type, missing_part, place_of};
+use crate::blame::{Line, line_in, missing_beside_type, missing_part, place_of};
 use crate::forms::{Form, Misfit, form_of, misfit_of};
 use crate::meant::meant;
+use crate::size::push_value;
 use join_core::OutOfMemory;
 use mpx_num::Ops;
 use mpx_script::{ReadScriptError, ScriptError, ScriptFault, read_script};
@@ -83,20 +84,39 @@ fn by_form(alloc: Global, words: &[&str], misfit: Misfit) -> Result<Option<Strin
         return Ok(None);
     };
     let (parts, behind) = (form.parts, if form.starts { " -> D" } else { "" });
-    let mut told = format!(in alloc; "{statement} {parts}{behind}: ")?;
+    let mut told = String::new(alloc);
+    push_form(statement, parts, behind, &mut told)?;
+    push_misfit(words, misfit, &mut told)?;
+    Ok(Some(told))
+}
+
+fn push_form(
+    statement: &str,
+    parts: &str,
+    behind: &str,
+    told: &mut String,
+) -> Result<(), OutOfMemory> {
+    told.push_str(statement)?;
+    told.push_str(" ")?;
+    told.push_str(parts)?;
+    told.push_str(behind)?;
+    told.push_str(": ")?;
+    Ok(())
+}
+
+fn push_misfit(words: &[&str], misfit: Misfit, told: &mut String) -> Result<(), OutOfMemory> {
     match misfit {
         Misfit::Missing(part, place) => {
             told.push_str(part)?;
             told.push_str(" is missing")?;
-            push_shown(words, place, " before ", &mut told)?;
+            push_shown(words, place, " before ", told)
         }
         Misfit::Surplus(place) => {
             told.push_str("a word too many")?;
-            push_shown(words, place, ": ", &mut told)?;
+            push_shown(words, place, ": ", told)
         }
-        Misfit::Joined(_) => told.push_str("a blank is missing behind ->")?,
+        Misfit::Joined(_) => Ok(told.push_str("a blank is missing behind ->")?),
     }
-    Ok(Some(told))
 }
 
 // Adds the word at this place of a line, where it can be shown.
@@ -130,25 +150,48 @@ fn wrong_word(
     let Some(place) = place_of(alloc, line, what, ops)? else {
         return Ok(None);
     };
-    let Some(blamed) = blamed_at(alloc, line, place)? else {
-        return Ok(None);
-    };
-    if !is_shown(blamed.word.as_bytes()) {
-        return Ok(None);
+    match line.words.get(place) {
+        Some(word) if is_shown(word.as_bytes()) => of_word(alloc, line, what, place, word, ops),
+        _ => Ok(None),
     }
-    let why = why_of(alloc, line, what, &blamed, ops)?;
-    if why.is_none() && what == ScriptFault::UnknownStatement {
+}
+
+// What is told of the word at this place, from 0 on.
+fn of_word(
+    alloc: Global,
+    line: &Line<'_>,
+    what: ScriptFault,
+    place: usize,
+    word: &str,
+    ops: &Ops,
+) -> Result<Option<String>, OutOfMemory> {
+    if let Some(why) = why_of(alloc, line, what, place, word, ops)? {
+        return Ok(Some(shown(alloc, place, word, why.as_str())?));
+    }
+    if what == ScriptFault::UnknownStatement {
         if let Some(told) = beside_type(alloc, line.words.as_slice(), ops)? {
             return Ok(Some(told));
         }
     }
-    let (place, word) = (blamed.place, blamed.word.as_str());
-    let more = match &why {
-        Some(why) => why.as_str(),
-        None => "",
-    };
-    let between = if more.is_empty() { "" } else { "; " };
-    Ok(Some(format!(in alloc; "word {place}: {word}{between}{more}")?))
+    Ok(Some(shown(alloc, place, word, "")?))
+}
+
+// A word at this place, from 0 on, and what is told of it.
+fn shown(alloc: Global, place: usize, word: &str, more: &str) -> Result<String, OutOfMemory> {
+    let mut told = String::new(alloc);
+    push_value("word ", place.saturating_add(1) as i128, ": ", &mut told)?;
+    push_more(word, more, &mut told)?;
+    Ok(told)
+}
+
+// Adds a word, and more of it where there is any.
+fn push_more(word: &str, more: &str, told: &mut String) -> Result<(), OutOfMemory> {
+    told.push_str(word)?;
+    if !more.is_empty() {
+        told.push_str("; ")?;
+        told.push_str(more)?;
+    }
+    Ok(())
 }
 
 // What a line lacks that has a type of programs besides, and what was meant by that.
@@ -156,14 +199,23 @@ fn beside_type(alloc: Global, words: &[&str], ops: &Ops) -> Result<Option<String
     let Some((part, place)) = missing_beside_type(alloc, words, ops)? else {
         return Ok(None);
     };
-    let Some(told) = by_form(alloc, words, Misfit::Missing(part, place))? else {
-        return Ok(None);
-    };
-    let word = words.get(place).copied().unwrap_or("");
-    match meant(alloc, word, false)? {
-        Some(meant) => Ok(Some(format!(in alloc; "{told}; {meant}")?)),
-        None => Ok(Some(told)),
+    let told = by_form(alloc, words, Misfit::Missing(part, place))?;
+    match told {
+        Some(mut told) => {
+            push_meant(alloc, words.get(place).copied().unwrap_or(""), &mut told)?;
+            Ok(Some(told))
+        }
+        None => Ok(None),
     }
+}
+
+// Adds what was meant by a word that is no statement, perhaps.
+fn push_meant(alloc: Global, word: &str, told: &mut String) -> Result<(), OutOfMemory> {
+    if let Some(meant) = meant(alloc, word, false)? {
+        told.push_str("; ")?;
+        told.push_str(meant.as_str())?;
+    }
+    Ok(())
 }
 
 // What was meant by a word, perhaps, or its limits.
@@ -171,12 +223,13 @@ fn why_of(
     alloc: Global,
     line: &Line<'_>,
     what: ScriptFault,
-    blamed: &Blamed,
+    place: usize,
+    word: &str,
     ops: &Ops,
 ) -> Result<Option<String>, OutOfMemory> {
     match what {
         // (a line's second word is its statement)
-        ScriptFault::UnknownStatement => meant(alloc, blamed.word.as_str(), blamed.place == 2),
+        ScriptFault::UnknownStatement => meant(alloc, word, place == 1),
         ScriptFault::RanksOutOfRange => {
             Ok(Some(String::from_str(alloc, "there are 1 to 64 ranks")?))
         }
@@ -202,6 +255,12 @@ fn ranks_of(alloc: Global, ranks: u8) -> Result<String, OutOfMemory> {
     if ranks == 1 {
         return Ok(String::from_str(alloc, "there is rank 0 alone")?);
     }
-    let last = ranks.saturating_sub(1);
-    Ok(format!(in alloc; "there are ranks 0 to {last}")?)
+    let mut told = String::new(alloc);
+    push_value(
+        "there are ranks 0 to ",
+        i128::from(ranks.saturating_sub(1)),
+        "",
+        &mut told,
+    )?;
+    Ok(told)
 }

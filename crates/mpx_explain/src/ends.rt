@@ -6,8 +6,8 @@ ghost use Rattle.mpx_explain.specs.RunEnds.{AreLacked, ComesFirst, IsThere, Lack
 
 use crate::ended::{EndedRun, node_at};
 use crate::lacking::lacking_call;
-use crate::standing::{is_marked, refused_in, waits_at};
-use crate::walk::{Awaited, Walk};
+use crate::standing::{refused_in, waits_at};
+use crate::walk::{Awaited, Walk, walk_to};
 use join_core::OutOfMemory;
 use mpx_eval::{MissingCall, WaitingRank};
 use mpx_node::Node;
@@ -142,15 +142,77 @@ fn found_at(
     ensures lacked { IfOk result (λ found. AreLacked run.now found.waiting) }
     ensures earlier { OnOk result (All (ComesFirst run.now) earlier.old.items → All (ComesFirst run.now) earlier.new.items) }
 {
-    let Some(node) = node_at(run, rank) else {
-        return Ok(found_with(rank, statement, Vec::new(alloc), false));
-    };
+    match node_at(run, rank) {
+        Some(node) => found_by(alloc, run, node, rank, statement, refused, earlier),
+        None => Ok(found_with(rank, statement, Vec::new(alloc), false)),
+    }
+}
+
+// The same of a rank with this node, by what its words stand for there.
+fn found_by(
+    alloc: Global,
+    run: &EndedRun<'_>,
+    node: &Node,
+    rank: u8,
+    statement: usize,
+    refused: &[bool],
+    earlier: &mut Vec<EarlierCall>,
+) -> Result<Found, OutOfMemory>
+    requires waits { waits_at run.now rank ≡ Some statement }
+    requires own { slice_get run.now.nodes.now rank ≡ Some node }
+    ensures place { IfOk result (λ found. where_of found.waiting ≡ (rank, statement)) }
+    ensures lacked { IfOk result (λ found. AreLacked run.now found.waiting) }
+    ensures earlier { OnOk result (All (ComesFirst run.now) earlier.old.items → All (ComesFirst run.now) earlier.new.items) }
+{
     let statements = run.script.statements(rank);
     let mut walk = walk_to(alloc, node, statements, refused, statement)?;
-    let asked = asked_at(alloc, node, statements, statement, &mut walk)?;
+    let found = found_behind(alloc, run, node, rank, statement, &mut walk, earlier);
+    drop(walk);
+    found
+}
+
+// The same behind the statements before, by the calls that are asked for.
+fn found_behind(
+    alloc: Global,
+    run: &EndedRun<'_>,
+    node: &Node,
+    rank: u8,
+    statement: usize,
+    walk: &mut Walk,
+    earlier: &mut Vec<EarlierCall>,
+) -> Result<Found, OutOfMemory>
+    requires waits { waits_at run.now rank ≡ Some statement }
+    requires own { slice_get run.now.nodes.now rank ≡ Some node }
+    ensures place { IfOk result (λ found. where_of found.waiting ≡ (rank, statement)) }
+    ensures lacked { IfOk result (λ found. AreLacked run.now found.waiting) }
+    ensures earlier { OnOk result (All (ComesFirst run.now) earlier.old.items → All (ComesFirst run.now) earlier.new.items) }
+{
+    let asked = asked_at(alloc, node, run.script.statements(rank), statement, walk)?;
+    let found = found_among(alloc, run, node, rank, statement, &asked, walk, earlier);
+    drop(asked);
+    found
+}
+
+// The same, where these calls are asked for.
+fn found_among(
+    alloc: Global,
+    run: &EndedRun<'_>,
+    node: &Node,
+    rank: u8,
+    statement: usize,
+    asked: &[Awaited],
+    walk: &Walk,
+    earlier: &mut Vec<EarlierCall>,
+) -> Result<Found, OutOfMemory>
+    requires waits { waits_at run.now rank ≡ Some statement }
+    requires own { slice_get run.now.nodes.now rank ≡ Some node }
+    ensures place { IfOk result (λ found. where_of found.waiting ≡ (rank, statement)) }
+    ensures lacked { IfOk result (λ found. AreLacked run.now found.waiting) }
+    ensures earlier { OnOk result (All (ComesFirst run.now) earlier.old.items → All (ComesFirst run.now) earlier.new.items) }
+{
     let many = earlier.len();
-    let calls = push_asked(alloc, run, node, rank, statement, &asked, &walk, earlier)?;
-    let served = is_served(&asked, &calls, earlier.len() == many);
+    let calls = push_asked(alloc, run, node, rank, statement, asked, walk, earlier)?;
+    let served = is_served(asked, &calls, earlier.len() == many);
     Ok(found_with(rank, statement, calls, served))
 }
 
@@ -171,23 +233,6 @@ fn found_with(rank: u8, statement: usize, calls: Vec<MissingCall>, is_served: bo
 // Whether posts are lacking of none of the calls that are asked for, and of no earlier one.
 fn is_served(asked: &[Awaited], calls: &[MissingCall], no_earlier: bool) -> bool {
     !asked.is_empty() && calls.is_empty() && no_earlier
-}
-
-// What a rank's words stand for before the statement at this place.
-fn walk_to(
-    alloc: Global,
-    node: &Node,
-    statements: &[Statement],
-    refused: &[bool],
-    place: usize,
-) -> Result<Walk, OutOfMemory> {
-    let mut walk = Walk::new(alloc)?;
-    for (at, statement) in statements.iter().enumerate().take(place) {
-        if !is_marked(refused, at) {
-            walk.pass(alloc, node, at, statement)?;
-        }
-    }
-    Ok(walk)
 }
 
 // The calls that the statement at this place waits for.
@@ -278,19 +323,27 @@ fn push_earlier(
     let Some(call) = first_lacking(alloc, run, node, rank, asked)? else {
         return Ok(());
     };
-    let Some(made) = walk.statement_of(&call.name, call.call) else {
-        return Ok(());
-    };
-    if is_told(earlier, rank, made) {
-        return Ok(());
+    match untold(&call, walk, earlier, rank) {
+        Some(made) => Ok(earlier.push(EarlierCall {
+            rank,
+            statement,
+            made,
+            call,
+        })?),
+        None => {
+            drop(call);
+            Ok(())
+        }
     }
-    earlier.push(EarlierCall {
-        rank,
-        statement,
-        made,
-        call,
-    })?;
-    Ok(())
+}
+
+// The place of the statement that made a rank's call, where it is known, and the call isn't told already.
+fn untold(call: &MissingCall, walk: &Walk, earlier: &[EarlierCall], rank: u8) -> Option<usize> {
+    let made = walk.statement_of(&call.name, call.call)?;
+    if is_told(earlier, rank, made) {
+        return None;
+    }
+    Some(made)
 }
 
 // Whether the call that a rank's statement at this place made is told already.
@@ -312,9 +365,8 @@ fn first_lacking(
     ensures { IfOk result (λ found. IfSome found (λ c. LacksPosts run.now rank c)) }
 {
     for call in node.front(&asked.name)..asked.call {
-        let found = lacking_call(alloc, run, node, rank, asked, call)?;
-        if found.is_some() {
-            return Ok(found);
+        if let Some(found) = lacking_call(alloc, run, node, rank, asked, call)? {
+            return Ok(Some(found));
         }
     }
     Ok(None)

@@ -1,7 +1,7 @@
 //! Exact sums and products of what statements give on `world`.
-ghost use Rattle.std.specs.Prelude.{◌≡◌, ◌+◌, ◌∷◌, IfSome, IsSomeAnd, List, None, Some, ℕ, ℤ, bytes_eq, codes, cond, true};
+ghost use Rattle.std.specs.Prelude.{◌≡◌, ◌+ℤ◌, ◌*ℤ◌, IfSome, IsSomeAnd, None, Some, ℤ, bytes_eq, codes, cond, true};
 ghost use Rattle.std.specs.Option.{option_copied};
-ghost use Rattle.mpx_explain.specs.Overflows.{combined, exact_from, given_at, is_summed, neutral, posted_at, posted_by, reduction_in, taken};
+ghost use Rattle.mpx_explain.specs.Overflows.{ComesTo, IsCombined, IsKnownAs, combined, given_at, is_summed, neutral, posted_at, posted_by, reduction_in, taken};
 
 use mpx_kind::{Call, Reduction};
 use mpx_num::{Op, Ty};
@@ -48,11 +48,17 @@ pub(crate) fn taken(reduction: Reduction, ranks: usize, rank: u8) -> usize
     }
 }
 
-/// What the statements with these places give, from rank 0 on, combined; none where it is past 128 bits.
-pub(crate) fn exact_of(script: &Script, op: Op, index: usize, places: &[usize]) -> Option<i128>
-    ensures { IfSome result (λ z. exact_from script.now.statements op index 0 (neutral op) places.now ≡ Some z) }
+/// What the statements with these places give, from rank 0 on, combined: none where one gives no such number, or a sum is past 128 bits. Of a
+/// product that is past 128 bits the number is none.
+pub(crate) fn exact_of(
+    script: &Script,
+    op: Op,
+    index: usize,
+    places: &[usize],
+) -> Option<Option<i128>>
+    ensures { IfSome result (λ exact. ComesTo script.now.statements op index places.now exact) }
 {
-    let mut exact = Some(neutral(op));
+    let mut exact = Some(Some(neutral(op)));
     for rank in 0..places.len() {
         exact = step(script, op, index, rank, places[rank], exact);
     }
@@ -66,9 +72,9 @@ fn step(
     index: usize,
     rank: usize,
     place: usize,
-    before: Option<i128>,
-) -> Option<i128>
-    ensures { IfSome result (λ z. IsSomeAnd before (λ b. (more : List ℕ) → exact_from script.now.statements op index (rank + 1) z more ≡ exact_from script.now.statements op index rank b (place ∷ more))) }
+    before: Option<Option<i128>>,
+) -> Option<Option<i128>>
+    ensures { IfSome result (λ exact. IsSomeAnd before (λ b. IsCombined script.now.statements op index rank place b exact)) }
 {
     match before {
         Some(before) => with_given(op, before, given_at(script, rank, place, index)),
@@ -76,8 +82,8 @@ fn step(
     }
 }
 
-fn with_given(op: Op, before: i128, given: Option<i128>) -> Option<i128>
-    ensures { IfSome result (λ z. IsSomeAnd given (λ g. z ≡ combined op before g)) }
+fn with_given(op: Op, before: Option<i128>, given: Option<i128>) -> Option<Option<i128>>
+    ensures { IfSome result (λ exact. IsSomeAnd given (λ g. (b : ℤ) → IsKnownAs before b → IsKnownAs exact (combined op b g))) }
 {
     match given {
         Some(given) => combined(op, before, given),
@@ -94,13 +100,36 @@ fn neutral(op: Op) -> i128
     }
 }
 
-fn combined(op: Op, before: i128, given: i128) -> Option<i128>
-    ensures { IfSome result (λ z. z ≡ combined op before given) }
+fn combined(op: Op, before: Option<i128>, given: i128) -> Option<Option<i128>>
+    ensures { IfSome result (λ exact. (b : ℤ) → IsKnownAs before b → IsKnownAs exact (combined op b given)) }
 {
     match op {
-        Op::Prod => before.checked_mul(given),
-        _ => before.checked_add(given),
+        Op::Prod => Some(product(before, given)),
+        _ => sum(before, given),
     }
+}
+
+fn product(before: Option<i128>, given: i128) -> Option<i128>
+    ensures { (b : ℤ) → IsKnownAs before b → IsKnownAs result (b *ℤ given) }
+{
+    match before {
+        Some(before) => before.checked_mul(given),
+        None => far_product(given),
+    }
+}
+
+// A number that is past 128 bits, so many times.
+fn far_product(given: i128) -> Option<i128>
+    ensures { (b : ℤ) → IsKnownAs None b → IsKnownAs result (b *ℤ given) }
+{
+    if given == 0 { Some(0) } else { None }
+}
+
+fn sum(before: Option<i128>, given: i128) -> Option<Option<i128>>
+    ensures { IfSome result (λ exact. (b : ℤ) → IsKnownAs before b → IsKnownAs exact (b +ℤ given)) }
+{
+    let sum = before?.checked_add(given)?;
+    Some(Some(sum))
 }
 
 // The number with this index that the statement with this place gives.

@@ -1,8 +1,9 @@
 //! Who gives something else at a fault.
 
-use crate::amounts::unmet;
-use crate::aspects::{Aspect, Share, aspect_of, says};
+use crate::amounts::push_unmet;
+use crate::aspects::{Aspect, Share, aspect_of, push_says};
 use crate::numbering::numbers_on_world;
+use crate::size::push_value;
 use join_core::OutOfMemory;
 use mpx_eval::Complaint;
 use mpx_post::Draft;
@@ -19,47 +20,78 @@ struct Saying {
     text: String,
 }
 
-/// Which ranks give something else than the most to the call of a fault, or of which two ranks the one sends another number of items than the
-/// other awaits. It is told of blocking calls on `world` alone, and only where each rank has a line that tells this fault of its
-/// call with the same number there.
-pub(crate) fn minority(
+/// Adds which ranks give something else than the most to the call of a fault, or of which two ranks the one sends another number of items than
+/// the other awaits, to an empty text. It is told of blocking calls on `world` alone, and only where each rank has a line that tells this fault
+/// of its call with the same number there.
+pub(crate) fn push_minority(
     alloc: Global,
     script: &Script,
     complaint: &Complaint,
     all: &[Complaint],
-) -> Result<Option<String>, OutOfMemory> {
+    told: &mut String,
+) -> Result<(), OutOfMemory> {
     let Some(draft) = posted_on_world(script, complaint) else {
-        return Ok(None);
+        return Ok(());
     };
     let Some(aspect) = aspect_of(complaint.text.as_bytes(), draft) else {
-        return Ok(None);
+        return Ok(());
     };
     let shares = shares_of(alloc, script, complaint, all)?;
-    if shares.len() != usize::from(script.ranks()) {
-        return Ok(None);
+    let pushed = push_differing(alloc, script.ranks(), aspect, &shares, told);
+    drop(shares);
+    pushed
+}
+
+// The same of what these ranks give, where they are so many.
+fn push_differing(
+    alloc: Global,
+    ranks: u8,
+    aspect: Aspect,
+    shares: &[Share<'_>],
+    told: &mut String,
+) -> Result<(), OutOfMemory> {
+    if shares.len() != usize::from(ranks) {
+        return Ok(());
     }
     match aspect {
-        Aspect::Between(exchange) => unmet(alloc, exchange, &shares),
-        _ => by_most(alloc, aspect, &shares),
+        Aspect::Between(exchange) => push_unmet(exchange, shares, told),
+        _ => push_by_most(alloc, aspect, shares, told),
     }
 }
 
-// What the ranks give that don't give what most do; what each gives, where few ranks give nothing by most.
-fn by_most(
+// Adds what the ranks give that don't give what most do; what each gives, where few ranks give nothing by most.
+fn push_by_most(
     alloc: Global,
     aspect: Aspect,
     shares: &[Share<'_>],
-) -> Result<Option<String>, OutOfMemory> {
+    told: &mut String,
+) -> Result<(), OutOfMemory> {
     let said = all_said(alloc, aspect, shares)?;
-    let usual = usual(&said);
+    let pushed = push_unusual(&said, told);
+    drop(said);
+    pushed
+}
+
+fn push_unusual(said: &[Saying], told: &mut String) -> Result<(), OutOfMemory> {
+    let usual = usual(said);
     if usual.is_none() && said.len() > FEW_RANKS {
-        return Ok(None);
+        return Ok(());
     }
-    let told = told_of(alloc, &said, usual)?;
-    if told.is_empty() {
-        return Ok(None);
+    let is_alone = said.len().saturating_sub(alike(said, usual)) == 1;
+    for saying in said {
+        if usual != Some(saying.text.as_str()) {
+            push_saying(saying, is_alone, told)?;
+        }
     }
-    Ok(Some(told))
+    Ok(())
+}
+
+// How many say what is usual.
+fn alike(said: &[Saying], usual: Option<&str>) -> usize {
+    match usual {
+        Some(text) => times(said, text),
+        None => 0,
+    }
 }
 
 fn all_said(
@@ -68,14 +100,34 @@ fn all_said(
     shares: &[Share<'_>],
 ) -> Result<Vec<Saying>, OutOfMemory> {
     let mut said = Vec::new(alloc);
-    for share in shares {
-        let text = says(alloc, aspect, share.draft)?;
-        said.push(Saying {
-            rank: share.rank,
-            text,
-        })?;
+    match push_said(alloc, aspect, shares, &mut said) {
+        Ok(()) => Ok(said),
+        Err(e) => {
+            drop(said);
+            Err(e)
+        }
     }
-    Ok(said)
+}
+
+fn push_said(
+    alloc: Global,
+    aspect: Aspect,
+    shares: &[Share<'_>],
+    said: &mut Vec<Saying>,
+) -> Result<(), OutOfMemory> {
+    for share in shares {
+        said.push(saying_of(alloc, aspect, share)?)?;
+    }
+    Ok(())
+}
+
+fn saying_of(alloc: Global, aspect: Aspect, share: &Share<'_>) -> Result<Saying, OutOfMemory> {
+    let mut text = String::new(alloc);
+    push_says(aspect, share.draft, &mut text)?;
+    Ok(Saying {
+        rank: share.rank,
+        text,
+    })
 }
 
 // What most say; none where two things are said by as many ranks.
@@ -103,34 +155,13 @@ fn times(said: &[Saying], text: &str) -> usize {
         .count()
 }
 
-fn told_of(alloc: Global, said: &[Saying], usual: Option<&str>) -> Result<String, OutOfMemory> {
-    let alike = match usual {
-        Some(text) => times(said, text),
-        None => 0,
-    };
-    let is_alone = said.len().saturating_sub(alike) == 1;
-    let mut told = String::new(alloc);
-    for saying in said {
-        if usual != Some(saying.text.as_str()) {
-            push_saying(alloc, saying, is_alone, &mut told)?;
-        }
-    }
-    Ok(told)
-}
-
-// Adds what a rank says, which is alone in that or not.
-fn push_saying(
-    alloc: Global,
-    saying: &Saying,
-    is_alone: bool,
-    told: &mut String,
-) -> Result<(), OutOfMemory> {
-    let rank = saying.rank;
+// Adds what a rank says, which is alone in that or not, behind others.
+fn push_saying(saying: &Saying, is_alone: bool, told: &mut String) -> Result<(), OutOfMemory> {
     let between = if told.is_empty() { "" } else { ", " };
-    let alone = if is_alone { " alone" } else { "" };
-    let text = saying.text.as_str();
-    let text = format!(in alloc; "{between}rank {rank}{alone} {text}")?;
-    told.push_str(text.as_str())?;
+    told.push_str(between)?;
+    let alone = if is_alone { " alone " } else { " " };
+    push_value("rank ", i128::from(saying.rank), alone, told)?;
+    told.push_str(saying.text.as_str())?;
     Ok(())
 }
 

@@ -1,15 +1,17 @@
 //! What a refused statement gives, in words.
 
-use crate::counts_given::{counts, too_many};
-use crate::making_given::{bad_edge, bad_group, bad_split, bad_tag, strange_rank, too_many_edges};
+use crate::counts_given::{push_counts, push_too_many};
+use crate::making_given::{
+    push_bad_edge, push_bad_group, push_bad_split, push_bad_tag, push_strange_rank,
+    push_too_many_edges,
+};
 use crate::naming::{operation_word, type_word};
-use crate::size::{counted, world_ranks};
+use crate::size::{push_counted, push_world_ranks};
 use join_core::OutOfMemory;
 use mpx_kind::{Call, Exchange, Neighbourhood, Reduction};
-use mpx_num::is_in_range;
+use mpx_num::{is_in_range, push_number};
 use mpx_post::Draft;
 use mpx_script::{Posting, Question, Script, Statement};
-use std::alloc::Global;
 
 /// Which rank's statement was refused, on which communicator by its word, and as what.
 #[derive(Clone, Copy, Drop)]
@@ -32,16 +34,16 @@ impl Place<'_> {
     }
 }
 
-/// What a refused call gives, and what was expected, as far as its statement tells it: none where it doesn't.
-pub(crate) fn given(
-    alloc: Global,
+/// Adds what a refused call gives, and what was expected, as far as its statement tells it, to an empty text.
+pub(crate) fn push_given(
     script: &Script,
     rank: u8,
     statement: &Statement,
     refusal: &[u8],
-) -> Result<Option<String>, OutOfMemory> {
+    told: &mut String,
+) -> Result<(), OutOfMemory> {
     let Some(on) = communicator_of(statement) else {
-        return Ok(None);
+        return Ok(());
     };
     let at = Place {
         ranks: script.ranks(),
@@ -49,9 +51,9 @@ pub(crate) fn given(
         on,
         refusal,
     };
-    match by_name(alloc, &at)? {
-        Some(told) => Ok(Some(told)),
-        None => of_statement(alloc, &at, statement),
+    match meaning_of(&at) {
+        Some(meaning) => Ok(told.push_str(meaning)?),
+        None => push_statement(&at, statement, told),
     }
 }
 
@@ -66,74 +68,84 @@ fn communicator_of(statement: &Statement) -> Option<&[u8]> {
     }
 }
 
-fn of_statement(
-    alloc: Global,
+fn push_statement(
     at: &Place<'_>,
     statement: &Statement,
-) -> Result<Option<String>, OutOfMemory> {
+    told: &mut String,
+) -> Result<(), OutOfMemory> {
     match statement {
-        Statement::Post(Posting::Call { draft, .. }) => of_draft(alloc, at, draft),
-        Statement::Post(Posting::Start { draft, .. }) => of_draft(alloc, at, draft),
-        Statement::Post(Posting::New { draft, .. }) => of_new(alloc, at, draft),
+        Statement::Post(Posting::Call { draft, .. }) => push_draft(at, draft, told),
+        Statement::Post(Posting::Start { draft, .. }) => push_draft(at, draft, told),
+        Statement::Post(Posting::New { draft, .. }) => push_new(at, draft, told),
         Statement::Post(Posting::CreateGroup { tag, ranks, .. }) => {
-            if at.is("refused BadTag") {
-                return bad_tag(alloc, *tag);
-            }
-            if at.is("refused BadGroup") {
-                return bad_group(alloc, at, ranks.as_slice(), true);
-            }
-            Ok(None)
+            push_gathering(at, *tag, ranks.as_slice(), told)
         }
         Statement::Ask(Question::Translate { ranks, .. }) => {
             if at.is("refused RankOutOfRange") {
-                return strange_rank(alloc, at, ranks.as_slice());
+                return push_strange_rank(at, ranks.as_slice(), told);
             }
-            Ok(None)
+            Ok(())
         }
-        Statement::Ask(_) => Ok(None),
-        Statement::Wait(_) => Ok(None),
+        Statement::Ask(_) => Ok(()),
+        Statement::Wait(_) => Ok(()),
     }
 }
 
 // The refusals that a call tells more of, each by what it gives. (Names that are compared one by one: a match over so many texts is dear to
 // prove.)
-fn of_draft(alloc: Global, at: &Place<'_>, draft: &Draft) -> Result<Option<String>, OutOfMemory> {
+fn push_draft(at: &Place<'_>, draft: &Draft, told: &mut String) -> Result<(), OutOfMemory> {
     if at.is("refused RootOutOfRange") {
-        return root(alloc, at, draft);
+        return push_root(at, draft, told);
     }
     if at.is("refused OpNotForType") {
-        return operation(alloc, draft);
+        return push_operation(draft, told);
     }
     if at.is("refused ItemsLength") {
-        return items(alloc, at, draft);
+        return push_items(at, draft, told);
     }
     if at.is("refused ItemOutOfRange") {
-        return number(alloc, draft);
+        return push_outside(draft, told);
     }
     if at.is("refused CountsLength") {
-        return counts(alloc, at, draft);
+        return push_counts(at, draft, told);
     }
     if at.is("refused TooManyItems") {
-        return too_many(alloc, draft);
+        return push_too_many(draft, told);
     }
-    Ok(None)
+    Ok(())
 }
 
 // Those of a call that makes a communicator.
-fn of_new(alloc: Global, at: &Place<'_>, draft: &Draft) -> Result<Option<String>, OutOfMemory> {
+fn push_new(at: &Place<'_>, draft: &Draft, told: &mut String) -> Result<(), OutOfMemory> {
     if at.is("refused BadTag") {
-        return bad_split(alloc, draft);
+        return push_bad_split(draft, told);
     }
     if at.is("refused BadGroup") {
-        return bad_group(alloc, at, draft.group.as_slice(), false);
+        return push_bad_group(at, draft.group.as_slice(), false, told);
     }
     if at.is("refused BadEdge") {
-        return bad_edge(alloc, at, draft);
+        return push_bad_edge(at, draft, told);
     }
     if at.is("refused TooManyEdges") {
-        return too_many_edges(alloc, draft);
+        return push_too_many_edges(draft, told);
     }
-    Ok(None)
+    Ok(())
+}
+
+// Those of a gathering.
+fn push_gathering(
+    at: &Place<'_>,
+    tag: i128,
+    ranks: &[i128],
+    told: &mut String,
+) -> Result<(), OutOfMemory> {
+    if at.is("refused BadTag") {
+        return push_bad_tag(tag, told);
+    }
+    if at.is("refused BadGroup") {
+        return push_bad_group(at, ranks, true, told);
+    }
+    Ok(())
 }
 
 // Refusals whose name alone tells what is wrong, and what that is.
@@ -154,110 +166,162 @@ const MEANINGS: [(&str, &str); 4] = [
 ];
 
 // What is wrong, where the refusal's name alone tells it.
-fn by_name(alloc: Global, at: &Place<'_>) -> Result<Option<String>, OutOfMemory> {
-    for (name, meaning) in MEANINGS {
+fn meaning_of(at: &Place<'_>) -> Option<&'static str> {
+    for (name, meaning) in &MEANINGS {
         if at.is(name) {
-            return Ok(Some(String::from_str(alloc, meaning)?));
+            return Some(meaning);
         }
     }
-    Ok(None)
+    None
 }
 
-fn root(alloc: Global, at: &Place<'_>, draft: &Draft) -> Result<Option<String>, OutOfMemory> {
-    let root = draft.root;
+fn push_root(at: &Place<'_>, draft: &Draft, told: &mut String) -> Result<(), OutOfMemory> {
+    told.push_str("root is ")?;
+    push_number(told, draft.root)?;
     if at.is_world() {
-        let ranks = world_ranks(alloc, at.ranks)?;
-        return Ok(Some(format!(in alloc; "root is {root}, {ranks}")?));
+        told.push_str(", ")?;
+        return push_world_ranks(at.ranks, told);
     }
-    Ok(Some(format!(in alloc; "root is {root}, no rank of the communicator")?))
+    told.push_str(", no rank of the communicator")?;
+    Ok(())
 }
 
-fn operation(alloc: Global, draft: &Draft) -> Result<Option<String>, OutOfMemory> {
-    let (operation, ty) = (operation_word(draft.op), type_word(draft.ty));
-    Ok(Some(format!(in alloc; "{operation} isn't for {ty}")?))
+fn push_operation(draft: &Draft, told: &mut String) -> Result<(), OutOfMemory> {
+    told.push_str(operation_word(draft.op))?;
+    told.push_str(" isn't for ")?;
+    told.push_str(type_word(draft.ty))?;
+    Ok(())
 }
 
-// How many items are given, and how many are expected, where that is known.
-fn items(alloc: Global, at: &Place<'_>, draft: &Draft) -> Result<Option<String>, OutOfMemory> {
+// Adds how many items are given, and how many are expected, where that is known.
+fn push_items(at: &Place<'_>, draft: &Draft, told: &mut String) -> Result<(), OutOfMemory> {
     let numbers = draft.items.as_slice().len();
+    told.push_str("gave ")?;
     if draft.ty.item_len() == 2 && numbers % 2 == 1 {
-        let given = counted(alloc, numbers, "number")?;
-        return Ok(Some(format!(in alloc; "gave {given}, and two make an item")?));
+        push_counted(numbers, "number", told)?;
+        return Ok(told.push_str(", and two make an item")?);
     }
-    let given = counted(alloc, numbers / draft.ty.item_len().max(1), "item")?;
-    match expected(alloc, at, draft)? {
-        Some(more) => Ok(Some(format!(in alloc; "gave {given}, {more}")?)),
-        None => Ok(Some(format!(in alloc; "gave {given}")?)),
+    push_counted(numbers / draft.ty.item_len().max(1), "item", told)?;
+    push_expected(at, draft, told)
+}
+
+// How many items a call takes of a rank.
+#[derive(Clone, Copy, Drop)]
+enum Expectation<'s> {
+    /// So many as the one count says, behind these words.
+    Count(&'static str, &'s [i128]),
+    /// So many as the counts add up to.
+    Sum(&'s [i128]),
+}
+
+// Adds how many items the call takes of this rank, by its counts.
+fn push_expected(at: &Place<'_>, draft: &Draft, told: &mut String) -> Result<(), OutOfMemory> {
+    if let Some(wanted) = wanted(draft) {
+        return push_wanted(wanted, told);
+    }
+    match wanted_of_root(draft) {
+        Some(wanted) => push_of_root(at, draft, wanted, told),
+        None => Ok(()),
     }
 }
 
-// How many items the call takes of this rank, by its counts.
-fn expected(alloc: Global, at: &Place<'_>, draft: &Draft) -> Result<Option<String>, OutOfMemory> {
+// What a call takes of each rank.
+fn wanted(draft: &Draft) -> Option<Expectation<'_>> {
     let sent = draft.scounts.as_slice();
     let received = draft.rcounts.as_slice();
     match draft.call {
-        Call::Exchange(Exchange::Bcast, _) => {
-            of_root(alloc, at, draft, count(alloc, "COUNT is", received)?)
+        Call::Exchange(Exchange::Alltoall, _) => {
+            Some(Expectation::Count("COUNT for each rank is", received))
         }
-        Call::Exchange(Exchange::Scatter, _) => {
-            let each = count(alloc, "COUNT for each rank is", received)?;
-            of_root(alloc, at, draft, each)
-        }
-        Call::Exchange(Exchange::Scatterv, _) => of_root(alloc, at, draft, sum(alloc, sent)?),
-        Call::Exchange(Exchange::Alltoall, _) => count(alloc, "COUNT for each rank is", received),
-        Call::Exchange(Exchange::Alltoallv, _) => sum(alloc, sent),
+        Call::Exchange(Exchange::Alltoallv, _) => Some(Expectation::Sum(sent)),
         Call::Reduction(Reduction::ReduceScatterBlock, _) => {
-            count(alloc, "COUNT for each rank is", received)
+            Some(Expectation::Count("COUNT for each rank is", received))
         }
-        Call::Reduction(Reduction::ReduceScatter, _) => sum(alloc, received),
+        Call::Reduction(Reduction::ReduceScatter, _) => Some(Expectation::Sum(received)),
         Call::Neighbourhood(Neighbourhood::Alltoall, _) => {
-            count(alloc, "SCOUNT for each destination is", sent)
+            Some(Expectation::Count("SCOUNT for each destination is", sent))
         }
-        Call::Neighbourhood(Neighbourhood::Alltoallv, _) => sum(alloc, sent),
-        _ => Ok(None),
+        Call::Neighbourhood(Neighbourhood::Alltoallv, _) => Some(Expectation::Sum(sent)),
+        _ => None,
     }
 }
 
-// What is expected of the root alone: on `world` it is known who that is.
-fn of_root(
-    alloc: Global,
+// What a call takes of its root alone.
+fn wanted_of_root(draft: &Draft) -> Option<Expectation<'_>> {
+    let received = draft.rcounts.as_slice();
+    match draft.call {
+        Call::Exchange(Exchange::Bcast, _) => Some(Expectation::Count("COUNT is", received)),
+        Call::Exchange(Exchange::Scatter, _) => {
+            Some(Expectation::Count("COUNT for each rank is", received))
+        }
+        Call::Exchange(Exchange::Scatterv, _) => Some(Expectation::Sum(draft.scounts.as_slice())),
+        _ => None,
+    }
+}
+
+// Adds what is expected of the root alone: on `world` it is known who that is.
+fn push_of_root(
     at: &Place<'_>,
     draft: &Draft,
-    more: Option<String>,
-) -> Result<Option<String>, OutOfMemory> {
+    wanted: Expectation<'_>,
+    told: &mut String,
+) -> Result<(), OutOfMemory> {
     if !at.is_world() {
-        return Ok(None);
+        return Ok(());
     }
     if draft.root == i128::from(at.rank) {
-        return Ok(more);
+        return push_wanted(wanted, told);
     }
-    Ok(Some(String::from_str(alloc, "the root alone gives any")?))
+    told.push_str(", the root alone gives any")?;
+    Ok(())
 }
 
-// The one count, where there is one.
-fn count(alloc: Global, what: &str, counts: &[i128]) -> Result<Option<String>, OutOfMemory> {
-    match counts {
-        [count] => Ok(Some(format!(in alloc; "{what} {count}")?)),
-        _ => Ok(None),
+fn push_wanted(wanted: Expectation<'_>, told: &mut String) -> Result<(), OutOfMemory> {
+    match wanted {
+        Expectation::Count(what, counts) => push_count(what, counts, told),
+        Expectation::Sum(counts) => push_sum(counts, told),
     }
 }
 
-// What the counts add up to.
-fn sum(alloc: Global, counts: &[i128]) -> Result<Option<String>, OutOfMemory> {
+// Adds the one count, where there is one.
+fn push_count(what: &str, counts: &[i128], told: &mut String) -> Result<(), OutOfMemory> {
+    let [count] = counts else {
+        return Ok(());
+    };
+    told.push_str(", ")?;
+    told.push_str(what)?;
+    told.push_str(" ")?;
+    push_number(told, *count)?;
+    Ok(())
+}
+
+// Adds what the counts add up to.
+fn push_sum(counts: &[i128], told: &mut String) -> Result<(), OutOfMemory> {
     let mut sum: i128 = 0;
     for count in counts {
         sum = sum.saturating_add(*count);
     }
-    Ok(Some(format!(in alloc; "the counts add up to {sum}")?))
+    told.push_str(", the counts add up to ")?;
+    push_number(told, sum)?;
+    Ok(())
 }
 
-// The first number that is outside its type.
-fn number(alloc: Global, draft: &Draft) -> Result<Option<String>, OutOfMemory> {
-    let ty = type_word(draft.ty);
+// Adds the first number that is outside its type.
+fn push_outside(draft: &Draft, told: &mut String) -> Result<(), OutOfMemory> {
+    let Some(number) = outside(draft) else {
+        return Ok(());
+    };
+    push_number(told, number)?;
+    told.push_str(" is outside ")?;
+    told.push_str(type_word(draft.ty))?;
+    Ok(())
+}
+
+fn outside(draft: &Draft) -> Option<i128> {
     for number in draft.items.as_slice() {
         if !is_in_range(draft.ty, *number) {
-            return Ok(Some(format!(in alloc; "{number} is outside {ty}")?));
+            return Some(*number);
         }
     }
-    Ok(None)
+    None
 }

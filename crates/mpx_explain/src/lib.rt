@@ -32,6 +32,7 @@ mod past;
 mod reasons;
 mod size;
 mod standing;
+mod trials;
 mod walk;
 
 pub use blame::{Blamed, word_to_blame};

@@ -1,6 +1,6 @@
 //! The refused lines of a script.
 
-use crate::blame::{Blamed, word_to_blame};
+use crate::blame::word_to_blame;
 use crate::detail::{detail_of, is_shown};
 use join_core::OutOfMemory;
 use mpx_num::Ops;
@@ -28,22 +28,27 @@ pub fn explain_refusals(
     ops: &Ops,
     told: &mut Vec<u8>,
 ) -> Result<(), OutOfMemory> {
-    let mut rest = copied(alloc, text)?;
     let mut unbound = Vec::new(alloc);
+    let pushed = push_refusals(alloc, text, &mut unbound, ops, told);
+    drop(unbound);
+    pushed
+}
+
+// The same, behind lines that were left out.
+fn push_refusals(
+    alloc: Global,
+    text: &[u8],
+    unbound: &mut Vec<Unbound>,
+    ops: &Ops,
+    told: &mut Vec<u8>,
+) -> Result<(), OutOfMemory> {
+    let mut rest = copied(alloc, text)?;
     for nth in 0..MOST_LINES {
-        match explain_refusal(alloc, &rest, nth, &mut unbound, ops, told) {
-            Ok(Some(behind)) => rest = behind,
-            Ok(None) => {
-                drop(unbound);
-                return Ok(());
-            }
-            Err(e) => {
-                drop(unbound);
-                return Err(e);
-            }
+        match explain_refusal(alloc, &rest, nth, unbound, ops, told)? {
+            Some(behind) => rest = behind,
+            None => return Ok(()),
         }
     }
-    drop(unbound);
     push_whether_more(alloc, &rest, ops, told)
 }
 
@@ -86,10 +91,17 @@ fn push_whether_more(
     Ok(())
 }
 
-// The refusal of a script, where it is refused.
-fn refusal_of(alloc: Global, text: &[u8], ops: &Ops) -> Result<Option<ScriptError>, OutOfMemory> {
+/// The refusal of a script, where it is refused.
+pub(crate) fn refusal_of(
+    alloc: Global,
+    text: &[u8],
+    ops: &Ops,
+) -> Result<Option<ScriptError>, OutOfMemory> {
     match read_script(alloc, text, ops) {
-        Ok(_) => Ok(None),
+        Ok(script) => {
+            drop(script);
+            Ok(None)
+        }
         Err(ReadScriptError::Refused(refusal)) => Ok(Some(refusal)),
         Err(ReadScriptError::OutOfMemory) => Err(OutOfMemory),
     }
@@ -115,24 +127,30 @@ fn follows(
     if refusal.what != ScriptFault::NameUnknown || unbound.is_empty() {
         return Ok(false);
     }
-    let blamed = word_to_blame(alloc, text, refusal, ops)?;
-    if !would_bind(unbound, blamed.as_ref()) {
+    if !would_bind(alloc, text, refusal, unbound, ops)? {
         return Ok(false);
     }
-    let bound = with_bound(alloc, text, unbound, TO_COMMUNICATORS)?;
-    if is_known(alloc, &bound, refusal.line, ops)? {
+    if is_known_with(alloc, text, refusal.line, unbound, TO_COMMUNICATORS, ops)? {
         return Ok(true);
     }
-    let bound = with_bound(alloc, text, unbound, TO_REQUESTS)?;
-    is_known(alloc, &bound, refusal.line, ops)
+    is_known_with(alloc, text, refusal.line, unbound, TO_REQUESTS, ops)
 }
 
-// Whether one of these would bind the word, which can be shown.
-fn would_bind(unbound: &[Unbound], blamed: Option<&Blamed>) -> bool {
-    let Some(blamed) = blamed else {
-        return false;
-    };
-    let name = blamed.word.as_bytes();
+// Whether one of these would bind the word that is to blame, which can be shown.
+fn would_bind(
+    alloc: Global,
+    text: &[u8],
+    refusal: ScriptError,
+    unbound: &[Unbound],
+    ops: &Ops,
+) -> Result<bool, OutOfMemory> {
+    match word_to_blame(alloc, text, refusal, ops)? {
+        Some(blamed) => Ok(would_bind_to(unbound, blamed.word.as_bytes())),
+        None => Ok(false),
+    }
+}
+
+fn would_bind_to(unbound: &[Unbound], name: &[u8]) -> bool {
     is_shown(name) && unbound.iter().any(|one| one.name.as_slice() == name)
 }
 
@@ -140,6 +158,20 @@ fn would_bind(unbound: &[Unbound], blamed: Option<&Blamed>) -> bool {
 const TO_COMMUNICATORS: &[u8] = b" dup world -> ";
 
 const TO_REQUESTS: &[u8] = b" ibarrier world -> ";
+
+// Whether a script isn't refused before this line, nor there for a name that is unknown, where lines with such a statement stand for those
+// that were left out.
+fn is_known_with(
+    alloc: Global,
+    text: &[u8],
+    line: u32,
+    unbound: &[Unbound],
+    statement: &[u8],
+    ops: &Ops,
+) -> Result<bool, OutOfMemory> {
+    let bound = with_bound(alloc, text, unbound, statement)?;
+    is_known(alloc, &bound, line, ops)
+}
 
 // The text in which lines with such a statement stand for those that were left out.
 fn with_bound(
@@ -150,10 +182,20 @@ fn with_bound(
 ) -> Result<Vec<u8>, OutOfMemory> {
     let mut bound = copied(alloc, text)?;
     for one in unbound {
-        let line = binding(alloc, one, statement)?;
-        bound = with_line(alloc, &bound, one.line, &line)?;
+        bound = with_binding(alloc, &bound, one, statement)?;
     }
     Ok(bound)
+}
+
+// The text in which a line with such a statement stands for one that was left out.
+fn with_binding(
+    alloc: Global,
+    text: &[u8],
+    one: &Unbound,
+    statement: &[u8],
+) -> Result<Vec<u8>, OutOfMemory> {
+    let line = binding(alloc, one, statement)?;
+    with_line(alloc, text, one.line, &line)
 }
 
 // The line with this statement that binds the name for the same ranks.
@@ -164,7 +206,7 @@ fn binding(alloc: Global, one: &Unbound, statement: &[u8]) -> Result<Vec<u8>, Ou
     Ok(line)
 }
 
-// Whether a script isn't refused before this line, nor there for a name that is unknown.
+// The same of this text.
 fn is_known(alloc: Global, text: &[u8], line: u32, ops: &Ops) -> Result<bool, OutOfMemory> {
     match refusal_of(alloc, text, ops)? {
         Some(refusal) if refusal.line == line => Ok(refusal.what != ScriptFault::NameUnknown),
@@ -183,13 +225,28 @@ fn push_refused(
     told: &mut Vec<u8>,
 ) -> Result<(), OutOfMemory> {
     if with_refusal {
-        let line = format!(in alloc; "{refusal}\n")?;
-        told.extend_from_slice(line.as_bytes())?;
+        push_refusal(alloc, refusal, told)?;
     }
-    if let Some(detail) = detail_of(alloc, text, refusal, ops)? {
-        let line = format!(in alloc; "  {detail}\n")?;
-        told.extend_from_slice(line.as_bytes())?;
+    match detail_of(alloc, text, refusal, ops)? {
+        Some(detail) => push_detail(detail.as_str(), told),
+        None => Ok(()),
     }
+}
+
+fn push_refusal(
+    alloc: Global,
+    refusal: ScriptError,
+    told: &mut Vec<u8>,
+) -> Result<(), OutOfMemory> {
+    let line = format!(in alloc; "{refusal}\n")?;
+    told.extend_from_slice(line.as_bytes())?;
+    Ok(())
+}
+
+fn push_detail(detail: &str, told: &mut Vec<u8>) -> Result<(), OutOfMemory> {
+    told.extend_from_slice(b"  ")?;
+    told.extend_from_slice(detail.as_bytes())?;
+    told.extend_from_slice(b"\n")?;
     Ok(())
 }
 
@@ -226,16 +283,25 @@ fn push_unbound(
     unbound: &mut Vec<Unbound>,
     ops: &Ops,
 ) -> Result<(), OutOfMemory> {
+    let Some(line) = line_with(text, number) else {
+        return Ok(());
+    };
+    match unbound_by(alloc, line, number)? {
+        Some(one) => push_where_free(alloc, text, one, unbound, ops),
+        None => Ok(()),
+    }
+}
+
+// The line with this number, from 1 on.
+fn line_with(text: &[u8], number: u32) -> Option<&[u8]> {
     let mut at: u32 = 0;
     for line in text.split(|byte| *byte == b'\n') {
         at = at.saturating_add(1);
         if at == number {
-            if let Some(one) = unbound_by(alloc, line, number)? {
-                return push_where_free(alloc, text, one, unbound, ops);
-            }
+            return Some(line);
         }
     }
-    Ok(())
+    None
 }
 
 fn push_where_free(
@@ -245,13 +311,26 @@ fn push_where_free(
     unbound: &mut Vec<Unbound>,
     ops: &Ops,
 ) -> Result<(), OutOfMemory> {
-    let line = binding(alloc, &one, TO_COMMUNICATORS)?;
-    let bound = with_line(alloc, text, one.line, &line)?;
-    match refusal_of(alloc, &bound, ops)? {
-        Some(refusal) if refusal.line <= one.line => {}
-        _ => unbound.push(one)?,
+    match is_free(alloc, text, &one, ops) {
+        Ok(true) => Ok(unbound.push(one)?),
+        Ok(false) => {
+            drop(one);
+            Ok(())
+        }
+        Err(e) => {
+            drop(one);
+            Err(e)
+        }
     }
-    Ok(())
+}
+
+// Whether a line could bind what a line that was left out was to bind.
+fn is_free(alloc: Global, text: &[u8], one: &Unbound, ops: &Ops) -> Result<bool, OutOfMemory> {
+    let bound = with_binding(alloc, text, one, TO_COMMUNICATORS)?;
+    match refusal_of(alloc, &bound, ops)? {
+        Some(refusal) => Ok(refusal.line > one.line),
+        None => Ok(true),
+    }
 }
 
 // What a line was to bind: the word behind its arrow.
@@ -263,16 +342,21 @@ fn unbound_by(alloc: Global, line: &[u8], number: u32) -> Result<Option<Unbound>
             continue;
         }
         match label {
-            Some(label) if is_behind_arrow => {
-                return Ok(Some(Unbound {
-                    line: number,
-                    label: copied(alloc, label)?,
-                    name: copied(alloc, word)?,
-                }));
-            }
+            Some(label) if is_behind_arrow => return unbound_of(alloc, number, label, word),
             Some(_) => is_behind_arrow = word == b"->".as_slice(),
             None => label = Some(word),
         }
     }
     Ok(None)
+}
+
+fn unbound_of(
+    alloc: Global,
+    line: u32,
+    label: &[u8],
+    name: &[u8],
+) -> Result<Option<Unbound>, OutOfMemory> {
+    let label = copied(alloc, label)?;
+    let name = copied(alloc, name)?;
+    Ok(Some(Unbound { line, label, name }))
 }

@@ -79,7 +79,7 @@ const OTHERS: [(&str, &str); 16] = [
     ("waitsome", BY_TIME),
 ];
 
-// Operations and types.
+// Operations and types of scripts.
 const VALUES: [&str; 21] = [
     "max", "min", "sum", "prod", "land", "lor", "lxor", "band", "bor", "bxor", "maxloc", "minloc",
     "i8", "i16", "i32", "i64", "u8", "u16", "u32", "u64", "2int",
@@ -136,25 +136,48 @@ pub(crate) fn meant(
     word: &str,
     is_statement: bool,
 ) -> Result<Option<String>, OutOfMemory> {
-    let small = in_small_letters(alloc, word)?;
-    let bare = without_prefix(small.as_str());
     let mut told = String::new(alloc);
-    match lacking(bare, is_statement) {
-        Some(why) => told.push_str(why)?,
-        None => push_known(word, bare, is_statement, &mut told)?,
-    }
+    push_meant(alloc, word, is_statement, &mut told)?;
     if told.is_empty() {
         return Ok(None);
     }
     Ok(Some(told))
 }
 
+fn push_meant(
+    alloc: Global,
+    word: &str,
+    is_statement: bool,
+    told: &mut String,
+) -> Result<(), OutOfMemory> {
+    let small = in_small_letters(alloc, word)?;
+    let bare = without_prefix(small.as_str());
+    match lacking(bare, is_statement) {
+        Some(why) => Ok(told.push_str(why)?),
+        None => push_known(word, bare, is_statement, told),
+    }
+}
+
+/// Whether a word is an operation or a type of scripts.
+pub(crate) fn is_value(word: &str) -> bool {
+    VALUES.contains(&word)
+}
+
 /// Whether a word is a type of programs, which scripts call otherwise or don't have.
 pub(crate) fn is_foreign_type(alloc: Global, word: &str) -> Result<bool, OutOfMemory> {
     let small = in_small_letters(alloc, word)?;
     let bare = without_prefix(small.as_str());
-    let is_floating = FLOATING.iter().any(|start| bare.starts_with(*start));
-    Ok(is_floating || another(&TYPES, bare.strip_suffix("_t").unwrap_or(bare)).is_some())
+    Ok(is_floating(bare) || type_of(bare).is_some())
+}
+
+// Whether a word without prefixes is a type with a point.
+fn is_floating(bare: &str) -> bool {
+    FLOATING.iter().any(|start| bare.starts_with(*start))
+}
+
+// The type of scripts that a type of programs without prefixes is.
+fn type_of(bare: &str) -> Option<&'static str> {
+    another(&TYPES, bare.strip_suffix("_t").unwrap_or(bare))
 }
 
 // Why scripts have nothing that a word without prefixes could be.
@@ -162,7 +185,7 @@ fn lacking(bare: &str, is_statement: bool) -> Option<&'static str> {
     if is_statement {
         return another(&OTHERS, bare);
     }
-    if FLOATING.iter().any(|start| bare.starts_with(*start)) {
+    if is_floating(bare) {
         return Some("scripts have whole numbers alone");
     }
     None
@@ -192,30 +215,53 @@ fn push_known(
 // Adds the statements that a word is, or is near.
 fn push_statements(bare: &str, told: &mut String) -> Result<(), OutOfMemory> {
     let blocking = bare.strip_prefix("i").unwrap_or("");
-    if BOTH.contains(&bare) || STATEMENTS.contains(&bare) || BOTH.contains(&blocking) {
+    if has_both(bare) || is_other(bare) || has_both(blocking) {
         return push_word("", bare, told);
     }
-    if let Some(known) = another(&CALLS, bare) {
+    if let Some(known) = call_of(bare) {
         return push_word("", known, told);
     }
-    if let Some(known) = another(&CALLS, blocking).filter(|known| BOTH.contains(known)) {
-        return push_word("i", known, told);
+    match call_of(blocking) {
+        Some(known) if has_both(known) => push_word("i", known, told),
+        _ => push_near_statements(bare, blocking, told),
     }
-    push_near("", &BOTH, bare, told)?;
+}
+
+// Whether a word is a call that blocks and has a nonblocking form.
+fn has_both(word: &str) -> bool {
+    BOTH.contains(&word)
+}
+
+fn is_other(word: &str) -> bool {
+    STATEMENTS.contains(&word)
+}
+
+// The call of scripts that MPI calls so.
+fn call_of(word: &str) -> Option<&'static str> {
+    another(&CALLS, word)
+}
+
+// Adds the statements that a word is near.
+fn push_near_statements(bare: &str, blocking: &str, told: &mut String) -> Result<(), OutOfMemory> {
+    push_near_both("", bare, told)?;
     push_near("", &STATEMENTS, bare, told)?;
-    push_near("i", &BOTH, blocking, told)?;
+    push_near_both("i", blocking, told)?;
     if is_near(bare.as_bytes(), b"broadcast") {
         return push_word("", "bcast", told);
     }
     Ok(())
 }
 
+fn push_near_both(prefix: &str, word: &str, told: &mut String) -> Result<(), OutOfMemory> {
+    push_near(prefix, &BOTH, word, told)
+}
+
 // Adds the operations and types that a word is, or is near.
 fn push_values(bare: &str, told: &mut String) -> Result<(), OutOfMemory> {
-    if VALUES.contains(&bare) {
+    if is_value(bare) {
         return push_word("", bare, told);
     }
-    if let Some(known) = another(&TYPES, bare.strip_suffix("_t").unwrap_or(bare)) {
+    if let Some(known) = type_of(bare) {
         return push_word("", known, told);
     }
     push_near("", &VALUES, bare, told)

@@ -37,17 +37,38 @@ pub(crate) fn named_calls(
     ensures { IfOk result (λ named. map named_view named.items ≡ map (placed text.now) (map complaint_view (take 100 calls.now))) }
 {
     let mut named = Vec::new(alloc);
+    match push_first(alloc, text, script, calls, waiting, &mut named) {
+        Ok(()) => Ok(named),
+        Err(e) => {
+            drop(named);
+            Err(e)
+        }
+    }
+}
+
+// Names the first hundred of these calls, behind none.
+fn push_first(
+    alloc: Global,
+    text: &[u8],
+    script: &Script,
+    calls: &[Complaint],
+    waiting: Option<&[WaitingRank]>,
+    named: &mut Vec<NamedCall>,
+) -> Result<(), OutOfMemory>
+    requires { named.old.items ≡ [] }
+    ensures { OnOk result (map named_view named.new.items ≡ map (placed text.now) (map complaint_view (take 100 calls.now))) }
+{
     let Some(first) = calls.first() else {
-        return Ok(named);
+        return Ok(());
     };
     let mut lines = lines_of(alloc, text, first.rank)?;
     let some = first_of(calls, MOST_CALLS);
     for call in some {
         lines = lines_now(alloc, text, call.rank, lines)?;
         let numbers = lines.numbers.as_slice();
-        push_named(alloc, script, numbers, call, calls, waiting, &mut named)?;
+        push_named(alloc, script, numbers, call, calls, waiting, named)?;
     }
-    Ok(named)
+    Ok(())
 }
 
 // The first so many of these.

@@ -4,7 +4,7 @@ ghost use Rattle.std.specs.List.{All, flat_map};
 ghost use Rattle.mpx_num.specs.Text.{number_text};
 ghost use Rattle.mpx_num.specs.Types.{IsOutOfRange};
 ghost use Rattle.mpx_waiting.specs.ToldLines.{more_text};
-ghost use Rattle.mpx_explain.specs.Overflows.{AreOverflows, IsOverflow, IsPast, overflow_text, past_text, type_word, what_text};
+ghost use Rattle.mpx_explain.specs.Overflows.{AreOverflows, IsKnownAs, IsOverflow, IsPast, overflow_text, past_text, type_word, what_text};
 
 use crate::exact::{exact_of, posted_at, reduced, taken};
 use crate::past::{Candidate, Part, candidates_of, columns_of};
@@ -183,7 +183,7 @@ fn past_in(
     let draft = posted_at(script, 0, place)?;
     let reduction = reduced(draft)?;
     let row = first_so_many(places, taken(reduction, places.len(), rank));
-    let exact = exact_of(script, draft.op, index, row);
+    let exact = exact_of(script, draft.op, index, row)?;
     if is_past(draft.ty, exact) {
         Some((statement, draft.ty, exact))
     } else {
@@ -201,9 +201,9 @@ fn first_so_many(places: &[usize], count: usize) -> &[usize]
     }
 }
 
-// Whether a number is past its type; one that isn't known is.
+// Whether a number is past its type; one that is past 128 bits is.
 fn is_past(ty: Ty, exact: Option<i128>) -> bool
-    ensures { result ≡ true → (z : ℤ) → exact ≡ Some z → IsOutOfRange ty z }
+    ensures { result ≡ true → (whole : ℤ) → IsKnownAs exact whole → IsOutOfRange ty whole }
 {
     match exact {
         Some(exact) => !is_in_range(ty, exact),

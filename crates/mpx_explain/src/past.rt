@@ -160,25 +160,61 @@ fn push_past(
     row: usize,
     found: &mut Vec<Candidate>,
 ) -> Result<(), OutOfMemory> {
-    let Some(first) = parts.first() else {
-        return Ok(());
-    };
-    let Some(reduction) = reduced(first.draft) else {
-        return Ok(());
-    };
-    if first.is_fault {
-        return Ok(());
+    match reduction_of(parts) {
+        Some(reduction) => push_reduced(alloc, parts, reduction, row, found),
+        None => Ok(()),
     }
+}
+
+// The kind of the call, where it is a sum or product of signed numbers, and no fault.
+fn reduction_of(parts: &[Part<'_>]) -> Option<Reduction> {
+    let first = parts.first()?;
+    if first.is_fault {
+        return None;
+    }
+    reduced(first.draft)
+}
+
+fn push_reduced(
+    alloc: Global,
+    parts: &[Part<'_>],
+    reduction: Reduction,
+    row: usize,
+    found: &mut Vec<Candidate>,
+) -> Result<(), OutOfMemory> {
     let mut sums: Vec<Option<i128>> = Vec::new(alloc);
+    push_sums(parts, reduction, row, &mut sums, found)?;
+    push_blocks(parts, reduction, row, &sums, found)
+}
+
+// Takes what all ranks give into the sums or products, and adds what is past its type before a rank or behind it, of a scan.
+fn push_sums(
+    parts: &[Part<'_>],
+    reduction: Reduction,
+    row: usize,
+    sums: &mut Vec<Option<i128>>,
+    found: &mut Vec<Candidate>,
+) -> Result<(), OutOfMemory> {
     for part in parts {
         if reduction == Reduction::Exscan {
-            push_first(part, row, &sums, 0, found)?;
+            push_first(part, row, sums, 0, found)?;
         }
-        add(part.draft, &mut sums)?;
+        add(part.draft, sums)?;
         if reduction == Reduction::Scan {
-            push_first(part, row, &sums, 0, found)?;
+            push_first(part, row, sums, 0, found)?;
         }
     }
+    Ok(())
+}
+
+// Adds what is past its type of the part that each rank gets.
+fn push_blocks(
+    parts: &[Part<'_>],
+    reduction: Reduction,
+    row: usize,
+    sums: &[Option<i128>],
+    found: &mut Vec<Candidate>,
+) -> Result<(), OutOfMemory> {
     for (rank, part) in parts.iter().enumerate() {
         if let Some((start, count)) = block_of(reduction, rank, part.draft, sums.len()) {
             let end = start.saturating_add(count);

@@ -1,7 +1,8 @@
 //! Why a call was refused or is a fault, as it stands behind its line. Nothing is claimed of it.
 
-use crate::faults::minority;
-use crate::given::given;
+use crate::faults::push_minority;
+use crate::given::push_given;
+use crate::size::push_value;
 use join_core::OutOfMemory;
 use mpx_eval::{Complaint, WaitingRank};
 use mpx_script::{Script, Statement};
@@ -21,7 +22,7 @@ pub(crate) fn why_of(
     let mut why = String::new(alloc);
     push_more(alloc, script, call, calls, &mut why)?;
     if let Some(waiting) = waiting {
-        push_unheard(alloc, script, numbers, call, waiting, &mut why)?;
+        push_unheard(script, numbers, call, waiting, &mut why)?;
     }
     Ok(why)
 }
@@ -33,47 +34,58 @@ fn push_more(
     calls: &[Complaint],
     why: &mut String,
 ) -> Result<(), OutOfMemory> {
-    if let Some(more) = more_of(alloc, script, call, calls)? {
-        let text = format!(in alloc; ": {more}")?;
-        why.push_str(text.as_str())?;
+    let mut more = String::new(alloc);
+    push_reason(alloc, script, call, calls, &mut more)?;
+    if !more.is_empty() {
+        why.push_str(": ")?;
+        why.push_str(more.as_str())?;
     }
     Ok(())
 }
 
-fn more_of(
+// Adds what a call's statement gives, or who gives something else at a fault, to an empty text.
+fn push_reason(
     alloc: Global,
     script: &Script,
     call: &Complaint,
     calls: &[Complaint],
-) -> Result<Option<String>, OutOfMemory> {
-    if call.text.as_bytes().starts_with(b"fault ") {
-        return minority(alloc, script, call, calls);
+    told: &mut String,
+) -> Result<(), OutOfMemory> {
+    let text = call.text.as_bytes();
+    if text.starts_with(b"fault ") {
+        return push_minority(alloc, script, call, calls, told);
     }
     match script.statements(call.rank).get(call.statement) {
-        Some(statement) => given(alloc, script, call.rank, statement, call.text.as_bytes()),
-        None => Ok(None),
+        Some(statement) => push_given(script, call.rank, statement, text, told),
+        None => Ok(()),
     }
 }
 
 // Adds that the rank of a call whose fault no line tells has not waited for it, or at which line it does.
 fn push_unheard(
-    alloc: Global,
     script: &Script,
     numbers: &[u32],
     call: &Complaint,
     waiting: &[WaitingRank],
     why: &mut String,
 ) -> Result<(), OutOfMemory> {
-    let rank = call.rank;
-    let text = match waits_at(script, call, waiting) {
+    match waits_at(script, call, waiting) {
         Some(place) => {
             let line = line_at(numbers, place);
-            format!(in alloc; " (line {line} waits for it, and for others)")?
+            push_value(
+                " (line ",
+                i128::from(line),
+                " waits for it, and for others)",
+                why,
+            )
         }
-        None => format!(in alloc; " (rank {rank} has not waited for it)")?,
-    };
-    why.push_str(text.as_str())?;
-    Ok(())
+        None => push_value(
+            " (rank ",
+            i128::from(call.rank),
+            " has not waited for it)",
+            why,
+        ),
+    }
 }
 
 // The place of the wait at which the call's rank is, where it is one for the call too.

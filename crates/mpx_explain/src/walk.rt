@@ -1,5 +1,6 @@
 //! Which calls a rank's statements have made, by their contexts and numbers there.
 
+use crate::standing::is_marked;
 use join_core::{Exact, OutOfMemory};
 use mpx_group::Proc;
 use mpx_name::Name;
@@ -61,7 +62,7 @@ impl Walk {
             Statement::Post(posting) => self.post(alloc, node, place, posting),
             Statement::Wait(words) => {
                 for word in words.as_slice() {
-                    let _ = self.open.remove(word);
+                    drop(self.open.remove(word));
                 }
                 Ok(())
             }
@@ -77,24 +78,13 @@ impl Walk {
         statement: &Statement,
     ) -> Result<Vec<Awaited>, OutOfMemory> {
         let mut found = Vec::new(alloc);
-        match statement {
-            Statement::Post(posting) => {
-                if let Some((name, call)) = self.call_of(alloc, node, posting)? {
-                    found.push(Awaited {
-                        request: None,
-                        name,
-                        call,
-                    })?;
-                }
+        match self.push_awaited(alloc, node, statement, &mut found) {
+            Ok(()) => Ok(found),
+            Err(e) => {
+                drop(found);
+                Err(e)
             }
-            Statement::Wait(words) => {
-                for word in words.as_slice() {
-                    self.push_open(alloc, word, &mut found)?;
-                }
-            }
-            Statement::Ask(_) => {}
         }
-        Ok(found)
     }
 
     /// The place of the statement that has made the call with this number on a context.
@@ -107,6 +97,44 @@ impl Walk {
         None
     }
 
+    // Adds the calls that a statement waits for.
+    fn push_awaited(
+        &mut self,
+        alloc: Global,
+        node: &Node,
+        statement: &Statement,
+        found: &mut Vec<Awaited>,
+    ) -> Result<(), OutOfMemory> {
+        match statement {
+            Statement::Post(posting) => self.push_next(alloc, node, posting, found),
+            Statement::Wait(words) => {
+                for word in words.as_slice() {
+                    self.push_open(alloc, word, found)?;
+                }
+                Ok(())
+            }
+            Statement::Ask(_) => Ok(()),
+        }
+    }
+
+    // Adds the call that is next.
+    fn push_next(
+        &self,
+        alloc: Global,
+        node: &Node,
+        posting: &Posting,
+        found: &mut Vec<Awaited>,
+    ) -> Result<(), OutOfMemory> {
+        if let Some((name, call)) = self.call_of(alloc, node, posting)? {
+            found.push(Awaited {
+                request: None,
+                name,
+                call,
+            })?;
+        }
+        Ok(())
+    }
+
     // Adds the call of a request, where it is open, and closes it.
     fn push_open(
         &mut self,
@@ -114,15 +142,20 @@ impl Walk {
         word: &Word,
         found: &mut Vec<Awaited>,
     ) -> Result<(), OutOfMemory> {
-        if let Some((name, call)) = self.open.remove(word) {
-            let request = Some(word.copy(alloc)?);
-            found.push(Awaited {
-                request,
+        let Some((name, call)) = self.open.remove(word) else {
+            return Ok(());
+        };
+        match word.copy(alloc) {
+            Ok(word) => Ok(found.push(Awaited {
+                request: Some(word),
                 name,
                 call,
-            })?;
+            })?),
+            Err(e) => {
+                drop(name);
+                Err(e)
+            }
         }
-        Ok(())
     }
 
     // Behind a call that wasn't refused.
@@ -136,14 +169,54 @@ impl Walk {
         let Some((name, call)) = self.call_of(alloc, node, posting)? else {
             return Ok(());
         };
-        self.count(alloc, &name, call, place)?;
-        if let Some(target) = posting.target() {
-            return self.bind(alloc, node, target, &name, call);
+        match self.take(alloc, node, place, posting, &name, call) {
+            Ok(()) => self.leave_open(alloc, posting, name, call),
+            Err(e) => {
+                drop(name);
+                Err(e)
+            }
         }
-        if let Some(request) = posting.request() {
-            self.open.insert(request.copy(alloc)?, (name, call))?;
+    }
+
+    // The statement at this place has made the call with this number on a context, and its word stands for what the call gave.
+    fn take(
+        &mut self,
+        alloc: Global,
+        node: &Node,
+        place: usize,
+        posting: &Posting,
+        name: &Name,
+        call: u32,
+    ) -> Result<(), OutOfMemory> {
+        self.count(alloc, name, call, place)?;
+        match posting.target() {
+            Some(target) => self.bind(alloc, node, target, name, call),
+            None => Ok(()),
         }
-        Ok(())
+    }
+
+    // The request of a call is open, where it has one.
+    fn leave_open(
+        &mut self,
+        alloc: Global,
+        posting: &Posting,
+        name: Name,
+        call: u32,
+    ) -> Result<(), OutOfMemory> {
+        match copied(alloc, posting.request()) {
+            Ok(Some(request)) => {
+                drop(self.open.insert(request, (name, call))?);
+                Ok(())
+            }
+            Ok(None) => {
+                drop(name);
+                Ok(())
+            }
+            Err(e) => {
+                drop(name);
+                Err(e)
+            }
+        }
     }
 
     // The statement at this place has made the call with this number.
@@ -176,10 +249,25 @@ impl Walk {
         let Some(finished) = node.result(name, call) else {
             return Ok(());
         };
-        if let Outcome::NewComm { name, .. } = &finished.outcome {
-            self.names.insert(target.copy(alloc)?, name.copy(alloc)?)?;
+        match &finished.outcome {
+            Outcome::NewComm { name, .. } => self.stand_for(alloc, target, name),
+            _ => Ok(()),
         }
-        Ok(())
+    }
+
+    // The word stands for the communicator with this context.
+    fn stand_for(&mut self, alloc: Global, word: &Word, name: &Name) -> Result<(), OutOfMemory> {
+        let word = word.copy(alloc)?;
+        match name.copy(alloc) {
+            Ok(name) => {
+                drop(self.names.insert(word, name)?);
+                Ok(())
+            }
+            Err(e) => {
+                drop(word);
+                Err(e)
+            }
+        }
     }
 
     // The context of a call, and its number there.
@@ -206,6 +294,48 @@ impl Walk {
     }
 }
 
+/// What a rank's words stand for before the statement at this place.
+pub(crate) fn walk_to(
+    alloc: Global,
+    node: &Node,
+    statements: &[Statement],
+    refused: &[bool],
+    place: usize,
+) -> Result<Walk, OutOfMemory> {
+    let mut walk = Walk::new(alloc)?;
+    match pass_all(alloc, node, statements, refused, place, &mut walk) {
+        Ok(()) => Ok(walk),
+        Err(e) => {
+            drop(walk);
+            Err(e)
+        }
+    }
+}
+
+// Passes those before this place that weren't refused.
+fn pass_all(
+    alloc: Global,
+    node: &Node,
+    statements: &[Statement],
+    refused: &[bool],
+    place: usize,
+    walk: &mut Walk,
+) -> Result<(), OutOfMemory> {
+    for (at, statement) in statements.iter().enumerate().take(place) {
+        if !is_marked(refused, at) {
+            walk.pass(alloc, node, at, statement)?;
+        }
+    }
+    Ok(())
+}
+
+fn copied(alloc: Global, word: Option<&Word>) -> Result<Option<Word>, OutOfMemory> {
+    match word {
+        Some(word) => Ok(Some(word.copy(alloc)?)),
+        None => Ok(None),
+    }
+}
+
 // The gathering of the members with these ranks of a communicator, under this tag.
 fn gathering_of(
     alloc: Global,
@@ -223,10 +353,9 @@ fn gathering_of(
     let Ok(gathering) = Gathering::check(alloc, birth, me, parent.depth(), false, tag, ranks) else {
         return Ok(None);
     };
-    match parent.gathering(alloc, gathering.tag(), gathering.members()) {
-        Ok(name) => Ok(Some(name)),
-        Err(_) => Ok(None),
-    }
+    let name = parent.gathering(alloc, gathering.tag(), gathering.members());
+    drop(gathering);
+    Ok(name.ok())
 }
 
 // The member with the first of these ranks.

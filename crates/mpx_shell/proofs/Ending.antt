@@ -1,14 +1,15 @@
 -- What a process ends with.
-use Rattle.std.proofs.Common.{◌≡◌, ℕ, List, [], Option, Some, None, Result, Ok, Err, IfOk, inl, inr, refl, subst, sym}
+use Rattle.std.proofs.Common.{◌≡◌, ℕ, List, Option, Some, None, Result, Ok, Err, IfOk, inl, inr, refl, subst, sym}
 use Rattle.std.specs.Prelude.{IfErr}
 use Rattle.clap.specs.Kinds.{HasKind}
 use Rattle.clap.specs.Words.{kind_of}
 use Rattle.clap.specs.declared.error.Error.{Error}
-use Rattle.mpx_program.specs.Jobs.{IsRefused, OfJobs}
+use Rattle.mpx_num.specs.declared.own.Operation.{Operation}
+use Rattle.mpx_program.specs.Jobs.{DoesJobWith, IsRefused, OfJobs}
 use Rattle.mpx_words.specs.Usage.{refusal_kinds}
 use Rattle.mpx_words.specs.Words.{invocation_in}
 use Rattle.mpx_words.specs.declared.invocation.Invocation.{Invocation}
-use Rattle.mpx_shell.specs.Answers.{Answers, AskFor}
+use Rattle.mpx_shell.specs.Answers.{Answers, AnswersCall, AskFor, own_operations}
 
 -- of a result that is the value
 pub if_ok : {T E : Type 0} (result : Result T E) (value : T) (Holds : T → Type 0) → result ≡ Ok value → Holds value → IfOk result Holds
@@ -24,8 +25,10 @@ ask_for words now (Err why) same ok err kinds = inl (subst (λ ws. (invocation_i
 
 -- words that ask for nothing are refused, and nothing is read or written
 pub refused_words : (Is : OfJobs) (words : List (List ℕ)) (refusal : Error) (there old : Option (List ℕ)) (code : ℕ) (Says : List ℕ → Type 0) → AskFor words (Err refusal) → IsRefused (kind_of refusal) code Says → Answers Is words there there old old code Says
-refused_words Is words refusal there old code Says (inl asks) refused = inl (record {
-  operations = [];
-  does = inr (record { why = kind_of refusal; asks = asks.0; kinds = asks.1; refused = refused; unread = refl; unwritten = refl });
-})
+refused_words Is words refusal there old code Says (inl asks) refused = inl (inr (record { why = kind_of refusal; asks = asks.0; kinds = asks.1; refused = refused; unread = refl; unwritten = refl }))
 refused_words Is words refusal there old code Says (inr wanting) refused = inr (record { refused = subst (λ why. IsRefused why code Says) wanting refused; unread = refl; unwritten = refl })
+
+-- a call's job that is done by operations which are the programs' own
+pub by_own : (Is : OfJobs) (ops : List Operation) (call : Invocation) (there left old new : Option (List ℕ)) (code : ℕ) (Says : List ℕ → Type 0) → ops ≡ own_operations → DoesJobWith Is ops call there left old new code Says → AnswersCall Is call there left old new code Says
+by_own Is ops call there left old new code Says own does words asks =
+    inl (inl (record { call = call; asks = asks; does = subst (λ os. DoesJobWith Is os call there left old new code Says) own does }))

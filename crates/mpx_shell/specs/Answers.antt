@@ -1,20 +1,22 @@
 -- What a call of a program comes to.
-use Rattle.std.specs.Prelude.{◌≡◌, ◌⊎◌, ℕ, List, Option, Some, None, Result, Ok, Err}
+use Rattle.std.specs.Prelude.{◌≡◌, ◌⊎◌, ℕ, List, [], ◌∷◌, Option, Some, None, Result, Ok, Err, codes}
 use Rattle.clap.specs.Kinds.{HasKind}
 use Rattle.clap.specs.Words.{kind_of}
 use Rattle.clap.specs.declared.error.Error.{Error}
 use Rattle.clap.specs.declared.error.kind.ErrorKind.TheVariants as kind
+use Rattle.mpx_num.specs.Own.{operation_of}
+use Rattle.mpx_num.specs.Types.{is_paired}
 use Rattle.mpx_num.specs.declared.own.Operation.{Operation}
+use Rattle.mpx_affine.specs.Composition.{composed}
 use Rattle.mpx_program.specs.Jobs.{DoesJob, IsRefused, OfJobs, Tells}
 use Rattle.mpx_program.specs.declared.job.Exit.{Exit}
 use Rattle.mpx_words.specs.Usage.{refusal_kinds}
 use Rattle.mpx_words.specs.Words.{invocation_in}
 use Rattle.mpx_words.specs.declared.invocation.Invocation.{Invocation}
 
--- the words' job is done by some operations of a job's own
-pub record IsDoneBy (Is : OfJobs) (words : List (List ℕ)) (there left old new : Option (List ℕ)) (code : ℕ) (Says : List ℕ → Type 0) : Type 0 where
-  pub operations : List Operation
-  pub does : DoesJob Is operations words there left old new code Says
+-- the operations of the programs' own are one: by the word `affine`, for pairs, the composition of affine maps
+abbrev pub own_operations : List Operation
+own_operations = operation_of (codes "affine") is_paired composed ∷ []
 
 -- memory is wanting before anything is read or written
 pub record Starves (there left old new : Option (List ℕ)) (code : ℕ) (Says : List ℕ → Type 0) : Type 0 where
@@ -22,9 +24,9 @@ pub record Starves (there left old new : Option (List ℕ)) (code : ℕ) (Says :
   pub unread : left ≡ there
   pub unwritten : new ≡ old
 
--- the words' job is done, or memory is wanting
+-- the words' job is done by the programs' own operations, or memory is wanting
 abbrev pub Answers : (Is : OfJobs) (words : List (List ℕ)) (there left old new : Option (List ℕ)) (code : ℕ) (Says : List ℕ → Type 0) → Type 0
-Answers Is words there left old new code Says = IsDoneBy Is words there left old new code Says ⊎ Starves there left old new code Says
+Answers Is words there left old new code Says = DoesJob Is own_operations words there left old new code Says ⊎ Starves there left old new code Says
 
 -- words ask for a call, or for none, for a reason of a kind that `clap` has for them; or memory is wanting
 abbrev pub AskFor : (words : List (List ℕ)) → Result Invocation Error → Type 0

@@ -2,11 +2,11 @@
 ghost use Rattle.std.specs.Prelude.{◌≡◌, false, true};
 ghost use Rattle.mpx_run.specs.Texts.{is_in_threads};
 ghost use Rattle.mpx_program.specs.Jobs.{AsFounded, AsPrinted, IsRefused, Tells};
-ghost use Rattle.mpx_shell.specs.Answers.{AnswersCall};
+ghost use Rattle.mpx_shell.specs.Answers.{AnswersCall, own_operations};
 
 use clap::error::ErrorKind;
 use mpx_affine::Affine;
-use mpx_num::{Ops, OwnOp};
+use mpx_num::{Listing, Ops, OwnOp};
 use mpx_program::{Exit, refuse, run_job, run_job_in_threads};
 use mpx_run::{Command, Job};
 use mpx_sim::Observer;
@@ -83,7 +83,26 @@ fn answer<T: Threads + Sync, R: Read, W: Write, E: Write>(
     ensures founded { AnswersCall AsFounded call.now (R.remaining reader.old) (R.remaining reader.new) (W.contents out.old) (W.contents out.new) result.status (Tells (E.contents err.old) (E.contents err.new) result.told) }
 {
     let ops = own_operations!(alloc, err);
-    run_job(rt, alloc, call, reader, out, err, observer, &ops)
+    do_job(rt, alloc, call, reader, out, err, observer, &ops)
+}
+
+// Does the call's job by the programs' own operations.
+fn do_job<T: Threads + Sync, R: Read, W: Write, E: Write>(
+    rt: &T,
+    alloc: Global,
+    call: &Invocation,
+    reader: &mut R,
+    out: &mut W,
+    err: &mut E,
+    observer: &mut dyn Observer,
+    ops: &Ops,
+) -> Exit
+    requires alone { is_in_threads call.now.job ≡ false }
+    requires own { ⟦<Ops as Listing>⟧.operations ops.now ≡ own_operations }
+    ensures prints { AnswersCall AsPrinted call.now (R.remaining reader.old) (R.remaining reader.new) (W.contents out.old) (W.contents out.new) result.status (Tells (E.contents err.old) (E.contents err.new) result.told) }
+    ensures founded { AnswersCall AsFounded call.now (R.remaining reader.old) (R.remaining reader.new) (W.contents out.old) (W.contents out.new) result.status (Tells (E.contents err.old) (E.contents err.new) result.told) }
+{
+    run_job(rt, alloc, call, reader, out, err, observer, ops)
 }
 
 // The same of a call that asks for a run in threads, which may wait for them.
@@ -101,7 +120,26 @@ fn answer_in_threads<T: Threads + Wait + Sync, R: Read, W: Write, E: Write>(
     ensures founded { AnswersCall AsFounded call.now (R.remaining reader.old) (R.remaining reader.new) (W.contents out.old) (W.contents out.new) result.status (Tells (E.contents err.old) (E.contents err.new) result.told) }
 {
     let ops = own_operations!(alloc, err);
-    run_job_in_threads(rt, alloc, call, reader, out, err, observer, &ops)
+    do_job_in_threads(rt, alloc, call, reader, out, err, observer, &ops)
+}
+
+// Does the job of a call that asks for a run in threads.
+fn do_job_in_threads<T: Threads + Wait + Sync, R: Read, W: Write, E: Write>(
+    rt: &T,
+    alloc: Global,
+    call: &Invocation,
+    reader: &mut R,
+    out: &mut W,
+    err: &mut E,
+    observer: &mut dyn Observer,
+    ops: &Ops,
+) -> Exit
+    requires threads { is_in_threads call.now.job ≡ true }
+    requires own { ⟦<Ops as Listing>⟧.operations ops.now ≡ own_operations }
+    ensures prints { AnswersCall AsPrinted call.now (R.remaining reader.old) (R.remaining reader.new) (W.contents out.old) (W.contents out.new) result.status (Tells (E.contents err.old) (E.contents err.new) result.told) }
+    ensures founded { AnswersCall AsFounded call.now (R.remaining reader.old) (R.remaining reader.new) (W.contents out.old) (W.contents out.new) result.status (Tells (E.contents err.old) (E.contents err.new) result.told) }
+{
+    run_job_in_threads(rt, alloc, call, reader, out, err, observer, ops)
 }
 
 // There is no more memory.

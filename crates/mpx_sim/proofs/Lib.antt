@@ -4,6 +4,7 @@ pub mod Posting
 pub mod Carried
 pub mod Tried
 pub mod Harvests
+pub mod Left
 pub mod Sending
 pub mod Spelled
 pub mod Starting

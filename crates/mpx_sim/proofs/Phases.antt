@@ -1,12 +1,11 @@
 -- What is done in a turn.
 use Rattle.std.proofs.Common.{◌≡◌, ℕ, suc, ◌+◌, ◌<◌, arith, List, [], ◌∷◌, ◌++◌, refl, sym, ap, ◌∙◌, subst}
 use Rattle.std.specs.List.{All}
+use Rattle.std.proofs.lemmas.List.Sorted.{IsPermutation-refl}
 use Rattle.std.proofs.lemmas.Option.{slice_get-get_or}
-use Rattle.rand_pcg.specs.Lcg.{Lcg}
 use Rattle.mpx_system.specs.Systems.{System, Doing, MayDo, does}
 use Rattle.mpx_system.proofs.Leading.{does_all-push, may-push}
-use Rattle.mpx_sim.specs.Draws.{AreDrawn, IsLater, ScheduleView, nothing_drawn, one_more}
-use Rattle.mpx_sim.specs.Turns.{Alone, AreAllSo, AreTurns, Coming, FrameView, HasSent, IsIn, IsLeft, IsOwn, IsSaid, IsTaken, IsTurn, IsUnder, LeadsBy, Moment, Phase, Saying, Since}
+use Rattle.mpx_sim.specs.Turns.{Alone, AreAllSo, AreTurns, Coming, FrameView, HasSent, IsIn, IsLeft, IsOwn, IsSaid, IsTaken, IsTurn, IsUnder, LeadsBy, Moment, Phase, Saying, Since, drawn_for}
 
 are-push : (P : Doing → Type 0) (ds : List Doing) (d : Doing) → AreAllSo P ds → P d → AreAllSo P (ds ++ d ∷ [])
 are-push P [] d h k = (k, tt)
@@ -23,32 +22,16 @@ more_by P ranks from to d l is m = record {
   reached = does_all-push l.doings d from ∙ ap (λ s. does s d) l.reached;
 }
 
--- DRAWS
-
-pub drawn_then : (a b c : Lcg) → AreDrawn a b → AreDrawn b c → AreDrawn a c
-drawn_then a b c h nothing_drawn = h
-drawn_then a b c h (one_more {g = mid} k) = one_more (drawn_then a b mid h k)
-
-pub later_then : (a b c : ScheduleView) → IsLater a b → IsLater b c → IsLater a c
-later_then a b c h k = (k.0 ∙ h.0, drawn_then a.draws b.draws c.draws h.1 k.1)
-
 -- PHASES
 
 pub under_itself : (frames : List FrameView) → All (IsUnder frames) frames
 under_itself frames k d l = (k, slice_get-get_or frames k d l)
 
-pub under_later : (turn : ℕ) (frames : List FrameView) → All (λ (f : FrameView). turn < f.turn → IsUnder frames f) frames
-under_later turn frames k d l later = under_itself frames k d l
-
 -- one more is done
 pub since_on : (ranks size : ℕ) (begun : Moment) (phase : Phase) (frames : List FrameView) (s : System) → Since ranks size begun phase frames s → (d : Doing) → IsIn phase d → MayDo ranks s d → Since ranks size begun phase frames (does s d)
 since_on ranks size begun Alone frames s h d is m = (more_by IsOwn ranks begun.system s d h.0 is m, h.1)
 since_on ranks size begun Saying frames s h d is m = (record { alone = h.0.alone; own = h.0.own; left = h.0.left; says = more_by IsSaid ranks h.0.alone s d h.0.says is m }, h.1)
-since_on ranks size begun (Coming turn t) frames s h d is m = (record { sent = h.0.sent; going = h.0.going; comes = more_by IsTaken ranks h.0.sent.system s d h.0.comes is m; later = h.0.later }, h.1)
-
--- more is drawn
-pub since_draws : (ranks size : ℕ) (begun : Moment) (turn : ℕ) (t u : ScheduleView) (frames : List FrameView) (s : System) → Since ranks size begun (Coming turn t) frames s → IsLater t u → Since ranks size begun (Coming turn u) frames s
-since_draws ranks size begun turn t u frames s h later = (record { sent = h.0.sent; going = h.0.going; comes = h.0.comes; later = later_then h.0.sent.schedule t u h.0.later later }, h.1)
+since_on ranks size begun (Coming turn t) frames s h d is m = (record { sent = h.0.sent; going = h.0.going; comes = more_by IsTaken ranks h.0.sent.system s d h.0.comes is m; mixed = h.0.mixed }, h.1)
 
 -- the next phase begins
 pub begins : (ranks size : ℕ) (m : Moment) → Since ranks size m Alone m.frames m.system
@@ -57,8 +40,8 @@ begins ranks size m = (none_by IsOwn ranks m.system, refl)
 pub says_now : (ranks size : ℕ) (begun : Moment) (frames : List FrameView) (s : System) → Since ranks size begun Alone frames s → IsLeft ranks s.ranks → Since ranks size begun Saying frames s
 says_now ranks size begun frames s h left = (record { alone = s; own = h.0; left = left; says = none_by IsSaid ranks s }, h.1)
 
-pub comes_now : (ranks size turn : ℕ) (begun sent : Moment) → HasSent ranks size turn begun sent → Since ranks size begun (Coming turn sent.schedule) sent.frames sent.system
-comes_now ranks size turn begun sent h = (record { sent = sent; going = h; comes = none_by IsTaken ranks sent.system; later = (refl, nothing_drawn) }, under_itself sent.frames)
+pub comes_now : (ranks size turn : ℕ) (begun sent : Moment) → HasSent ranks size turn begun sent → Since ranks size begun (Coming turn (drawn_for sent.frames sent.schedule)) sent.frames sent.system
+comes_now ranks size turn begun sent h = (record { sent = sent; going = h; comes = none_by IsTaken ranks sent.system; mixed = refl }, IsPermutation-refl sent.frames)
 
 -- a turn more
 pub turns_more : (turns ranks size : ℕ) (from mid to : Moment) → AreTurns turns ranks size from mid → IsTurn ranks size turns mid to → AreTurns (turns + 1) ranks size from to

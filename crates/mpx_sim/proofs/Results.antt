@@ -23,7 +23,7 @@ use Rattle.mpx_system.proofs.Results.{length_taken, mapped_at, nothing_left, pre
 use Rattle.mpx_meaning.proofs.Reports.{which_same}
 use Rattle.mpx_system.proofs.Settled.{stuck_ends}
 use Rattle.mpx_sim.specs.Ends.{RestsBy, nodes_of}
-use Rattle.mpx_sim.specs.Draws.{IsLater, ScheduleView, generator}
+use Rattle.mpx_sim.specs.Draws.{first_schedule}
 use Rattle.mpx_sim.specs.Turns.{Alone, AreAfter, AreTurns, FrameView, IsLeft, Moment}
 use Rattle.mpx_sim.specs.Running.{IsUnderWay, ProcessView, is_waiting_at}
 use Rattle.mpx_sim.proofs.Resting.{rests_ends}
@@ -85,11 +85,9 @@ module _ (ops : List Operation) (script : ScriptView) (relays : ℕ) (begun : Mo
         waiting_are = waiting_so;
       }
 
-  pub is_after : (told : List NodeView) → told ≡ nodes_of processes → (seed loss turns : ℕ) (first : ScheduleView) → IsLater (record { loss = loss; draws = generator seed }) first → AreTurns turns script.ranks (script.ranks + relays) (record { system = start_system ops script.statements script.ranks (script.ranks + relays); frames = []; schedule = first }) begun
+  pub is_after : (told : List NodeView) → told ≡ nodes_of processes → (seed loss turns : ℕ) → AreTurns turns script.ranks (script.ranks + relays) (record { system = start_system ops script.statements script.ranks (script.ranks + relays); frames = []; schedule = first_schedule (script.ranks + relays) seed loss }) begun
       → AreAfter ops script relays seed loss turns told
-  is_after told same seed loss turns first seeded made = record {
-    first = first;
-    seeded = seeded;
+  is_after told same seed loss turns made = record {
     begun = begun;
     made = made;
     system = run.system;

@@ -2,7 +2,9 @@
 use Rattle.std.proofs.Common.{◌≡◌, ℕ, ◌<◌, List, [], set, get_or, Option, Some, None, refl, sym, ap, ◌∙◌, subst, arith}
 use Rattle.std.specs.Prelude.{slice_get, Result, Ok, Err, OnOk, OnErr}
 use Rattle.std.specs.List.{All}
+use Rattle.std.specs.List.Sorted.{IsPermutation}
 use Rattle.std.proofs.lemmas.List.{length-set}
+use Rattle.std.proofs.lemmas.List.Sorted.{All-permutation, IsPermutation-sym, IsPermutation-trans}
 use Rattle.std.proofs.lemmas.Option.{slice_get-get_or, slice_get_within, same_Some}
 use Rattle.mpx_num.specs.declared.own.Operation.{Operation}
 use Rattle.mpx_name.specs.Name.{Name}
@@ -25,9 +27,10 @@ use Rattle.mpx_system.proofs.Posting.{each_other}
 use Rattle.mpx_system.proofs.Results.{some_at}
 use Rattle.mpx_post.proofs.Lists.{set_cases, set_twice, set_has}
 use Rattle.mpx_sim.specs.Running.{HasCome, HaveCome, ProcessView, StandsBy, IsAt, IsAmong, IsUnderWay, KeepsNode, Moves}
-use Rattle.mpx_sim.specs.Draws.{IsLater, ScheduleView}
-use Rattle.mpx_sim.specs.Turns.{Alone, Coming, FrameView, IsIn, IsLeft, IsTurn, IsUnder, Moment, Phase, Saying}
-use Rattle.mpx_sim.proofs.Phases.{begins, later_then, says_now, since_draws, since_on, under_itself}
+use Rattle.mpx_sim.specs.Draws.{ScheduleView}
+use Rattle.mpx_sim.specs.Turns.{Alone, Coming, FrameView, IsIn, IsLeft, IsTurn, IsUnder, Moment, Phase, Saying, drawn_again_for, those_left}
+use Rattle.mpx_sim.proofs.Left.{left_parts, left_under}
+use Rattle.mpx_sim.proofs.Phases.{begins, says_now, since_on}
 
 -- LISTS
 
@@ -99,39 +102,46 @@ module _ (ops : List Operation) (script : Script) (ranks size : ℕ) (begun : Mo
 
 module _ (ops : List Operation) (script : Script) (ranks size : ℕ) (begun : Moment) (turn : ℕ) (t : ScheduleView) (processes : List ProcessView) (frames : List FrameView) (run : IsUnderWay ops script ranks size begun (Coming turn t) processes frames) where
   -- frames are reordered
-  pub run_mixed : (mixed : List FrameView) → ((P : FrameView → Type 0) → All P frames → All P mixed) → ((P : FrameView → Type 0) → All P mixed → All P frames) → IsUnderWay ops script ranks size begun (Coming turn t) processes mixed
-  run_mixed mixed to back =
-      let stay = back (IsUnder mixed) (under_itself mixed) in
-      record {
-        system = run.system;
-        led = run.led;
-        since = (run.since.0, all_more (IsUnder frames) (IsUnder mixed) (λ f is. all_at (IsUnder mixed) frames is.0 f is.1 stay) run.since.0.sent.frames run.since.1);
-        count = run.count;
-        each = run.each;
-        sent = to (λ (f : FrameView). IsAmong run.system.world.parts f.part) run.sent;
-      }
+  pub run_mixed : (mixed : List FrameView) → IsPermutation frames mixed → IsUnderWay ops script ranks size begun (Coming turn t) processes mixed
+  run_mixed mixed is = record {
+    system = run.system;
+    led = run.led;
+    since = (run.since.0, IsPermutation-trans run.since.0.sent.frames frames mixed run.since.1 is);
+    count = run.count;
+    each = run.each;
+    sent = All-permutation (λ (f : FrameView). IsAmong run.system.world.parts f.part) frames mixed is run.sent;
+  }
 
-  -- more is drawn while frames come
-  pub run_draws : (u : ScheduleView) → IsLater t u → IsUnderWay ops script ranks size begun (Coming turn u) processes frames
-  run_draws u later = record { system = run.system; led = run.led; since = since_draws ranks size begun turn t u frames run.system run.since later; count = run.count; each = run.each; sent = run.sent }
-
-  -- the turn is made once its frames have come, where those of later turns stay
-  pub run_turned : HaveCome turn frames processes → (u : ScheduleView) → IsLater t u → (left : List FrameView) → All (λ (f : FrameView). turn < f.turn → IsUnder left f) frames → IsTurn ranks size turn begun (record { system = run.system; frames = left; schedule = u })
-  run_turned come u later left stay =
-      let c = run.since.0 in
+  -- the turn is made once its frames have come
+  pub run_turned : HaveCome turn frames processes → IsTurn ranks size turn begun (record { system = run.system; frames = those_left turn frames t; schedule = drawn_again_for turn frames t })
+  run_turned come =
+      let sent = run.since.0.sent.frames in
+      let back = IsPermutation-sym sent frames run.since.1 in
       record {
-        coming = record { sent = c.sent; going = c.going; comes = c.comes; later = later_then c.sent.schedule t u c.later later };
-        came = all_more (IsUnder frames) (λ (f : FrameView). f.turn ≡ turn → f.to < size → IsBoardBelow f.part (run.system.world.each f.to).node.board)
-            (λ f is now within.
+        mixed = t;
+        coming = run.since.0;
+        order = frames;
+        ordered = run.since.1;
+        frames_are = refl;
+        schedule_is = refl;
+        came = all_more (HasCome turn processes) (λ (f : FrameView). f.turn ≡ turn → f.to < size → IsBoardBelow f.part (run.system.world.each f.to).node.board)
+            (λ f has now within.
             let v = some_at processes f.to (omega (arith, within, run.count)) in
-            subst (λ (n : NodeView). IsBoardBelow f.part n.board) (run.each f.to v.0 v.1).node (all_at (HasCome turn processes) frames is.0 f is.1 come now v.0 v.1))
-            c.sent.frames run.since.1;
-        still = all_more (IsUnder frames) (λ (f : FrameView). turn < f.turn → IsUnder left f) (λ f is. all_at (λ (g : FrameView). turn < g.turn → IsUnder left g) frames is.0 f is.1 stay) c.sent.frames run.since.1;
+            subst (λ (n : NodeView). IsBoardBelow f.part n.board) (run.each f.to v.0 v.1).node (has now v.0 v.1))
+            sent (All-permutation (HasCome turn processes) frames sent back come);
+        still = All-permutation (λ (f : FrameView). turn < f.turn → IsUnder (those_left turn frames t) f) frames sent back (left_under turn frames t);
       }
 
-  -- and the next one begins, with these frames
-  pub run_begins : (u : ScheduleView) (left : List FrameView) → All (λ (f : FrameView). IsAmong run.system.world.parts f.part) left → IsUnderWay ops script ranks size (record { system = run.system; frames = left; schedule = u }) Alone processes left
-  run_begins u left sent = record { system = run.system; led = run.led; since = begins ranks size (record { system = run.system; frames = left; schedule = u }); count = run.count; each = run.each; sent = sent }
+  -- and the next one begins
+  pub run_begins : IsUnderWay ops script ranks size (record { system = run.system; frames = those_left turn frames t; schedule = drawn_again_for turn frames t }) Alone processes (those_left turn frames t)
+  run_begins = record {
+    system = run.system;
+    led = run.led;
+    since = begins ranks size (record { system = run.system; frames = those_left turn frames t; schedule = drawn_again_for turn frames t });
+    count = run.count;
+    each = run.each;
+    sent = left_parts (IsAmong run.system.world.parts) turn frames t run.sent;
+  }
 
 -- where a rank has something left, processes say what they have
 pub run_says : (ops : List Operation) (script : Script) (ranks size : ℕ) (begun : Moment) (processes : List ProcessView) (frames : List FrameView) (run : IsUnderWay ops script ranks size begun Alone processes frames) → IsLeft ranks run.system.ranks

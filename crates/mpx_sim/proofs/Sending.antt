@@ -1,15 +1,17 @@
 -- Frames, and the board whose bytes they are.
 use Rattle.std.proofs.Common.{◌≡◌, ◌+◌, ◌<◌, ◌≤◌, ℕ, zero, suc, Bool, true, false, get_or, take, drop, List, [], ◌∷◌, ◌++◌, length, map, set, Some, refl, sym, ap, ◌∙◌, inl, subst, arith}
-use Rattle.std.specs.Prelude.{All, nat_lt, slice_get, if◌then◌else◌}
+use Rattle.std.specs.Prelude.{All, nat_eq, nat_lt, slice_get, if◌then◌else◌}
 use Rattle.std.specs.List.{remove}
 use Rattle.std.specs.Option.{option_map}
 use Rattle.std.proofs.lemmas.Bool.Decides.{nat_tests}
 use Rattle.std.proofs.lemmas.List.{append-nil, append_assoc}
 use Rattle.std.proofs.lemmas.Option.{get_or_from_slice_get, same_Some, slice_get-get_or, slice_get-map, slice_get_within}
 use Rattle.std.proofs.lemmas.List.Elements.{All-append, All-nil, All-cons, All-head, All-push, All-tail, All-map}
+use Rattle.rand_pcg.specs.Lcg.{Lcg}
 use Rattle.mpx_num.specs.declared.own.Operation.{Operation}
 use Rattle.mpx_board.specs.Boards.{Look}
 use Rattle.mpx_board.specs.Contexts.{look_of}
+use Rattle.mpx_board.specs.Looks.{look}
 use Rattle.mpx_board.specs.Parts.{PartsView}
 use Rattle.mpx_format.specs.declared.versions.Version.{Version}
 use Rattle.mpx_format.specs.Decoding.{Spells, decoded}
@@ -26,11 +28,10 @@ use Rattle.mpx_system.proofs.Leading.{coupled, leads_on}
 use Rattle.mpx_system.proofs.Results.{mapped_at, some_at}
 use Rattle.mpx_sim.specs.declared.frame_under_way.FrameUnderWay.{FrameUnderWay}
 use Rattle.mpx_sim.specs.declared.schedule.Schedule.{Schedule}
-use Rattle.mpx_sim.specs.Draws.{ScheduleView, draw, drawn, drawn_once}
-use Rattle.mpx_sim.specs.Turns.{Coming, FrameView, IsListOf, IsUnder, Moment, Saying, a_list, drawn_for, joined, no_list, one_a_turn, sends_each, those_out}
+use Rattle.mpx_sim.specs.Draws.{ScheduleView, draw, drawn, drawn_again, drawn_once, drawn_times}
+use Rattle.mpx_sim.specs.Turns.{Coming, FrameView, IsListOf, IsUnder, Moment, Saying, a_list, asked, drawn_again_for, drawn_for, joined, no_list, one_a_turn, sends_each, those_out}
 use Rattle.mpx_sim.specs.Running.{IsAmong, IsAt, IsUnderWay, ProcessView}
 use Rattle.mpx_sim.specs.Shown.{frame_of, part_of, schedule_of, shown}
-use Rattle.mpx_sim.specs.SideBySide.{StillToCome}
 use Rattle.mpx_sim.proofs.Phases.{comes_now}
 use Rattle.mpx_sim.proofs.Running.{all_more}
 
@@ -40,10 +41,6 @@ pub spelled_shown : (version : Version) (bytes : List ℕ) (v : PartsView) → S
 spelled_shown version bytes v s = ap shown (decoded_again version bytes v s)
 
 -- PARTS
-
-pub all_behind : {A B : Type 0} (f : A → B) (P : B → Type 0) (xs : List A) → All P (map f xs) → All (λ x. P (f x)) xs
-all_behind f P [] h = All-nil (λ x. P (f x))
-all_behind f P (x ∷ xs) h = All-cons (λ y. P (f y)) x xs (All-head P (f x) (map f xs) h) (all_behind f P xs (All-tail P (f x) (map f xs) h))
 
 -- FRAMES GO OUT
 
@@ -101,7 +98,7 @@ parts_say processes p v at to turn (part ∷ parts) h =
 
 list_says : (processes : List ProcessView) (size turn p : ℕ) (v : ProcessView) → slice_get processes p ≡ Some v → (list : List FrameView) → IsListOf size turn p v.node list → All (Says processes) list
 list_says processes size turn p v at list no_list = All-nil (Says processes)
-list_says processes size turn p v at list (a_list to parts within facts whole) = parts_say processes p v at to turn parts facts
+list_says processes size turn p v at list (a_list to parts within facts whole fit few) = parts_say processes p v at to turn (map look parts) (All-map (λ b. OnlyFactsOf b v.node.board) look parts facts)
 
 module _ (ops : List Operation) (script : Script) (ranks size : ℕ) (processes : List ProcessView) where
   -- a system in which these frames are under way
@@ -135,7 +132,7 @@ module _ (ops : List Operation) (script : Script) (ranks size : ℕ) (processes 
 -- once processes have said what they have, the lists that they have made go out
 pub run_out : (ops : List Operation) (script : Script) (ranks size : ℕ) (begun : Moment) (turn : ℕ) (processes : List ProcessView) (frames : List FrameView) (run : IsUnderWay ops script ranks size begun Saying processes frames) (lists : List (List FrameView))
     → length lists ≡ length processes → ((p : ℕ) (list : List FrameView) → slice_get lists p ≡ Some list → (v : ProcessView) → slice_get processes p ≡ Some v → IsListOf size turn v.rank.me v.node list)
-    → IsUnderWay ops script ranks size begun (Coming turn (drawn_for (joined lists) begun.schedule)) processes (frames ++ those_out begun.schedule (joined lists))
+    → IsUnderWay ops script ranks size begun (Coming turn (drawn_for (frames ++ those_out begun.schedule (joined lists)) (drawn_for (joined lists) begun.schedule))) processes (frames ++ those_out begun.schedule (joined lists))
 run_out ops script ranks size begun turn processes frames run lists many are =
     let s = run.system in
     let made = joined lists in
@@ -186,20 +183,6 @@ pub parts_of_frames : (frames : List FrameUnderWay) → map (λ (f : FrameView).
 parts_of_frames [] = refl
 parts_of_frames (f ∷ frames) = ap (λ bs. part_of f ∷ bs) (parts_of_frames frames)
 
--- what is so of the boards that frames spell
-pub all_of_parts : (P : Look → Type 0) (frames : List FrameUnderWay) → All P (map part_of frames) → All (λ (f : FrameView). P f.part) (map frame_of frames)
-all_of_parts P frames h = all_behind (λ (f : FrameView). f.part) P (map frame_of frames) (subst (All P) (sym (parts_of_frames frames)) h)
-
-pub parts_of_all : (P : Look → Type 0) (frames : List FrameUnderWay) → All (λ (f : FrameView). P f.part) (map frame_of frames) → All P (map part_of frames)
-parts_of_all P frames h = subst (All P) (parts_of_frames frames) (All-map P (λ (f : FrameView). f.part) (map frame_of frames) h)
-
--- frames that stay are under way
-pub still_under : (turn : ℕ) (old new : List FrameUnderWay) → StillToCome turn old new → All (λ (f : FrameView). turn < f.turn → IsUnder (map frame_of new) f) (map frame_of old)
-still_under turn old new stay k d l later =
-    let f = mapped_at frame_of old k (get_or (map frame_of old) k d) (slice_get-get_or (map frame_of old) k d l) in
-    let now = stay f.0 k f.1 (subst (λ (g : FrameView). turn < g.turn) (sym f.2) later) in
-    (now.0, slice_get-map frame_of new now.0 ∙ ap (option_map frame_of) now.1 ∙ ap (λ g. Some g) f.2)
-
 -- THE CODE'S LISTS
 
 -- a write that leaves what f reads
@@ -207,29 +190,6 @@ pub kept : {A B : Type 0} (f : A → B) (xs : List A) (p : ℕ) (d x : A) → p 
 kept f [] p d x l e = refl
 kept f (y ∷ ys) zero d x l e = ap (λ z. z ∷ map f ys) e
 kept f (y ∷ ys) (suc p) d x l e = ap (λ zs. f y ∷ zs) (kept f ys p d x (omega (arith, l)) e)
-
--- all but one
-pub all_without : {A B : Type 0} (f : A → B) (P : B → Type 0) (i : ℕ) (xs : List A) → All P (map f xs) → All P (map f (remove xs i))
-all_without f P zero [] h = h
-all_without f P zero (x ∷ xs) h = All-tail P (f x) (map f xs) h
-all_without f P (suc i) [] h = h
-all_without f P (suc i) (x ∷ xs) h = All-cons P (f x) (map f (remove xs i)) (All-head P (f x) (map f xs) h) (all_without f P i xs (All-tail P (f x) (map f xs) h))
-
--- one goes of which P doesn't hold: those of which it holds stay
-pub stays_without : {A : Type 0} (P : A → Type 0) (i : ℕ) (d : A) (xs : List A) → (P (get_or xs i d) → ⊥) → i < length xs → (k : ℕ) (x : A) → slice_get xs k ≡ Some x → P x → (j : ℕ) × (slice_get (remove xs i) j ≡ Some x)
-stays_without P i d [] unlike l k x at p = cc at
-stays_without P zero d (y ∷ ys) unlike l zero x at p = absurd (unlike (subst P (sym (same_Some y x at)) p))
-stays_without P zero d (y ∷ ys) unlike l (suc k) x at p = (k, at)
-stays_without P (suc i) d (y ∷ ys) unlike l zero x at p = (zero, at)
-stays_without P (suc i) d (y ∷ ys) unlike l (suc k) x at p = let h = stays_without P i d ys unlike (omega (arith, l)) k x at p in (suc h.0, h.1)
-
--- one is written, and stays as it was where P holds of it: so do all others
-pub stays_written : {A : Type 0} (P : A → Type 0) (i : ℕ) (y : A) (xs : List A) → ((x : A) → slice_get xs i ≡ Some x → P x → y ≡ x) → (k : ℕ) (x : A) → slice_get xs k ≡ Some x → P x → slice_get (set xs i y) k ≡ Some x
-stays_written P i y [] same k x at p = cc at
-stays_written P zero y (z ∷ zs) same zero x at p = ap (λ w. Some w) (same x at p)
-stays_written P zero y (z ∷ zs) same (suc k) x at p = at
-stays_written P (suc i) y (z ∷ zs) same zero x at p = at
-stays_written P (suc i) y (z ∷ zs) same (suc k) x at p = stays_written P i y zs same k x at p
 
 -- one of those that are left
 pub one_left : {A : Type 0} (xs : List A) (p : ℕ) (x : A) → slice_get xs p ≡ Some x → drop p xs ≡ x ∷ drop (p + 1) xs
@@ -249,3 +209,45 @@ written_back (suc len) (y ∷ ys) (x ∷ xs) e f = ap (λ zs. x ∷ zs) (written
 -- once a number is drawn
 pub drawn_of : (old new : Schedule) → new.loss ≡ old.loss → new.words ≡ drawn old.words → schedule_of new ≡ drawn_once (schedule_of old)
 drawn_of old new loss words = λ i. record { loss = loss i; draws = words i }
+
+-- one number first, and then the others
+drawn_first : (n : ℕ) (g : Lcg) → drawn_times n (drawn g) ≡ drawn (drawn_times n g)
+drawn_first zero g = refl
+drawn_first (suc n) g = ap drawn (drawn_first n g)
+
+pub drawn_more : (n m : ℕ) (g : Lcg) → m ≡ n + 1 → drawn_times m g ≡ drawn (drawn_times n g)
+drawn_more n m g e = let same : m ≡ suc n = omega (arith, e) in ap (λ k. drawn_times k g) same
+
+-- a number for each frame is as many as there are frames
+for_each : (frames : List FrameView) (s : ScheduleView) → drawn_for frames s ≡ record { loss = s.loss; draws = drawn_times (length frames) s.draws }
+for_each [] s = refl
+for_each (f ∷ frames) s = for_each frames (drawn_once s) ∙ ap (λ g. let t : ScheduleView = record { loss = s.loss; draws = g } in t) (drawn_first (length frames) s.draws)
+
+pub mixed_of : (old new : Schedule) (frames : List FrameView) (n : ℕ) → n ≡ length frames → new.loss ≡ old.loss → new.words ≡ drawn_times n old.words → drawn_for frames (schedule_of old) ≡ schedule_of new
+mixed_of old new frames n many loss words =
+    let same : new.words ≡ drawn_times (length frames) old.words = words ∙ ap (λ k. drawn_times k old.words) many in
+    for_each frames (schedule_of old) ∙ (λ i. let t : ScheduleView = record { loss = sym loss i; draws = sym same i } in t)
+
+-- it is drawn whether a frame comes again
+pub again_is : (s : ScheduleView) → draw 4 s.draws ≡ 0 → drawn_again s ≡ drawn_once (drawn_once s)
+again_is s comes =
+    let is : nat_eq (draw 4 s.draws) 0 ≡ true = grind (arith, nat_tests, comes) in
+    ap (λ b. if b then drawn_once (drawn_once s) else drawn_once s) is
+
+pub again_not : (s : ScheduleView) → (draw 4 s.draws ≡ 0 → ⊥) → drawn_again s ≡ drawn_once s
+again_not s gone =
+    let not : nat_eq (draw 4 s.draws) 0 ≡ false = grind (arith, nat_tests, gone) in
+    ap (λ b. if b then drawn_once (drawn_once s) else drawn_once s) not
+
+again_loss : (s : ScheduleView) → (drawn_again s).loss ≡ s.loss
+again_loss s = by_number (nat_eq (draw 4 s.draws) 0) where
+  by_number : (comes : Bool) → (if comes then drawn_once (drawn_once s) else drawn_once s).loss ≡ s.loss
+  by_number true = refl
+  by_number false = refl
+
+pub again_for_loss : (turn : ℕ) (frames : List FrameView) (s : ScheduleView) → (drawn_again_for turn frames s).loss ≡ s.loss
+again_for_loss turn [] s = refl
+again_for_loss turn (f ∷ frames) s = again_for_loss turn frames (asked turn f s) ∙ by_turn (nat_eq f.turn turn) where
+  by_turn : (now : Bool) → (if now then drawn_again s else s).loss ≡ s.loss
+  by_turn true = again_loss s
+  by_turn false = refl

@@ -1,15 +1,13 @@
 -- Frames of boards, and what they show.
 use Rattle.std.proofs.Common.{◌≡◌, ℕ, List, [], ◌∷◌, map, refl, sym, ap, subst}
 use Rattle.std.specs.Prelude.{All}
-use Rattle.std.proofs.lemmas.List.Elements.{All-nil, All-cons, All-head, All-tail}
+use Rattle.std.proofs.lemmas.List.Elements.{All-nil, All-cons}
 use Rattle.mpx_board.specs.declared.board.Board.{Board}
-use Rattle.mpx_board.specs.Boards.{Look}
 use Rattle.mpx_board.specs.Looks.{look, parts_of}
 use Rattle.mpx_board.specs.Parts.{PartsView}
 use Rattle.mpx_format.specs.declared.versions.Version.TheVariants.{Two}
 use Rattle.mpx_format.specs.Decoding.{Spells, decoded, shown}
 use Rattle.mpx_format.proofs.Decoded.{decoded_again}
-use Rattle.mpx_delta.specs.Facts.{OnlyFactsOf}
 use Rattle.mpx_delta.specs.Lacking.{AreSpelled}
 use Rattle.mpx_sim.specs.Frames.{IsFrame, parts_in}
 use Rattle.mpx_sim.proofs.Sending.{spelled_shown}
@@ -22,15 +20,6 @@ spelled_whole [] [] s = All-nil IsFrame
 spelled_whole [] (board ∷ boards) s = absurd s
 spelled_whole (bytes ∷ frames) [] s = absurd s
 spelled_whole (bytes ∷ frames) (board ∷ boards) s = All-cons IsFrame bytes frames (is_frame bytes (parts_of board) s.0) (spelled_whole frames boards s.1)
-
-pub spelled_facts : (b : Look) (frames : List (List ℕ)) (boards : List Board) → AreSpelled frames boards → All (λ board. OnlyFactsOf (look board) b) boards → All (λ bytes. OnlyFactsOf (shown (decoded bytes)) b) frames
-spelled_facts b [] [] s all = All-nil (λ bytes. OnlyFactsOf (shown (decoded bytes)) b)
-spelled_facts b [] (board ∷ boards) s all = absurd s
-spelled_facts b (bytes ∷ frames) [] s all = absurd s
-spelled_facts b (bytes ∷ frames) (board ∷ boards) s all =
-    All-cons (λ xs. OnlyFactsOf (shown (decoded xs)) b) bytes frames
-    (subst (λ x. OnlyFactsOf x b) (sym (spelled_shown Two bytes (parts_of board) s.0)) (All-head (λ x. OnlyFactsOf (look x) b) board boards all))
-    (spelled_facts b frames boards s.1 (All-tail (λ x. OnlyFactsOf (look x) b) board boards all))
 
 pub spelled_parts : (frames : List (List ℕ)) (boards : List Board) → AreSpelled frames boards → map (λ bytes. shown (decoded bytes)) frames ≡ map look boards
 spelled_parts [] [] s = refl

@@ -13,7 +13,7 @@ use Rattle.mpx_meaning.specs.Evaluation.{Script}
 use Rattle.mpx_rank.specs.Moves.{RankView, is_waiting}
 use Rattle.mpx_rank.specs.Places.{CommunicatorView, StandsInScript}
 use Rattle.mpx_system.specs.Systems.{System, Leads, start_system}
-use Rattle.mpx_sim.specs.Draws.{IsLater, ScheduleView, generator}
+use Rattle.mpx_sim.specs.Draws.{ScheduleView, first_schedule}
 use Rattle.mpx_sim.specs.Turns.{Alone, AreTurns, FrameView, IsTurn, Moment, Phase, Since}
 
 -- a process: its rank, and its node
@@ -73,18 +73,17 @@ HaveGrown old new = (place : ℕ) (v w : ProcessView) → slice_get old place �
 -- these are the processes of a run of the script with so many relays after so many turns of a schedule with this seed and loss, before frames go out once
 -- more, whatever its frames are
 pub record AreOfRun (ops : List Operation) (script : ScriptView) (relays seed loss turns : ℕ) (processes : List ProcessView) : Type 0 where
-  pub first : ScheduleView
-  pub seeded : IsLater (record { loss = loss; draws = generator seed }) first
   pub begun : Moment
-  pub made : AreTurns turns script.ranks (script.ranks + relays) (record { system = start_system ops script.statements script.ranks (script.ranks + relays); frames = []; schedule = first }) begun
+  pub made : AreTurns turns script.ranks (script.ranks + relays) (record { system = start_system ops script.statements script.ranks (script.ranks + relays); frames = []; schedule = first_schedule (script.ranks + relays) seed loss }) begun
   pub frames : List FrameView
   pub run : IsUnderWay ops script.statements script.ranks (script.ranks + relays) begun Alone processes frames
 
--- the turn that began there is made, with this schedule behind it, and what is under way is that of the next one
-pub record HasTurned (ops : List Operation) (script : Script) (ranks size turn : ℕ) (begun : Moment) (schedule : ScheduleView) (processes : List ProcessView) (frames : List FrameView) : Type 0 where
-  pub next : System
-  pub turn_is : IsTurn ranks size turn begun (record { system = next; frames = frames; schedule = schedule })
-  pub run : IsUnderWay ops script ranks size (record { system = next; frames = frames; schedule = schedule }) Alone processes frames
+-- the turn of this number, of so many, that began there is made. Where it isn't the last, the next one begins with this schedule and these frames
+pub record HasTurned (ops : List Operation) (script : Script) (ranks size turns turn : ℕ) (begun : Moment) (schedule : ScheduleView) (processes : List ProcessView) (frames : List FrameView) : Type 0 where
+  pub next : Moment
+  pub turn_is : IsTurn ranks size turn begun next
+  pub run : IsUnderWay ops script ranks size next Alone processes next.frames
+  pub goes_on : turn + 1 < turns → (next.frames ≡ frames) × (next.schedule ≡ schedule)
 
 -- in place of the one in a run stands the other, in this phase of a turn
 abbrev pub Keeps : Phase → List Operation → (old new : ProcessView) → Type 0

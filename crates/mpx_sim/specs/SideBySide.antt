@@ -1,5 +1,6 @@
 -- What the processes of a run do side by side, each by itself.
-use Rattle.std.specs.Prelude.{◌≡◌, ◌&&◌, ℕ, suc, ◌<◌, ◌≤◌, Bool, nat_eq, List, [], ◌∷◌, length, map, Option, Some, IfSome, slice_get, if◌then◌else◌}
+use Rattle.std.specs.Prelude.{◌≡◌, ◌&&◌, ◌++◌, ℕ, suc, ◌<◌, ◌≤◌, Bool, nat_eq, nat_lt, List, [], ◌∷◌, length, map, take, drop, Option, Some, IfSome, slice_get, if◌then◌else◌}
+use Rattle.std.specs.List.{filter}
 use Rattle.std.proofs.Common.{set}
 use Rattle.mpx_num.specs.declared.own.Operation.{Operation}
 use Rattle.mpx_board.specs.Boards.{join_all}
@@ -33,9 +34,9 @@ abbrev pub all_taken : (place turn : ℕ) → List FrameUnderWay → List Proces
 all_taken place turn frames [] = []
 all_taken place turn frames (v ∷ vs) = taken place turn frames v ∷ all_taken (suc place) turn frames vs
 
--- each frame that comes in a later turn is still under way
-abbrev pub StillToCome : (turn : ℕ) → (old new : List FrameUnderWay) → Type 0
-StillToCome turn old new = (f : FrameUnderWay) (place : ℕ) → slice_get old place ≡ Some f → turn < f.turn → (now : ℕ) × (slice_get new now ≡ Some f)
+-- the frames in front of a place, and behind it those that come in later turns
+abbrev pub left_from : (turn place : ℕ) → List FrameView → List FrameView
+left_from turn place frames = take place frames ++ filter (λ (f : FrameView). nat_lt turn f.turn) (drop place frames)
 
 -- EACH GOES ON
 

@@ -1,8 +1,13 @@
 -- What a turn of a run is.
-use Rattle.std.specs.Prelude.{◌≡◌, ℕ, zero, suc, ◌<◌, ◌+◌, ◌++◌, All, true, nat_lt, List, [], ◌∷◌, length, map, Some, slice_get, if◌then◌else◌}
+use Rattle.std.specs.Prelude.{◌≡◌, ℕ, zero, suc, ◌<◌, ◌+◌, ◌++◌, All, true, nat_lt, List, [], ◌∷◌, length, map, Some, slice_get, nat_eq, ◌&&◌, if◌then◌else◌}
+use Rattle.std.specs.List.{filter}
+use Rattle.std.specs.List.Sorted.{IsPermutation}
 use Rattle.mpx_num.specs.declared.own.Operation.{Operation}
+use Rattle.mpx_board.specs.declared.board.Board.{Board}
 use Rattle.mpx_board.specs.Boards.{IsBoardBelow, Look, join_all}
+use Rattle.mpx_board.specs.Looks.{look}
 use Rattle.mpx_delta.specs.Facts.{OnlyFactsOf}
+use Rattle.mpx_delta.specs.Pieces.{AllFit, NoNeighboursFit}
 use Rattle.mpx_node.specs.Deltas.{lacking_on}
 use Rattle.mpx_node.specs.Nodes.{NodeView}
 use Rattle.mpx_script.specs.ScriptView.{ScriptView}
@@ -10,7 +15,7 @@ use Rattle.mpx_world.specs.Worlds.{Posts, Harvests, Gathers, Prunes, Sends, Take
 use Rattle.mpx_meaning.specs.Evaluation.{State}
 use Rattle.mpx_meaning.specs.Reports.{is_left}
 use Rattle.mpx_system.specs.Systems.{System, Doing, Nets, Drives, MayDoAll, does_all, start_system}
-use Rattle.mpx_sim.specs.Draws.{IsLater, ScheduleView, draw, drawn_once, generator}
+use Rattle.mpx_sim.specs.Draws.{ScheduleView, draw, drawn, drawn_again, drawn_once, first_schedule}
 
 -- what goes on in a process by itself: its rank moves, it stores a result, or it drops posts
 abbrev pub IsOwn : Doing → Type 0
@@ -82,10 +87,12 @@ abbrev pub one_a_turn : (from to turn : ℕ) → List Look → List FrameView
 one_a_turn from to turn [] = []
 one_a_turn from to turn (part ∷ parts) = record { from = from; to = to; turn = turn; part = part } ∷ one_a_turn from to (suc turn) parts
 
--- what a process makes in a turn: nothing, or the frames of a list, which say only what its board has, and together all that others may lack of it
+-- what a process makes in a turn: nothing, or the frames of a list, which say only what its board has, and together all that others may lack of it. Each has
+-- a mebibyte at most, and no two neighbours would fit into one
 pub data IsListOf (size turn p : ℕ) (node : NodeView) : List FrameView → Type 0 where
   no_list : IsListOf size turn p node []
-  a_list : (to : ℕ) (parts : List Look) → to < size → All (λ part. OnlyFactsOf part node.board) parts → join_all parts ≡ lacking_on node → IsListOf size turn p node (one_a_turn p to turn parts)
+  a_list : (to : ℕ) (parts : List Board) → to < size → All (λ part. OnlyFactsOf (look part) node.board) parts → join_all (map look parts) ≡ lacking_on node → AllFit 1048576 parts → NoNeighboursFit 1048576 parts
+      → IsListOf size turn p node (one_a_turn p to turn (map look parts))
 
 -- the frames of all these lists, one behind the other
 abbrev pub joined : List (List FrameView) → List FrameView
@@ -101,6 +108,27 @@ those_out s (f ∷ made) = if nat_lt (draw 100 s.draws) s.loss then those_out (d
 abbrev pub drawn_for : List FrameView → ScheduleView → ScheduleView
 drawn_for [] s = s
 drawn_for (f ∷ made) s = drawn_for made (drawn_once s)
+
+-- the schedule once a frame was asked whether it comes again, which is drawn where it has come in this turn
+abbrev pub asked : (turn : ℕ) → FrameView → ScheduleView → ScheduleView
+asked turn f s = if nat_eq f.turn turn then drawn_again s else s
+
+-- the frame then: where the number below four is 0, it comes again, by the next number one to four turns later
+abbrev pub put_off : (turn : ℕ) → FrameView → ScheduleView → FrameView
+put_off turn f s = if nat_eq f.turn turn && nat_eq (draw 4 s.draws) 0 then record { from = f.from; to = f.to; turn = turn + suc (draw 4 (drawn s.draws)); part = f.part } else f
+
+-- the same of each of these frames, one after the other
+abbrev pub drawn_again_for : (turn : ℕ) → List FrameView → ScheduleView → ScheduleView
+drawn_again_for turn [] s = s
+drawn_again_for turn (f ∷ frames) s = drawn_again_for turn frames (asked turn f s)
+
+abbrev pub all_put_off : (turn : ℕ) → List FrameView → ScheduleView → List FrameView
+all_put_off turn [] s = []
+all_put_off turn (f ∷ frames) s = put_off turn f s ∷ all_put_off turn frames (asked turn f s)
+
+-- those of them that come in later turns
+abbrev pub those_left : (turn : ℕ) → List FrameView → ScheduleView → List FrameView
+those_left turn frames s = filter (λ (f : FrameView). nat_lt turn f.turn) (all_put_off turn frames s)
 
 -- they are sent
 abbrev pub sends_each : List FrameView → List Doing
@@ -135,16 +163,22 @@ pub record HasSent (ranks size turn : ℕ) (from to : Moment) : Type 0 where
   pub frames_are : to.frames ≡ from.frames ++ those_out from.schedule (joined lists)
   pub schedule_is : to.schedule ≡ drawn_for (joined lists) from.schedule
 
--- and then frames come, so far these, in an order that is drawn
+-- and then frames come, so far these, in an order that is drawn: for each frame that is under way, one number
 pub record IsComing (ranks size turn : ℕ) (from : Moment) (schedule : ScheduleView) (to : System) : Type 0 where
   pub sent : Moment
   pub going : HasSent ranks size turn from sent
   pub comes : LeadsBy IsTaken ranks sent.system to
-  pub later : IsLater sent.schedule schedule
+  pub mixed : schedule ≡ drawn_for sent.frames sent.schedule
 
--- the turn of this number: each frame of it has come, so that its process's board has what it says, and those of later turns are still under way
+-- the turn of this number: each frame of it has come, so that its process's board has what it says, and those of later turns are still under way. For each
+-- that has come it is drawn, in their order, whether it comes again
 pub record IsTurn (ranks size turn : ℕ) (from to : Moment) : Type 0 where
-  pub coming : IsComing ranks size turn from to.schedule to.system
+  pub mixed : ScheduleView
+  pub coming : IsComing ranks size turn from mixed to.system
+  pub order : List FrameView
+  pub ordered : IsPermutation coming.sent.frames order
+  pub frames_are : to.frames ≡ those_left turn order mixed
+  pub schedule_is : to.schedule ≡ drawn_again_for turn order mixed
   pub came : All (λ (f : FrameView). f.turn ≡ turn → f.to < size → IsBoardBelow f.part (to.system.world.each f.to).node.board) coming.sent.frames
   pub still : All (λ (f : FrameView). turn < f.turn → IsUnder to.frames f) coming.sent.frames
 
@@ -168,15 +202,13 @@ IsIn (Coming turn s) d = IsTaken d
 abbrev pub Since : (ranks size : ℕ) (begun : Moment) → Phase → List FrameView → System → Type 0
 Since ranks size begun Alone frames to = LeadsBy IsOwn ranks begun.system to × (frames ≡ begun.frames)
 Since ranks size begun Saying frames to = HasSaid ranks begun.system to × (frames ≡ begun.frames)
-Since ranks size begun (Coming turn s) frames to = (coming : IsComing ranks size turn begun s to) × All (IsUnder frames) coming.sent.frames
+Since ranks size begun (Coming turn s) frames to = (coming : IsComing ranks size turn begun s to) × IsPermutation coming.sent.frames frames
 
 -- so many turns of a schedule with this loss and seed, and what goes on in each process by itself then, lead from the start of the script's run with so
--- many relays to processes with these nodes. Before the first turn is drawn how far on each process sends, and no frame is under way
+-- many relays to processes with these nodes. No frame is under way before the first turn
 pub record AreAfter (ops : List Operation) (script : ScriptView) (relays seed loss turns : ℕ) (nodes : List NodeView) : Type 0 where
-  pub first : ScheduleView
-  pub seeded : IsLater (record { loss = loss; draws = generator seed }) first
   pub begun : Moment
-  pub made : AreTurns turns script.ranks (script.ranks + relays) (record { system = start_system ops script.statements script.ranks (script.ranks + relays); frames = []; schedule = first }) begun
+  pub made : AreTurns turns script.ranks (script.ranks + relays) (record { system = start_system ops script.statements script.ranks (script.ranks + relays); frames = []; schedule = first_schedule (script.ranks + relays) seed loss }) begun
   pub system : System
   pub own : LeadsBy IsOwn script.ranks begun.system system
   pub nodes_are : (p : ℕ) (node : NodeView) → slice_get nodes p ≡ Some node → node ≡ (system.world.each p).node

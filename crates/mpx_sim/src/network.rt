@@ -1,14 +1,14 @@
 //! What goes from process to process in a run.
-ghost use Rattle.std.specs.Prelude.{◌≡◌, ◌<◌, ◌↔◌, ◌≤◌, ◌++◌, ◌∷◌, [], ◌⊎◌, All, IfOk, IsFalse, IsTrue, List, OnOk, Some, map, slice_get, true, ℕ};
+ghost use Rattle.std.specs.Prelude.{◌≡◌, ◌<◌, ◌↔◌, ◌≤◌, ◌++◌, ◌∷◌, [], ◌⊎◌, IfOk, IsFalse, IsTrue, List, OnOk, Some, length, map, slice_get, true, ℕ, ◌+◌};
 ghost use Rattle.std.specs.List.Sorted.{IsPermutation};
 ghost use Rattle.mpx_num.specs.declared.own.Operation.{Operation};
 ghost use Rattle.mpx_board.specs.Boards.{IsBoardBelow};
 ghost use Rattle.mpx_meaning.specs.Evaluation.{Script as Statements};
-ghost use Rattle.mpx_sim.specs.Draws.{AreDrawn, IsLater, ScheduleView, drawn_once, generator};
-ghost use Rattle.mpx_sim.specs.Running.{HaveCome, HaveGrown, IsAmong, IsUnderWay, ProcessView};
+ghost use Rattle.mpx_sim.specs.Draws.{ScheduleView, drawn_once, drawn_times, generator, powers_below};
+ghost use Rattle.mpx_sim.specs.Running.{HaveCome, HaveGrown, IsUnderWay, ProcessView};
 ghost use Rattle.mpx_sim.specs.Shown.{frame_of, frames_of, part_of, process_of, schedule_of};
-ghost use Rattle.mpx_sim.specs.SideBySide.{AreReady, StillToCome, to_send};
-ghost use Rattle.mpx_sim.specs.Turns.{Coming, FrameView, Moment, drawn_for, joined, those_out};
+ghost use Rattle.mpx_sim.specs.SideBySide.{AreReady, left_from, to_send};
+ghost use Rattle.mpx_sim.specs.Turns.{Coming, FrameView, Moment, all_put_off, asked, drawn_again_for, drawn_for, joined, put_off, those_left, those_out};
 
 use crate::frame_under_way::FrameUnderWay;
 use crate::observer::Observer;
@@ -37,7 +37,7 @@ impl Network {
     ) -> Result<Network, OutOfMemory>
         ensures frames { IfOk result (λ network. network.frames.items ≡ []) }
         ensures loss { IfOk result (λ network. network.schedule.loss ≡ options.now.loss) }
-        ensures seed { IfOk result (λ network. AreDrawn (generator options.now.seed) network.schedule.words) }
+        ensures seed { IfOk result (λ network. network.schedule.words ≡ drawn_times (powers_below 6 processes) (generator options.now.seed)) }
     {
         Ok(Network {
             frames: Vec::new(alloc),
@@ -64,7 +64,7 @@ impl Network {
     /// Brings the frames into an order that is drawn.
     pub(crate) fn mix(&mut self)
         ensures frames { IsPermutation self.old.frames.items self.new.frames.items }
-        ensures words { AreDrawn self.old.schedule.words self.new.schedule.words }
+        ensures words { self.new.schedule.words ≡ drawn_times (length self.old.frames.items) self.old.schedule.words }
         ensures loss { self.new.schedule.loss ≡ self.old.schedule.loss }
     {
         self.schedule.shuffle(&mut self.frames);
@@ -215,9 +215,8 @@ fn arrive(
 /// are still to come.
 pub(crate) fn keep_some(network: &mut Network, turn: u64)
     requires { turn < 4294967296 }
-    ensures parts { All (IsAmong (map part_of network.old.frames.items)) (map part_of network.new.frames.items) }
-    ensures later { IsLater (schedule_of network.old.schedule) (schedule_of network.new.schedule) }
-    ensures kept { StillToCome turn network.old.frames.items network.new.frames.items }
+    ensures frames { frames_of network.new ≡ those_left turn (frames_of network.old) (schedule_of network.old.schedule) }
+    ensures schedule { schedule_of network.new.schedule ≡ drawn_again_for turn (frames_of network.old) (schedule_of network.old.schedule) }
 {
     delay_some(network, turn);
     let mut i: usize = 0;
@@ -229,11 +228,15 @@ pub(crate) fn keep_some(network: &mut Network, turn: u64)
 // Lets the frame at the place go, where it comes no more, and tells the place of the next one. Its items go, and its room serves another frame.
 // Where memory for one more is refused, its room goes too.
 fn let_go(network: &mut Network, i: usize, turn: u64) -> usize
-    ensures parts { All (IsAmong (map part_of network.old.frames.items)) (map part_of network.new.frames.items) }
     ensures schedule { network.new.schedule ≡ network.old.schedule }
-    ensures kept { StillToCome turn network.old.frames.items network.new.frames.items }
+    ensures left { i < length network.old.frames.items → left_from turn result (frames_of network.new) ≡ left_from turn i (frames_of network.old) }
+    ensures nearer { i < length network.old.frames.items → length network.new.frames.items + i + 1 ≡ length network.old.frames.items + result }
 {
-    if i >= network.frames.len() || network.frames[i].turn > turn {
+    if i >= network.frames.len() {
+        return i.wrapping_add(1);
+    }
+    let comes = network.frames[i].turn;
+    if comes > turn {
         return i.wrapping_add(1);
     }
     let frame = network.frames.remove(i);
@@ -246,10 +249,9 @@ fn let_go(network: &mut Network, i: usize, turn: u64) -> usize
 // One in four of the turn's frames comes again.
 fn delay_some(network: &mut Network, turn: u64)
     requires { turn < 4294967296 }
+    ensures frames { frames_of network.new ≡ all_put_off turn (frames_of network.old) (schedule_of network.old.schedule) }
     ensures parts { map part_of network.new.frames.items ≡ map part_of network.old.frames.items }
-    ensures words { AreDrawn network.old.schedule.words network.new.schedule.words }
-    ensures loss { network.new.schedule.loss ≡ network.old.schedule.loss }
-    ensures kept { StillToCome turn network.old.frames.items network.new.frames.items }
+    ensures schedule { schedule_of network.new.schedule ≡ drawn_again_for turn (frames_of network.old) (schedule_of network.old.schedule) }
 {
     for i in 0..network.frames.len() {
         delay(&mut network.frames[i], &mut network.schedule, turn);
@@ -259,18 +261,16 @@ fn delay_some(network: &mut Network, turn: u64)
 // It comes again, where this is its turn and it is drawn: later, to the same process, and with the same bytes.
 fn delay(frame: &mut FrameUnderWay, schedule: &mut Schedule, turn: u64)
     requires { turn < 4294967296 }
-    ensures later { (frame.new.turn ≡ frame.old.turn) ⊎ (turn < frame.new.turn) }
     ensures bytes { frame.new.bytes ≡ frame.old.bytes }
-    ensures to { frame.new.to ≡ frame.old.to }
-    ensures words { AreDrawn schedule.old.words schedule.new.words }
-    ensures loss { schedule.new.loss ≡ schedule.old.loss }
-    ensures kept { turn < frame.old.turn → frame.new ≡ frame.old }
+    ensures frame { frame_of frame.new ≡ put_off turn (frame_of frame.old) (schedule_of schedule.old) }
+    ensures schedule { schedule_of schedule.new ≡ asked turn (frame_of frame.old) (schedule_of schedule.old) }
 {
     if frame.turn != turn {
         return;
     }
-    if let Some(later) = schedule.again() {
-        frame.turn = turn.saturating_add(later);
-        frame.again = true;
-    }
+    let Some(later) = schedule.again() else {
+        return;
+    };
+    frame.turn = turn.saturating_add(later);
+    frame.again = true;
 }

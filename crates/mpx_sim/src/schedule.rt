@@ -1,7 +1,8 @@
 //! What is drawn in a run. Equal seeds give equal draws.
-ghost use Rattle.std.specs.Prelude.{◌≡◌, ◌<◌, ◌≤◌, ◌⊎◌, ◌↔◌, IfOk, IfSome, IsFalse, IsTrue};
+ghost use Rattle.std.specs.Prelude.{◌≡◌, ◌<◌, ◌≤◌, ◌⊎◌, ◌↔◌, IfOk, IfSome, IsFalse, IsTrue, None, Some, if◌then◌else◌, length, nat_eq, suc};
 ghost use Rattle.std.specs.List.Sorted.{IsPermutation};
-ghost use Rattle.mpx_sim.specs.Draws.{AreDrawn, draw, drawn, generator};
+ghost use Rattle.mpx_sim.specs.Draws.{draw, drawn, drawn_again, drawn_times, generator, powers_below};
+ghost use Rattle.mpx_sim.specs.Shown.{schedule_of};
 
 use join_core::OutOfMemory;
 use rand_core::utils::NextWord;
@@ -32,7 +33,7 @@ impl Schedule {
         processes: usize,
     ) -> Result<Schedule, OutOfMemory>
         ensures loss { IfOk result (λ schedule. schedule.loss ≡ loss) }
-        ensures seed { IfOk result (λ schedule. AreDrawn (generator seed) schedule.words) }
+        ensures seed { IfOk result (λ schedule. schedule.words ≡ drawn_times (powers_below 6 processes) (generator seed)) }
     {
         let mut shifts = Vec::new(alloc);
         for place in 0..MOST_SHIFTS {
@@ -102,7 +103,8 @@ impl Schedule {
     /// In how many turns a frame that was taken is taken again, which one in four is: 1 to 4.
     pub(crate) fn again(&mut self) -> Option<u64>
         ensures later { IfSome result (λ later. 0 < later) }
-        ensures words { AreDrawn self.old.words self.new.words }
+        ensures again { result ≡ (if nat_eq (draw 4 self.old.words) 0 then Some (suc (draw 4 (drawn self.old.words))) else None) }
+        ensures schedule { schedule_of self.new ≡ drawn_again (schedule_of self.old) }
         ensures loss { self.new.loss ≡ self.old.loss }
     {
         let comes = below(&mut self.words, 4);
@@ -113,10 +115,10 @@ impl Schedule {
         Some(turns as u64 + 1)
     }
 
-    /// Brings items into an order that is drawn.
+    /// Brings items into an order that is drawn: one number for each.
     pub(crate) fn shuffle<T>(&mut self, items: &mut Vec<T>)
         ensures items { IsPermutation items.old.items items.new.items }
-        ensures words { AreDrawn self.old.words self.new.words }
+        ensures words { self.new.words ≡ drawn_times (length items.old.items) self.old.words }
         ensures loss { self.new.loss ≡ self.old.loss }
     {
         shuffle(&mut self.words, items);
@@ -136,7 +138,7 @@ fn below(words: &mut Pcg32, limit: usize) -> usize
 // Each place gets one of the items that the places before it have left.
 fn shuffle<T>(words: &mut Pcg32, items: &mut Vec<T>)
     ensures items { IsPermutation items.old.items items.new.items }
-    ensures words { AreDrawn words.old words.new }
+    ensures words { words.new ≡ drawn_times (length items.old.items) words.old }
 {
     for i in 0..items.len() {
         let j = i + below(words, items.len() - i);

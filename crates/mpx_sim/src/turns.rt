@@ -185,7 +185,7 @@ fn go_further<R: Threads + Sync>(
     requires came { (plan.now.in_order ≡ true) ⊎ (plan.now.turns ≤ number + 1) → HaveCome number (frames_of network.old) (map process_of processes.old) }
     ensures run { OnOk result ((script : Statements) (ranks size : ℕ) (begun : Moment) → plan.now.ranks ≤ ranks
         → IsUnderWay (⟦<Ops as Listing>⟧.operations ops.now) script ranks size begun (Coming number (schedule_of network.old.schedule)) (map process_of processes.old) (frames_of network.old)
-        → HasTurned (⟦<Ops as Listing>⟧.operations ops.now) script ranks size number begun (schedule_of network.new.schedule) (map process_of processes.new) (frames_of network.new)) }
+        → HasTurned (⟦<Ops as Listing>⟧.operations ops.now) script ranks size plan.now.turns number begun (schedule_of network.new.schedule) (map process_of processes.new) (frames_of network.new)) }
     ensures loss { OnOk result (network.new.schedule.loss ≡ network.old.schedule.loss) }
     ensures ready { OnOk result (number + 1 < plan.now.turns → AreReady processes.new) }
 {

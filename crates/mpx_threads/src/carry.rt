@@ -52,21 +52,33 @@ pub(crate) fn carry_out<L: PortLock, R: Wait>(
     requires plan { IsPlannedByScript script.now L.setup }
     ensures { IfOk result (λ carried. HasCome script.now L.setup me carried.told carried.poster.share.amount (map string_bytes carried.lines.items) carried.waits carried.calls.items) }
 {
-    let world = (Name::world(alloc), Birth::world(alloc, script.ranks())?);
-    let mut rank = Interpreter::new(alloc, me, Some(world), script.statements(me.number()))?;
+    // Each exit owns little, and none of them is a `?`, which is two calls more: the prover has each step with all that is alive.
+    let world = match Birth::world(alloc, script.ranks()) {
+        Ok(birth) => Some((Name::world(alloc), birth)),
+        Err(e) => return Err(e),
+    };
+    let mut rank = match Interpreter::new(alloc, me, world, script.statements(me.number())) {
+        Ok(rank) => rank,
+        Err(e) => return Err(e),
+    };
     let mut desk = ThreadDesk::new(alloc, rt, port, looks, poster);
-    rank.go_on(alloc, &mut desk, ops)?;
+    let calls = match rank.go_on(alloc, &mut desk, ops) {
+        Ok(_) => awaited_calls(alloc, rank.awaited(), rank.requests(), rank.todo()),
+        Err(e) => Err(e),
+    };
     let waits = rank.is_waiting();
-    let calls = awaited_calls(alloc, rank.awaited(), rank.requests(), rank.todo())?;
     let lines = rank.into_lines();
     let (told, poster) = desk.into_parts();
-    Ok(Carried {
-        lines,
-        waits,
-        calls,
-        told,
-        poster,
-    })
+    match calls {
+        Ok(calls) => Ok(Carried {
+            lines,
+            waits,
+            calls,
+            told,
+            poster,
+        }),
+        Err(e) => Err(e),
+    }
 }
 
 // The calls that a rank waits for: that whose outcome it awaits, or else those of the requests that are open of its next statement, where

@@ -1,7 +1,10 @@
 //! The desk of a rank in a thread: it carries the rank's posts over a port that the rank shares with its gossip.
-ghost use Rattle.std.specs.Prelude.{◌≡◌, [], IfOk, IfSome, OnOk, Some, true};
+ghost use Rattle.std.specs.Prelude.{◌≡◌, [], IfOk, IfSome, OnOk, Some, string_bytes, true};
 ghost use Rattle.mpx_value.specs.Histories.{answer_with};
+ghost use Rattle.mpx_meaning.specs.Ranks.{bound_by};
+ghost use Rattle.mpx_meaning.specs.Transcripts.{outcome_text};
 ghost use Rattle.mpx_rank.specs.Answered.{answer_of};
+ghost use Rattle.mpx_rank.specs.Places.{bound_as};
 ghost use Rattle.mpx_shared.specs.LawfulPorts.{planned_birth};
 ghost use Rattle.mpx_shared.specs.Laws.{IsPlannedResult};
 ghost use Rattle.mpx_threads.specs.Plans.{planned_results};
@@ -10,7 +13,7 @@ ghost use Rattle.mpx_threads.specs.ToldCalls.{HearsMore, TellsCall};
 use crate::attempt::Attempt;
 use crate::looks::Looks;
 use crate::told::Told;
-use join_core::{Exact, OutOfMemory};
+use join_core::OutOfMemory;
 use mpx_birth::Birth;
 use mpx_group::Proc;
 use mpx_meaning::line;
@@ -31,6 +34,18 @@ use std::sync::Wait;
 struct Said {
     text: String,
     given: Option<(Name, Birth)>,
+}
+
+impl Said {
+    // What is told by an answer.
+    fn by(alloc: Global, answered: &Answered) -> Result<Said, OutOfMemory>
+        ensures text { IfOk result (λ said. string_bytes said.text ≡ outcome_text answered.now.outcome) }
+        ensures given { IfOk result (λ said. bound_as said.given ≡ bound_by answered.now.outcome answered.now.born) }
+    {
+        let text = line(alloc, &answered.outcome)?;
+        let given = answered.given(alloc)?;
+        Ok(Said { text, given })
+    }
 }
 
 /// What carries a rank's posts: the port that it shares with its gossip, how it looks for what comes, its right to post, and what it was
@@ -158,11 +173,9 @@ impl<'a, L: PortLock, R: Wait> ThreadDesk<'a, L, R> {
     {
         match self.answer(alloc, ticket)? {
             Some(answered) => {
-                let text = line(alloc, &answered.outcome)?;
-                let given = answered.given(alloc)?;
-                let name = ticket.name.copy(alloc)?;
-                self.told.add(name, ticket.call, answered)?;
-                Ok(Some(Said { text, given }))
+                let said = Said::by(alloc, &answered)?;
+                self.told.add(alloc, ticket, answered)?;
+                Ok(Some(said))
             }
             None => self.tell_again(alloc, ticket),
         }
@@ -175,9 +188,8 @@ impl<'a, L: PortLock, R: Wait> ThreadDesk<'a, L, R> {
         let Some(answered) = self.told.find(&ticket.name, ticket.call) else {
             return Ok(None);
         };
-        let text = line(alloc, &answered.outcome)?;
-        let given = answered.given(alloc)?;
-        Ok(Some(Said { text, given }))
+        let said = Said::by(alloc, answered)?;
+        Ok(Some(said))
     }
 }
 
@@ -239,9 +251,16 @@ impl<'a, L: PortLock, R: Wait> Carrier for ThreadDesk<'a, L, R> {
         call: Ticket,
         _ops: &Ops,
     ) -> Result<Heard<Ticket, (Name, Birth)>, OutOfMemory> {
-        match self.tell(alloc, &call)? {
-            Some(Said { text, given }) => Ok(Heard::Told { text, given }),
-            None => Ok(Heard::NotYet(call)),
+        match self.tell(alloc, &call) {
+            Ok(Some(Said { text, given })) => {
+                drop(call);
+                Ok(Heard::Told { text, given })
+            }
+            Ok(None) => Ok(Heard::NotYet(call)),
+            Err(e) => {
+                drop(call);
+                Err(e)
+            }
         }
     }
 

@@ -9,7 +9,7 @@ use join_core::{Exact, OutOfMemory};
 use mpx_name::Name;
 use mpx_node::Node;
 use mpx_rank::Answered;
-use mpx_shared::PortLock;
+use mpx_shared::{PortLock, Ticket};
 use std::alloc::Global;
 use std::marker::{Model, PhantomData};
 
@@ -52,19 +52,20 @@ impl<L: PortLock> Told<L> {
         }
     }
 
-    /// One more.
+    /// One more: what came of the ticket's call.
     pub(crate) fn add(
         &mut self,
-        name: Name,
-        call: u32,
+        alloc: Global,
+        ticket: &Ticket,
         answered: Answered,
     ) -> Result<(), OutOfMemory>
-        requires { planned_results L.setup L.me name call ≡ Some (answer_of answered) }
-        ensures { OnOk result (self.new ≡ self.old ++ record { name = name; call = call; answered = answered } ∷ []) }
+        requires { planned_results L.setup L.me ticket.now.name ticket.now.call ≡ Some (answer_of answered) }
+        ensures { OnOk result (self.new ≡ self.old ++ record { name = ticket.now.name; call = ticket.now.call; answered = answered } ∷ []) }
     {
+        let name = ticket.name.copy(alloc)?;
         self.calls.push(ToldCall {
             name,
-            call,
+            call: ticket.call,
             answered,
         })?;
         Ok(())

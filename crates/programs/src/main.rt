@@ -1,18 +1,27 @@
-//! The program `programs`: small programs by `ranks`, as the tutorials of MPI have them, each in a file of its own.
+//! The program `programs`: small programs by `ranks`, as the tutorials of MPI have them, each in a file of its own, and three whose boards the
+//! program carries by hand.
 #![tactic(auto)]
 
 mod asks;
+mod calls;
+mod desks;
 mod flight;
+mod inbox;
+mod nodes;
 mod paths;
 mod scan;
 mod sort;
+mod waiting;
 mod why;
 
 use asks::Asks;
+use calls::Calls;
+use desks::sum_by_hand;
 use flight::Flight;
 use matrix_product::Product;
 use mpx_num::{Ops, OwnOp};
 use mpx_ranks::{Program, ranks};
+use nodes::sums_of_own_nodes;
 use paths::Paths;
 use scan::Scan;
 use sort::Sort;
@@ -22,6 +31,7 @@ use std::io::Write;
 use std::process::ExitCode;
 use std::sync::Wait;
 use std::thread::Threads;
+use waiting::sum_from_inbox;
 use why::Why;
 
 /// So many turns a call waits at most.
@@ -67,7 +77,19 @@ fn print_all<R: Threads + Wait + Sync, W: Write>(
     print_job(rt, alloc, out, "paths", 8, &Paths, ops)?;
     print_job(rt, alloc, out, "flight", 3, &Flight, ops)?;
     print_job(rt, alloc, out, "asks", 3, &Asks, ops)?;
+    print_job(rt, alloc, out, "calls", 3, &Calls, ops)?;
+    print_by_hand(alloc, out, ops)?;
     Ok(out.flush()?)
+}
+
+// What comes of boards that go by hand.
+fn print_by_hand<W: Write>(alloc: Global, out: &mut W, ops: &Ops) -> Result<(), Why> {
+    writeln!(out, "by hand {}", sum_by_hand(alloc, ops)?)?;
+    let (sum, boards) = sum_from_inbox(alloc, ops)?;
+    writeln!(out, "inbox {sum} {boards}")?;
+    let (left, right) = sums_of_own_nodes(alloc, ops)?;
+    writeln!(out, "nodes {left} {right}")?;
+    Ok(())
 }
 
 // Makes the list of the job's own operations, and runs all by it.

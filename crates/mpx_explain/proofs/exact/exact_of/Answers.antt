@@ -1,7 +1,9 @@
-use Rattle.mpx_explain.specs.Overflows.{exact_from, neutral}
-use Rattle.mpx_explain.proofs.Summing.{exact_more}
+use Rattle.std.proofs.Common.{arith}
+use Rattle.mpx_explain.proofs.Summing.{comes_to, up_to_more}
 use Rattle.mpx_explain.proofs.exact.exact_of.Goals as goal
 
 pub loop-rank-preserved : goal.loop-rank-preserved
-loop-rank-preserved c = exact_more c.args.script.now.statements c.args.op c.args.index c.loop-rank.rank c.args.places.now c.loop-rank.exact c.step-exact.result
-    (exact_from c.args.script.now.statements c.args.op c.args.index 0 (neutral c.args.op) c.args.places.now) c.loop-rank-test.true c.step-exact.ensures c.loop-rank.invariant
+loop-rank-preserved c = up_to_more c.args.script.now.statements c.args.op c.args.index c.loop-rank.rank c.args.places.now c.loop-rank.exact c.step-exact.result c.loop-rank-test.true c.step-exact.ensures c.loop-rank.invariant
+
+pub returns : goal.returns
+returns c = comes_to c.args.script.now.statements c.args.op c.args.index c.loop-rank.rank c.args.places.now c.loop-rank.exact (omega (arith, c.loop-rank-test.false)) c.loop-rank.invariant

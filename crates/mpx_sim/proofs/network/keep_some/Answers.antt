@@ -1,22 +1,41 @@
-use Rattle.std.proofs.Common.{map, sym, subst}
-use Rattle.std.specs.List.{All}
-use Rattle.mpx_sim.specs.declared.schedule.Schedule.{Schedule}
-use Rattle.mpx_sim.specs.Draws.{IsLater}
-use Rattle.mpx_sim.specs.Running.{IsAmong}
-use Rattle.mpx_sim.specs.Shown.{part_of, schedule_of}
-use Rattle.mpx_sim.proofs.Running.{among_itself, among_then}
+use Rattle.std.proofs.Common.{◌≡◌, ◌<◌, ◌≤◌, ◌∙◌, ap, arith, length, sym, take}
+use Rattle.std.specs.Prelude.{◌++◌, nat_lt}
+use Rattle.std.specs.List.{filter}
+use Rattle.std.proofs.lemmas.List.{append-nil, drop_all, length-map, take_all}
+use Rattle.mpx_sim.specs.Shown.{frame_of, frames_of, schedule_of}
+use Rattle.mpx_sim.specs.Turns.{FrameView}
+use Rattle.mpx_sim.proofs.Left.{off_length}
 use Rattle.mpx_sim.proofs.network.keep_some.Goals as goal
 
-pub loop-preserved : goal.loop-preserved
-loop-preserved c = record {
-  parts = among_then _ _ _ c.loop.invariant.parts c.let_go-i.ensures.parts;
-  later = subst (λ (s : Schedule). IsLater (schedule_of c.args.network.now.schedule) (schedule_of s)) (sym c.let_go-i.ensures.schedule) c.loop.invariant.later;
-  kept = λ f place at later. let h = c.loop.invariant.kept f place at later in c.let_go-i.ensures.kept f h.0 h.1 later;
-}
-
 pub loop-init : goal.loop-init
-loop-init c = record {
-  parts = subst (All (IsAmong (map part_of c.args.network.now.frames.items))) (sym c.delay_some.ensures.parts) (among_itself (map part_of c.args.network.now.frames.items));
-  later = (c.delay_some.ensures.loss, c.delay_some.ensures.words);
-  kept = c.delay_some.ensures.kept;
-}
+loop-init c =
+    let old = c.args.network.now in
+    let mid = c.delay_some.new.network in
+    let many : length mid.frames.items ≡ length old.frames.items = sym (length-map mid.frames.items frame_of) ∙ ap length c.delay_some.ensures.frames ∙ off_length c.args.turn (frames_of old) (schedule_of old.schedule) ∙ length-map old.frames.items frame_of in
+    record {
+      left = ap (filter (λ (f : FrameView). nat_lt c.args.turn f.turn)) c.delay_some.ensures.frames;
+      near = omega (arith, many);
+      schedule = c.delay_some.ensures.schedule;
+    }
+
+pub loop-preserved : goal.loop-preserved
+loop-preserved c =
+    let old = c.args.network.now in
+    let mid = c.delay_some.new.network in
+    let many : length mid.frames.items ≡ length old.frames.items = sym (length-map mid.frames.items frame_of) ∙ ap length c.delay_some.ensures.frames ∙ off_length c.args.turn (frames_of old) (schedule_of old.schedule) ∙ length-map old.frames.items frame_of in
+    let within : c.loop.i < length c.loop.network.frames.items = omega (arith, c.loop.invariant.near, c.loop-test.true, many) in
+    record {
+      left = c.let_go-i.ensures.left within ∙ c.loop.invariant.left;
+      near = omega (arith, c.let_go-i.ensures.nearer within, c.loop.invariant.near);
+      schedule = ap schedule_of c.let_go-i.ensures.schedule ∙ c.loop.invariant.schedule;
+    }
+
+pub returns-clause-frames : goal.returns-clause-frames
+returns-clause-frames c =
+    let old = c.args.network.now in
+    let mid = c.delay_some.new.network in
+    let i = c.loop.i in
+    let frames = frames_of c.loop.network in
+    let many : length mid.frames.items ≡ length old.frames.items = sym (length-map mid.frames.items frame_of) ∙ ap length c.delay_some.ensures.frames ∙ off_length c.args.turn (frames_of old) (schedule_of old.schedule) ∙ length-map old.frames.items frame_of in
+    let few : length frames ≤ i = omega (arith, c.loop.invariant.near, c.loop-test.false, many, length-map c.loop.network.frames.items frame_of) in
+    sym (take_all i frames few) ∙ sym (append-nil (take i frames)) ∙ ap (λ fs. take i frames ++ filter (λ (f : FrameView). nat_lt c.args.turn f.turn) fs) (sym (drop_all i frames few)) ∙ c.loop.invariant.left

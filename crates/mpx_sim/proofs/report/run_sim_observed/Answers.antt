@@ -60,4 +60,4 @@ returns-clause-rests g c less some_come e is =
 pub returns-clause-turns : goal.returns-clause-turns
 returns-clause-turns g c =
     let ran = c.in_ok-processes.ensures.run in
-    is_after _ c.args.script.now c.args.options.now.relays ran.begun (map process_of c.in_ok-processes.processes.items) ran.frames ran.run (map node_of c.in_ok-transcripts.nodes.items) c.in_ok-transcripts.ensures.nodes c.args.options.now.seed c.args.options.now.loss c.in_ok-processes.turns ran.first ran.seeded ran.made
+    is_after _ c.args.script.now c.args.options.now.relays ran.begun (map process_of c.in_ok-processes.processes.items) ran.frames ran.run (map node_of c.in_ok-transcripts.nodes.items) c.in_ok-transcripts.ensures.nodes c.args.options.now.seed c.args.options.now.loss c.in_ok-processes.turns ran.made

@@ -1,16 +1,15 @@
 use Rattle.std.proofs.Common.{◌≡◌, ◌<◌, ◌∙◌, ◌⊎◌, Bool, false, inl, inr, length, map, true, refl, sym, ap, subst, arith}
 use Rattle.std.specs.Prelude.{◌||◌}
 use Rattle.std.proofs.lemmas.List.{length-map}
-use Rattle.std.proofs.lemmas.List.Sorted.{IsPermutation-sym}
-use Rattle.std.proofs.lemmas.Map.Views.{All-map-IsPermutation}
+use Rattle.std.proofs.lemmas.List.Sorted.{IsPermutation-map}
 use Rattle.mpx_sim.specs.Shown.{frame_of, frames_of, moment_of, process_of, schedule_of}
 use Rattle.mpx_sim.specs.SideBySide.{to_send}
-use Rattle.mpx_sim.specs.Turns.{Coming, IsListOf, joined}
+use Rattle.mpx_sim.specs.Turns.{Coming, IsListOf, drawn_for, joined}
 use Rattle.mpx_sim.specs.Draws.{ScheduleView}
 use Rattle.mpx_sim.specs.Running.{HaveCome, IsUnderWay}
 use Rattle.mpx_sim.proofs.Results.{left_at}
-use Rattle.mpx_sim.proofs.Running.{run_draws, run_mixed, run_says, run_scheduled}
-use Rattle.mpx_sim.proofs.Sending.{run_out, same_loss}
+use Rattle.mpx_sim.proofs.Running.{run_mixed, run_says, run_scheduled}
+use Rattle.mpx_sim.proofs.Sending.{mixed_of, run_out, same_loss}
 use Rattle.mpx_sim.proofs.SideBySide.{all_lists, ready_made, run_made}
 use Rattle.mpx_sim.proofs.Tried.{on_each_ok}
 use Rattle.mpx_sim.proofs.turns.exchange.Goals as goal
@@ -32,12 +31,15 @@ returns-clause-run g c =
     let lists = map to_send qs in
     let out = run_out ops script ranks size begun turn said before made lists (length-map qs to_send ∙ sym (length-map qs process_of)) (λ p list e v at. subst (λ n. IsListOf n turn v.rank.me v.node list) many (all_lists count turn c.args.processes.now qs c.in_ok-say_all.ensures p list e v at)) in
     let mid = c.send_all.new.network in
-    let sent = run_scheduled ops script ranks size begun turn _ (schedule_of mid.schedule) _ _ _ _ (sym c.in_ok-send_all.ensures.schedule) (sym c.in_ok-send_all.ensures.same) (sym c.in_ok-send_all.ensures.frames) out in
+    let drawn =
+    ap (λ fs. drawn_for fs (drawn_for (joined lists) (schedule_of c.args.network.now.schedule))) (sym c.in_ok-send_all.ensures.frames)
+    ∙ ap (drawn_for (frames_of mid)) (sym c.in_ok-send_all.ensures.schedule)
+    ∙ mixed_of mid.schedule c.mix.new.self.schedule (frames_of mid) (length mid.frames.items) (sym (length-map mid.frames.items frame_of)) c.mix.ensures.loss c.mix.ensures.words in
+    let sent = run_scheduled ops script ranks size begun turn _ (schedule_of c.mix.new.self.schedule) _ _ _ _ drawn (sym c.in_ok-send_all.ensures.same) (sym c.in_ok-send_all.ensures.frames) out in
     let all = map process_of c.send_all.new.processes in
-    let mixed = run_mixed ops script ranks size begun turn (schedule_of mid.schedule) all (frames_of mid) sent (frames_of c.mix.new.self) (λ P. All-map-IsPermutation frame_of P mid.frames.items c.mix.new.self.frames.items c.mix.ensures.frames)
-    (λ P. All-map-IsPermutation frame_of P c.mix.new.self.frames.items mid.frames.items (IsPermutation-sym mid.frames.items c.mix.new.self.frames.items c.mix.ensures.frames)) in
+    let mixed = run_mixed ops script ranks size begun turn (schedule_of c.mix.new.self.schedule) all (frames_of mid) sent (frames_of c.mix.new.self) (IsPermutation-map frame_of mid.frames.items c.mix.new.self.frames.items c.mix.ensures.frames) in
     subst (λ n. IsUnderWay ops script ranks size begun (Coming n (schedule_of c.mix.new.self.schedule)) (map process_of c.deliver.new.processes) (frames_of c.mix.new.self)) c.from-turn.ensures
-    (delivers ops script ranks size begun _ (run_draws ops script ranks size begun turn (schedule_of mid.schedule) all (frames_of c.mix.new.self) mixed (schedule_of c.mix.new.self.schedule) (c.mix.ensures.loss, c.mix.ensures.words))))
+    (delivers ops script ranks size begun _ mixed))
     c.deliver.ensures.run
 
 is_true : (b : Bool) → (b ≡ false → ⊥) → b ≡ true

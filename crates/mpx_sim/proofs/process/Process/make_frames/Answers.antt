@@ -2,12 +2,10 @@ use Rattle.std.proofs.Common.{map, ap, sym, subst, ◌∙◌}
 use Rattle.std.proofs.lemmas.Result.{IfOk-weaker}
 use Rattle.mpx_board.specs.Boards.{join_all}
 use Rattle.mpx_format.specs.Decoding.{decoded, shown}
-use Rattle.mpx_delta.specs.Facts.{OnlyFactsOf}
 use Rattle.mpx_sim.specs.Shown.{process_of}
 use Rattle.mpx_sim.specs.Turns.{FrameView, IsListOf, a_list, one_a_turn}
-use Rattle.std.proofs.lemmas.List.Elements.{All-map}
 use Rattle.mpx_sim.proofs.Sending.{parts_in_turns, parts_of_frames}
-use Rattle.mpx_sim.proofs.Spelled.{spelled_facts, spelled_parts, spelled_whole}
+use Rattle.mpx_sim.proofs.Spelled.{spelled_parts, spelled_whole}
 use Rattle.mpx_sim.proofs.process.Process.make_frames.Goals as goal
 
 pub frames_with-requires-clause-frames : goal.frames_with-requires-clause-frames
@@ -19,12 +17,11 @@ pub returns-clause-list : goal.returns-clause-list
 returns-clause-list c =
     let made = c.in_ok-list.ensures.frames in
     let v = process_of c.make_list.new.self in
-    let lists = c.in_ok-list.list.items in
-    let parts = map (λ bytes. shown (decoded bytes)) lists in
+    let parts = spelled_parts c.in_ok-list.list.items made.parts made.spelled in
     IfOk-weaker c.frames_with.result _ _
     (λ sent same size within.
-    subst (IsListOf size c.args.turn v.rank.me v.node) (sym (same ∙ ap (λ n. one_a_turn n c.args.to c.args.turn parts) c.me.ensures))
-    (a_list c.args.to parts within (All-map (λ b. OnlyFactsOf b v.node.board) (λ bytes. shown (decoded bytes)) lists (spelled_facts v.node.board lists made.parts made.spelled made.facts)) (ap join_all (spelled_parts lists made.parts made.spelled) ∙ made.join)))
+    subst (IsListOf size c.args.turn v.rank.me v.node) (sym (same ∙ (λ i. one_a_turn (c.me.ensures i) c.args.to c.args.turn (parts i))))
+    (a_list c.args.to made.parts within made.facts made.join made.fit made.few))
     c.frames_with.ensures
 
 pub returns-clause-join : goal.returns-clause-join

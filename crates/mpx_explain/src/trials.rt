@@ -1,0 +1,123 @@
+//! Trials of a line with other words.
+
+use crate::lines::refusal_of;
+use crate::meant::{is_foreign_type, is_value};
+use join_core::OutOfMemory;
+use mpx_num::Ops;
+use mpx_script::ScriptFault;
+use std::alloc::Global;
+
+/// What is changed of a line's words, whose places are counted from 0 on.
+#[derive(Clone, Copy, Drop)]
+pub(crate) enum Change {
+    /// So many words are left.
+    Cut(usize),
+    /// Another word at this place.
+    One(usize, &'static str),
+    /// One more word, before that at this place.
+    More(usize, &'static str),
+    /// The same, and a type of scripts for each of programs.
+    MoreTyped(usize, &'static str),
+    /// A number at this place and in each one behind it, but for operations and types.
+    Numbers(usize),
+    /// A number at this place and in each one behind it up to an arrow, but for operations and types.
+    NumbersToArrow(usize),
+}
+
+/// Before a line that is tried alone.
+pub(crate) const RANKS: &str = "ranks 64\n";
+
+/// What a line of changed words is refused for behind such lines.
+pub(crate) fn fault_of(
+    alloc: Global,
+    before: &str,
+    words: &[&str],
+    change: Change,
+    ops: &Ops,
+) -> Result<Option<ScriptFault>, OutOfMemory> {
+    let text = tried(alloc, before, words, change, ops)?;
+    match refusal_of(alloc, text.as_bytes(), ops)? {
+        Some(refusal) => Ok(Some(refusal.what)),
+        None => Ok(None),
+    }
+}
+
+// Whether the word is an operation, one of the job's own too, or a type.
+fn is_named(word: &str, ops: &Ops) -> bool {
+    is_value(word) || ops.place_named(word.as_bytes()).is_some()
+}
+
+// The text with the line of changed words.
+fn tried(
+    alloc: Global,
+    before: &str,
+    words: &[&str],
+    change: Change,
+    ops: &Ops,
+) -> Result<String, OutOfMemory> {
+    let mut text = String::from_str(alloc, before)?;
+    let mut is_behind_arrow = false;
+    for (place, word) in words.iter().enumerate() {
+        is_behind_arrow |= *word == "->";
+        push_changed(alloc, place, word, is_behind_arrow, change, ops, &mut text)?;
+    }
+    Ok(text)
+}
+
+// Adds the word at this place, changed, behind one that comes before it.
+fn push_changed(
+    alloc: Global,
+    place: usize,
+    word: &str,
+    is_behind_arrow: bool,
+    change: Change,
+    ops: &Ops,
+    text: &mut String,
+) -> Result<(), OutOfMemory> {
+    if let Change::More(at, other) | Change::MoreTyped(at, other) = change {
+        if place == at {
+            push_word(other, text)?;
+        }
+    }
+    if is_changed(alloc, place, word, is_behind_arrow, change, ops)? {
+        return push_word(other_word(change), text);
+    }
+    push_word(word, text)
+}
+
+fn push_word(word: &str, text: &mut String) -> Result<(), OutOfMemory> {
+    text.push_str(word)?;
+    text.push_str(" ")?;
+    Ok(())
+}
+
+// Whether the word at this place is changed.
+fn is_changed(
+    alloc: Global,
+    place: usize,
+    word: &str,
+    is_behind_arrow: bool,
+    change: Change,
+    ops: &Ops,
+) -> Result<bool, OutOfMemory> {
+    match change {
+        Change::Cut(count) => Ok(place >= count),
+        Change::One(at, _) => Ok(place == at),
+        Change::More(_, _) => Ok(false),
+        Change::MoreTyped(_, _) => is_foreign_type(alloc, word),
+        Change::Numbers(from) => Ok(place >= from && !is_named(word, ops)),
+        Change::NumbersToArrow(from) => {
+            Ok(place >= from && !is_behind_arrow && !is_named(word, ops))
+        }
+    }
+}
+
+// What stands for a word that is changed.
+fn other_word(change: Change) -> &'static str {
+    match change {
+        Change::One(_, other) => other,
+        Change::MoreTyped(_, _) => "i32",
+        Change::Numbers(_) | Change::NumbersToArrow(_) => "0",
+        Change::Cut(_) | Change::More(_, _) => "",
+    }
+}

@@ -1,0 +1,6 @@
+use Rattle.std.proofs.Common.{◌≡◌, length}
+use Rattle.mpx_sim.specs.Draws.{powers_below}
+use Rattle.mpx_sim.proofs.schedule.Schedule.new.Given as goal
+
+abbrev pub invariant-loop-place : goal.invariant-loop-place
+invariant-loop-place l = length l.shifts.items ≡ powers_below l.place l.processes

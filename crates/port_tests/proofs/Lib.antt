@@ -1,2 +1,0 @@
-pub mod NewHomes
-pub mod NewPorts

@@ -1,0 +1,3 @@
+pub mod NewHomes
+pub mod NewPorts
+pub mod Values

@@ -1,0 +1,3 @@
+pub mod Fresh
+pub mod Homes
+pub mod Answers
