@@ -5,7 +5,7 @@ use Rattle.mpx_birth.specs.Births.{BirthView, is_birth}
 use Rattle.mpx_birth.specs.Topologies.{TopologyView}
 use Rattle.mpx_format.specs.Format.{byte, many_spelled}
 use Rattle.mpx_format.specs.Fields.{member, member_count, members, process}
-use Rattle.mpx_format.specs.Births.{birth, may_stand, topology}
+use Rattle.mpx_format.specs.Births.{birth, topology}
 use Rattle.mpx_format.specs.Contexts.{told}
 use Rattle.mpx_format.proofs.BirthLaws.{birth_laws}
 use Rattle.mpx_format.proofs.FormatLaws.{ok_is}

@@ -12,6 +12,7 @@ use Rattle.mpx_format.specs.declared.defects.ReadError.{ReadError}
 use Rattle.mpx_format.specs.declared.defects.ReadError.TheVariants as errors
 use Rattle.mpx_format.specs.Format.{Gives, many_read}
 use Rattle.mpx_format.specs.Posts.{integer, item_count, items}
+use Rattle.mpx_decode.specs.Near.{GivesNear}
 
 integer_short : (ty : Ty) (bytes : List ℕ) → length bytes < number_len ty → (integer ty).read bytes ≡ Err ShortFrame
 unfolding integer
@@ -47,3 +48,9 @@ unfolding items
 items_given (Ok x) nums left ty bytes after n count given = rw (count, given) refl
 items_given (Err errors.OutOfMemory) nums left ty bytes after n count given = tt
 items_given (Err (errors.Defect f)) nums left ty bytes after n count given = rw (count, given) refl
+
+-- and of those beyond
+pub items_near : {T : Type 0} (r : Result T ReadError) (nums : T → List ℤ) (left : T → List ℕ) (ty : Ty) (bytes after beyond : List ℕ) (n : ℕ) → item_count.read bytes ≡ Ok (n, after)
+    → GivesNear beyond (λ x. (nums x, left x)) r (many_read (λ before. integer ty) (n * item_len ty) [] after) → GivesNear beyond (λ x. (nums x, left x)) r ((items ty).read bytes)
+items_near (Ok x) nums left ty bytes after beyond n count given = items_given (Ok x) nums left ty bytes after n count given
+items_near (Err e) nums left ty bytes after beyond n count given = λ none. items_given (Err e) nums left ty bytes after n count (given none)

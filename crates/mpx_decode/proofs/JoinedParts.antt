@@ -63,6 +63,11 @@ module _ {V : Type 0} (f : Format V) (bytes : List ℕ) where
     pub live_stops : (between : V → V → V → Type 0) (old new : V) → OnErr r (StopsBetween f between bytes old new) → OnErr r (StopsBetween as_live (lift_between between) bytes (live old) (live new))
     live_stops between old new h = if_err r (λ i. record { value = live i.value; rest = i.rest; read = live_read i.value i.rest i.read; left = i.left }) h
 
+-- what is dead stays so
+pub dead_stays : {V : Type 0} (j : Joining V) (v : LiftView V) → dead ≡ (lift_joining j).join dead v
+dead_stays j (live v) = refl
+dead_stays j dead = refl
+
 -- a byte that tells whether it is dead
 module _ {V : Type 0} (f : Format V) (tag : LiftView V → ℕ) (bytes : List ℕ) where
   abbrev either_form : Format (LiftView V)

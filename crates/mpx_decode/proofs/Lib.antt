@@ -7,6 +7,8 @@ mod Fours
 pub mod OneRow
 pub mod RaisedRows
 pub mod Taken
+pub mod NearBytes
+mod FirstPosts
 mod Stricter
 mod RaisedCalls
 mod HeldFront

@@ -1,6 +1,8 @@
 -- The parts of a board joined as they are read: the contexts, and then the acknowledgements.
-use Rattle.std.proofs.Common.{◌≡◌, ◌≢◌, ℕ, true, List, [], map, None, Result, Ok, Err, IfOk, OnErr, refl, sym, ap, ◌∙◌, subst}
+use Rattle.std.proofs.Common.{◌≡◌, ◌≢◌, ◌<◌, ℕ, nat_lt, arith, true, List, [], map, None, Result, Ok, Err, IfOk, OnErr, refl, sym, ap, ◌∙◌, subst}
+use Rattle.std.proofs.lemmas.Bool.Decides.{nat_tests}
 use Rattle.std.proofs.lemmas.Simd.{map-map}
+use Rattle.std.specs.Ordering.{nat_cmp}
 use Rattle.std.specs.declared.cmp.Ordering.{Ordering}
 use Rattle.std.specs.FinMap.{FinMap, entries, from_sorted, is_sorted}
 use Rattle.join_core.specs.Joins.{Joining, JoinLaws}
@@ -15,7 +17,8 @@ use Rattle.mpx_board.proofs.Tidiness.{tidy_join}
 use Rattle.mpx_format.specs.declared.defects.Defect.{Defect}
 use Rattle.mpx_format.specs.declared.defects.ReadError.{ReadError}
 use Rattle.mpx_format.specs.declared.defects.ReadError.TheVariants as errors
-use Rattle.mpx_format.specs.Format.{Format, Fails, ◌>>=◌, many_read}
+use Rattle.mpx_format.specs.Fields.{fronts, numbers, process, some_byte, some_calls}
+use Rattle.mpx_format.specs.Format.{Format, Fails, ◌>>=◌, byte, many_read}
 use Rattle.mpx_format.specs.Rising.{always, entry, keyed}
 use Rattle.mpx_format.proofs.FormatLaws.{ok_is}
 use Rattle.mpx_decode.specs.Raising.{JoinsFront, StandsInFront, StandsTidy, StopsBetween, rows}
@@ -76,6 +79,18 @@ module _ {K V : Type 0} (R : K → K → Ordering) (count : Format ℕ) (key : F
 
     pub map_stops : (between : V → V → V → Type 0) → OnErr r (StopsBetween (rows R key value n) (keyed_between between) after mine made) → OnErr r (StopsBetween (keyed R count key value always) (keyed_between between) bytes old new)
     map_stops between h = if_err r (λ g. record { value = g.value; rest = g.rest; read = rows_behind ∙ g.read; left = λ q. subst (λ (m : FinMap R V × FinMap R V). keyed_between between m.0 g.value m.1) (λ i. (sym was i, sym is_made i)) g.left q }) h
+
+positive : (n : ℕ) → 0 < n → nat_lt 0 n ≡ true
+positive n lt = grind (arith, nat_tests)
+
+some_read : (bytes : List ℕ) (n : ℕ) (after : List ℕ) → byte.read bytes ≡ Ok (n, after) → 0 < n → some_byte.read bytes ≡ Ok (n, after)
+unfolding some_byte
+some_read bytes n after is some = rw (is, positive n some) refl
+
+-- where there are some fronts, they are spelled as numbers are
+pub fronts_are_numbers : (bytes : List ℕ) (n : ℕ) (after : List ℕ) → byte.read bytes ≡ Ok (n, after) → 0 < n → fronts.read bytes ≡ numbers.read bytes
+unfolding fronts numbers
+fronts_are_numbers bytes n after is some = rows_behind nat_cmp byte process some_calls bytes n after is ∙ sym (rows_behind nat_cmp some_byte process some_calls bytes n after (some_read bytes n after is some))
 
 -- nothing was joined
 pub stops_at_once : {V : Type 0} (f : Format V) (between : V → V → V → Type 0) (bytes : List ℕ) (old : V) → ((b : V) → between old b old) → StandsInFront f bytes → StopsBetween f between bytes old old

@@ -54,7 +54,7 @@ impl WireValue for Max {
 
     fn read<'a>(
         _version: Version,
-        _source: Source<'_>,
+        _source: Source<'a>,
         bytes: &'a [u8],
     ) -> Result<(Max, &'a [u8]), ReadError> {
         let (number, rest) = read_some_calls(bytes)?;
@@ -78,7 +78,7 @@ impl WireValue for VersionVector {
     #[tactic(auto, unfolding(mpx_format::specs::Fields::numbers))]
     fn read<'a>(
         version: Version,
-        source: Source<'_>,
+        source: Source<'a>,
         bytes: &'a [u8],
     ) -> Result<(VersionVector, &'a [u8]), ReadError> {
         let (count, rest) = read_some_byte(bytes)?;
@@ -103,7 +103,7 @@ impl WireValue for Acks {
     #[tactic(auto, unfolding(mpx_format::specs::Fields::acks))]
     fn read<'a>(
         version: Version,
-        source: Source<'_>,
+        source: Source<'a>,
         bytes: &'a [u8],
     ) -> Result<(Acks, &'a [u8]), ReadError> {
         let (count, rest) = read_some_names(bytes)?;
@@ -115,7 +115,7 @@ impl WireValue for Acks {
 #[tactic(auto, unfolding(mpx_format::specs::Fields::all_acks))]
 pub fn read_all_acks<'a>(
     version: Version,
-    source: Source<'_>,
+    source: Source<'a>,
     bytes: &'a [u8],
 ) -> Result<(Keyed<Proc, Acks>, &'a [u8]), ReadError>
     ensures gives { Gives (λ x. (view_of_all_acks x.0, x.1.now)) result (all_acks.read bytes.now) }

@@ -86,7 +86,7 @@ impl WireValue for Birth {
     #[tactic(auto, unfolding(mpx_format::specs::Births::birth))]
     fn read<'a>(
         _version: Version,
-        source: Source<'_>,
+        source: Source<'a>,
         bytes: &'a [u8],
     ) -> Result<(Birth, &'a [u8]), ReadError> {
         let (members, rest) = read_members(source.alloc(), bytes)?;

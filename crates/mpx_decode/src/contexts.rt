@@ -32,7 +32,7 @@ use std::alloc::Global;
 // A value that is told once.
 pub fn read_told<'a, T: WireValue>(
     version: Version,
-    source: Source<'_>,
+    source: Source<'a>,
     bytes: &'a [u8],
 ) -> Result<(Flat<T>, &'a [u8]), ReadError>
     ensures { Gives (λ x. (flat_view T.seen x.0, x.1.now)) result ((told (T.format version)).read bytes.now) }
@@ -66,7 +66,7 @@ impl WireValue for Flat<Post> {
     #[tactic(auto, unfolding(mpx_format::specs::Contexts::posted))]
     fn read<'a>(
         version: Version,
-        source: Source<'_>,
+        source: Source<'a>,
         bytes: &'a [u8],
     ) -> Result<(Flat<Post>, &'a [u8]), ReadError> {
         let (posted, rest): (Flat<Post>, &[u8]) = read_told(version, source, bytes)?;
@@ -94,7 +94,7 @@ impl WireValue for CallPosts {
     #[tactic(auto, unfolding(mpx_format::specs::Contexts::call_posts))]
     fn read<'a>(
         version: Version,
-        source: Source<'_>,
+        source: Source<'a>,
         bytes: &'a [u8],
     ) -> Result<(CallPosts, &'a [u8]), ReadError> {
         let (count, rest) = read_some_byte(bytes)?;
@@ -106,7 +106,7 @@ impl WireValue for CallPosts {
 #[tactic(auto, unfolding(mpx_format::specs::Fields::fronts))]
 fn read_fronts<'a>(
     version: Version,
-    source: Source<'_>,
+    source: Source<'a>,
     bytes: &'a [u8],
 ) -> Result<(VersionVector, &'a [u8]), ReadError>
     ensures { Gives (λ x. (⟦<VersionVector as Exact>⟧.view x.0, x.1.now)) result (fronts.read bytes.now) }
@@ -128,7 +128,7 @@ impl WireKey for u32 {
 #[tactic(auto, unfolding(mpx_format::specs::Contexts::held, mpx_format::specs::Contexts::calls))]
 fn read_held<'a>(
     version: Version,
-    source: Source<'_>,
+    source: Source<'a>,
     bytes: &'a [u8],
 ) -> Result<(Trunc<CallPosts>, &'a [u8]), ReadError>
     ensures { Gives (λ x. (⟦<Trunc<CallPosts> as Exact>⟧.view x.0, x.1.now)) result ((held version).read bytes.now) }
@@ -143,7 +143,7 @@ fn read_held<'a>(
 #[tactic(auto, unfolding(mpx_format::specs::Contexts::context, mpx_format::specs::Contexts::progress))]
 fn read_context<'a>(
     version: Version,
-    source: Source<'_>,
+    source: Source<'a>,
     bytes: &'a [u8],
 ) -> Result<(Entry, &'a [u8]), ReadError>
     ensures { Gives (λ x. (⟦<Entry as Exact>⟧.view x.0, x.1.now)) result ((context version).read bytes.now) }
@@ -167,7 +167,7 @@ fn read_context<'a>(
 // A live context, as one that may be dead and isn't.
 pub fn read_live<'a>(
     version: Version,
-    source: Source<'_>,
+    source: Source<'a>,
     bytes: &'a [u8],
 ) -> Result<(Lifted, &'a [u8]), ReadError>
     ensures { Gives (λ x. (⟦<Lifted as Exact>⟧.view x.0, x.1.now)) result ((lift_form (context version) 0).read bytes.now) }
@@ -193,7 +193,7 @@ impl WireValue for Lifted {
     #[tactic(auto, unfolding(mpx_format::specs::Contexts::lifted))]
     fn read<'a>(
         version: Version,
-        source: Source<'_>,
+        source: Source<'a>,
         bytes: &'a [u8],
     ) -> Result<(Lifted, &'a [u8]), ReadError> {
         match version {
@@ -215,7 +215,7 @@ impl WireValue for Lifted {
 // What is said of contexts, by name.
 fn read_contexts<'a>(
     version: Version,
-    source: Source<'_>,
+    source: Source<'a>,
     bytes: &'a [u8],
 ) -> Result<(Keyed<Name, Lifted>, &'a [u8]), ReadError>
     ensures gives { Gives (λ x. (view_of_entries x.0, x.1.now)) result ((keyed name_cmp name_count name (lifted version) says_something).read bytes.now) }
@@ -231,7 +231,7 @@ fn read_contexts<'a>(
 #[tactic(auto, unfolding(mpx_format::specs::Contexts::parts))]
 pub fn read_parts<'a>(
     version: Version,
-    source: Source<'_>,
+    source: Source<'a>,
     bytes: &'a [u8],
 ) -> Result<(Parts, &'a [u8]), ReadError>
     ensures gives { Gives (λ x. (⟦<Parts as Exact>⟧.view x.0, x.1.now)) result ((parts version).read bytes.now) }

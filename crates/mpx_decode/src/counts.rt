@@ -1,10 +1,11 @@
 //! Reading counts, and items where the kind has them.
-ghost use Rattle.std.specs.Prelude.{◌≡◌, ◌≤◌, IfOk};
+ghost use Rattle.std.specs.Prelude.{◌≡◌, ◌++◌, ◌≤◌, IfOk, length};
 ghost use Rattle.std.specs.Option.{option_map};
 ghost use Rattle.mpx_num.specs.ItemList.{ItemList};
 ghost use Rattle.mpx_post.specs.Posts.{AreCounts, NoneUnless, few_items};
 ghost use Rattle.mpx_format.specs.Format.{Gives};
 ghost use Rattle.mpx_format.specs.Posts.{count, counts, counts_if, items_for, nums_of};
+ghost use Rattle.mpx_decode.specs.Near.{GivesNear};
 
 use crate::big_endian::read_u16;
 use crate::fields::read_at_most;
@@ -13,7 +14,7 @@ use crate::lists::{Repeated, read_list};
 use mpx_format::ReadError;
 use mpx_num::{Spelled, Ty};
 use mpx_post::Counts;
-use mpx_rope::Source;
+use mpx_rope::Beyond;
 use std::alloc::Global;
 
 // Counts, each at most 4,096.
@@ -68,17 +69,18 @@ pub fn read_counts(had: bool, alloc: Global, bytes: &[u8]) -> Result<(Counts, &[
 // The items, where there is a type.
 pub fn read_items_for<'a>(
     ty: Option<Ty>,
-    source: Source<'_>,
+    beyond: &mut Beyond<'a>,
     bytes: &'a [u8],
 ) -> Result<(Option<Spelled>, &'a [u8]), ReadError>
-    ensures read { Gives (λ x. (nums_of x.0, x.1.now)) result ((items_for ty).read bytes.now) }
+    ensures read { GivesNear beyond.old (λ x. (nums_of x.0, x.1.now ++ beyond.new)) result ((items_for ty).read (bytes.now ++ beyond.old)) }
     ensures ty { IfOk result (λ x. option_map (λ (items : ItemList). items.ty) x.0 ≡ ty) }
     ensures few { IfOk result (λ x. few_items x.0) }
+    ensures less { length beyond.new ≤ length beyond.old }
 {
     match ty {
         None => Ok((None, bytes)),
         Some(ty) => {
-            let (items, rest) = read_items(ty, source, bytes)?;
+            let (items, rest) = read_items(ty, beyond, bytes)?;
             Ok((Some(items), rest))
         }
     }

@@ -1,5 +1,5 @@
 //! Posts that the taker has, compared with their bytes where these stand.
-ghost use Rattle.std.specs.Prelude.{◌≡◌, ◌++◌, [], true, IfSome, Ok, length};
+ghost use Rattle.std.specs.Prelude.{◌≡◌, ◌++◌, [], true, IfNone, IfSome, Ok, length, ◌≤◌};
 ghost use Rattle.std.specs.Bool.{OnTrue};
 ghost use Rattle.std.specs.Option.{option_map};
 ghost use Rattle.join_core.specs.FlatSeen.{flat_view};
@@ -19,17 +19,25 @@ use mpx_format::Version;
 use mpx_kind::{Kind, Makes, Mode};
 use mpx_num::{Op, Spelled, Ty, are_equal};
 use mpx_post::{Counts, Post, have_same_op};
+use mpx_rope::Beyond;
 
 // The bytes behind what is told, where it is a post and just its bytes stand at the front.
-pub fn behind_told<'a>(version: Version, told: &Flat<Post>, bytes: &'a [u8]) -> Option<&'a [u8]>
-    ensures { IfSome result (λ rest. (posted version).read bytes.now ≡ Ok (flat_view (λ p. p) told.now, rest.now)) }
+pub fn behind_told<'a>(
+    version: Version,
+    told: &Flat<Post>,
+    beyond: &mut Beyond<'a>,
+    bytes: &'a [u8],
+) -> Option<&'a [u8]>
+    ensures some { IfSome result (λ rest. (posted version).read (bytes.now ++ beyond.old) ≡ Ok (flat_view (λ p. p) told.now, rest.now ++ beyond.new)) }
+    ensures none { IfNone result (beyond.new ≡ beyond.old) }
+    ensures less { length beyond.new ≤ length beyond.old }
 {
     match told {
         Flat::Known(post) => match read_u8(bytes) {
             Err(_) => None,
             Ok((form, rest)) => {
                 if form == 1 {
-                    behind_post(version, post, rest)
+                    behind_post(version, post, beyond, rest)
                 } else {
                     None
                 }
@@ -40,8 +48,15 @@ pub fn behind_told<'a>(version: Version, told: &Flat<Post>, bytes: &'a [u8]) -> 
 }
 
 // The bytes behind this post, where just its bytes stand at the front, and it makes no communicator.
-fn behind_post<'a>(version: Version, post: &Post, bytes: &'a [u8]) -> Option<&'a [u8]>
-    ensures { IfSome result (λ rest. (post_format version).read bytes.now ≡ Ok (post.now, rest.now)) }
+fn behind_post<'a>(
+    version: Version,
+    post: &Post,
+    beyond: &mut Beyond<'a>,
+    bytes: &'a [u8],
+) -> Option<&'a [u8]>
+    ensures some { IfSome result (λ rest. (post_format version).read (bytes.now ++ beyond.old) ≡ Ok (post.now, rest.now ++ beyond.new)) }
+    ensures none { IfNone result (beyond.new ≡ beyond.old) }
+    ensures less { length beyond.new ≤ length beyond.old }
 {
     let Ok((kind, rest)) = read_kind(version, bytes) else {
         return None;
@@ -75,7 +90,7 @@ fn behind_post<'a>(version: Version, post: &Post, bytes: &'a [u8]) -> Option<&'a
     let both = behind_counts(got, post.rcounts(), first)?;
     match post.items() {
         None => Some(both),
-        Some(items) => behind_items(items, both),
+        Some(items) => behind_items(items, beyond, both),
     }
 }
 
@@ -141,8 +156,10 @@ fn behind_list<'a>(list: &[u16], bytes: &'a [u8]) -> Option<&'a [u8]>
 }
 
 // The bytes behind these items.
-fn behind_items<'a>(items: &Spelled, bytes: &'a [u8]) -> Option<&'a [u8]>
-    ensures { IfSome result (λ rest. (items_format items.now.ty).read bytes.now ≡ Ok (items.now.nums, rest.now)) }
+fn behind_items<'a>(items: &Spelled, beyond: &mut Beyond<'a>, bytes: &'a [u8]) -> Option<&'a [u8]>
+    ensures some { IfSome result (λ rest. (items_format items.now.ty).read (bytes.now ++ beyond.old) ≡ Ok (items.now.nums, rest.now ++ beyond.new)) }
+    ensures none { IfNone result (beyond.new ≡ beyond.old) }
+    ensures less { length beyond.new ≤ length beyond.old }
 {
     let spelled = items.bytes();
     let items = items.count();
@@ -150,7 +167,7 @@ fn behind_items<'a>(items: &Spelled, bytes: &'a [u8]) -> Option<&'a [u8]>
         Err(_) => None,
         Ok((count, rest)) => {
             if count as usize == items {
-                behind_bytes(spelled, rest)
+                behind_bytes(spelled, beyond, rest)
             } else {
                 None
             }
@@ -158,17 +175,42 @@ fn behind_items<'a>(items: &Spelled, bytes: &'a [u8]) -> Option<&'a [u8]>
     }
 }
 
-// The bytes behind these ones, where they stand at the front.
-fn behind_bytes<'a>(front: &[u8], bytes: &'a [u8]) -> Option<&'a [u8]>
-    ensures { IfSome result (λ rest. bytes.now ≡ front.now ++ rest.now) }
+// The bytes behind these ones, where they stand at the front, or are shared items beyond it.
+fn behind_bytes<'a>(front: &[u8], beyond: &mut Beyond<'a>, bytes: &'a [u8]) -> Option<&'a [u8]>
+    ensures some { IfSome result (λ rest. bytes.now ++ beyond.old ≡ front.now ++ (rest.now ++ beyond.new)) }
+    ensures none { IfNone result (beyond.new ≡ beyond.old) }
+    ensures less { length beyond.new ≤ length beyond.old }
 {
     if bytes.len() < front.len() {
-        return None;
+        return if bytes.is_empty() {
+            behind_shared(front, beyond)
+        } else {
+            None
+        };
     }
     let (there, rest) = bytes.split_at(front.len());
     if are_equal(front, there) {
         Some(rest)
     } else {
         None
+    }
+}
+
+// The bytes behind these ones, where they are those of the shared items that stand first beyond.
+fn behind_shared<'a>(front: &[u8], beyond: &mut Beyond<'a>) -> Option<&'a [u8]>
+    ensures some { IfSome result (λ rest. beyond.old ≡ front.now ++ (rest.now ++ beyond.new)) }
+    ensures none { IfNone result (beyond.new ≡ beyond.old) }
+    ensures less { length beyond.new ≤ length beyond.old }
+{
+    match beyond.items() {
+        None => None,
+        Some((items, near, after)) => {
+            if are_equal(front, items.bytes()) {
+                *beyond = after;
+                Some(near)
+            } else {
+                None
+            }
+        }
     }
 }

@@ -1,5 +1,5 @@
 //! Acknowledgements joined as their bytes are read.
-ghost use Rattle.std.specs.Prelude.{◌≡◌, ◌≢◌, ◌<◌, ◌-◌, ◌^◌, ◌∷◌, ℕ, [], IfOk, IfSome, List, Ok, OnErr, length, reverse};
+ghost use Rattle.std.specs.Prelude.{◌≡◌, ◌≢◌, ◌<◌, ◌-◌, ◌++◌, ◌^◌, ◌∷◌, ℕ, [], IfOk, IfSome, List, Ok, OnErr, length, reverse, ◌≤◌};
 ghost use Rattle.std.specs.FinMap.{FinMap};
 ghost use Rattle.std.specs.Ordering.{nat_cmp};
 ghost use Rattle.join_core.specs.laws.Between.{old_or_joined-laws};
@@ -30,7 +30,7 @@ use mpx_board::{Acks, VersionVector};
 use mpx_format::{ReadError, Version};
 use mpx_group::Proc;
 use mpx_name::{Name, Step};
-use mpx_rope::Source;
+use mpx_rope::{Beyond, Source};
 use std::mem;
 
 impl FrontKey for Proc {
@@ -183,20 +183,20 @@ impl WireJoin for Max {
 
     fn read_new<'a>(
         version: Version,
-        source: Source<'_>,
+        beyond: &mut Beyond<'a>,
         bytes: &'a [u8],
     ) -> Result<(Max, &'a [u8]), ReadError> {
-        <Max as WireValue>::read(version, source, bytes)
+        <Max as WireValue>::read(version, Source::of(beyond.alloc()), bytes)
     }
 
     fn raise<'a>(
         &mut self,
         _version: Version,
-        _source: Source<'_>,
+        _beyond: &mut Beyond<'a>,
         bytes: &'a [u8],
     ) -> Result<&'a [u8], OutOfMemory> {
         match read_some_calls(bytes) {
-            Err(_) => unreachable!(),
+            Err(_) => Err(OutOfMemory),
             Ok((number, rest)) => {
                 if self.0 < number {
                     self.0 = number;
@@ -224,23 +224,23 @@ impl WireJoin for VersionVector {
 
     fn read_new<'a>(
         version: Version,
-        source: Source<'_>,
+        beyond: &mut Beyond<'a>,
         bytes: &'a [u8],
     ) -> Result<(VersionVector, &'a [u8]), ReadError> {
-        <VersionVector as WireValue>::read(version, source, bytes)
+        <VersionVector as WireValue>::read(version, Source::of(beyond.alloc()), bytes)
     }
 
     fn raise<'a>(
         &mut self,
         version: Version,
-        source: Source<'_>,
+        beyond: &mut Beyond<'a>,
         bytes: &'a [u8],
     ) -> Result<&'a [u8], OutOfMemory> {
         match read_some_byte(bytes) {
-            Err(_) => unreachable!(),
+            Err(_) => Err(OutOfMemory),
             Ok((count, rest)) => {
-                let mut entries = mem::replace(self, Keyed::new(source.alloc())).into_entries();
-                let raised = raise_numbers(version, source, &mut entries, count as usize, rest);
+                let mut entries = mem::replace(self, Keyed::new(beyond.alloc())).into_entries();
+                let raised = raise_numbers(version, beyond, &mut entries, count as usize, rest);
                 *self = Keyed::from_rising(entries);
                 raised
             }
@@ -265,21 +265,21 @@ impl WireJoin for Acks {
 
     fn read_new<'a>(
         version: Version,
-        source: Source<'_>,
+        beyond: &mut Beyond<'a>,
         bytes: &'a [u8],
     ) -> Result<(Acks, &'a [u8]), ReadError> {
-        <Acks as WireValue>::read(version, source, bytes)
+        <Acks as WireValue>::read(version, Source::of(beyond.alloc()), bytes)
     }
 
     fn raise<'a>(
         &mut self,
         version: Version,
-        source: Source<'_>,
+        beyond: &mut Beyond<'a>,
         bytes: &'a [u8],
     ) -> Result<&'a [u8], OutOfMemory> {
         match read_some_names(bytes) {
-            Err(_) => unreachable!(),
-            Ok((count, rest)) => raise_map(version, source, self, count as usize, rest),
+            Err(_) => Err(OutOfMemory),
+            Ok((count, rest)) => raise_map(version, beyond, self, count as usize, rest),
         }
     }
 

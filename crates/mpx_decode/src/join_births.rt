@@ -1,5 +1,5 @@
 //! What is said of births joined as its bytes are read. Where the taker has the birth, it is compared with its bytes where these stand.
-ghost use Rattle.std.specs.Prelude.{◌≡◌, ◌++◌, IfOk, IfSome, Ok, OnErr};
+ghost use Rattle.std.specs.Prelude.{◌≡◌, ◌++◌, IfOk, IfSome, Ok, OnErr, ◌≤◌, length};
 ghost use Rattle.std.specs.Bool.{Decides};
 ghost use Rattle.join_core.specs.Flat.{flat_joining};
 ghost use Rattle.join_core.specs.FlatSeen.{flat_view};
@@ -16,27 +16,32 @@ use join_core::{Flat, Join, OutOfMemory};
 use mpx_birth::Birth;
 use mpx_format::{ReadError, Version};
 use mpx_group::Proc;
-use mpx_rope::Source;
+use mpx_rope::{Beyond, Source};
 
 // What is told of the birth.
 pub fn raise_birth<'a>(
     version: Version,
-    source: Source<'_>,
+    beyond: &mut Beyond<'a>,
     birth: &mut Flat<Birth>,
     bytes: &'a [u8],
 ) -> Result<&'a [u8], OutOfMemory>
-    requires { StandsInFront (told_format birth_format) bytes.now }
-    ensures ok { IfOk result (λ rest. JoinsFront (told_format birth_format) (flat_joining same_birth) bytes.now rest.now (flat_view (λ b. b) birth.old) (flat_view (λ b. b) birth.new)) }
-    ensures err { OnErr result (StopsBetween (told_format birth_format) (old_or_joined (flat_joining same_birth)) bytes.now (flat_view (λ b. b) birth.old) (flat_view (λ b. b) birth.new)) }
+    requires { StandsInFront (told_format birth_format) (bytes.now ++ beyond.old) }
+    ensures ok { IfOk result (λ rest. JoinsFront (told_format birth_format) (flat_joining same_birth) (bytes.now ++ beyond.old) (rest.now ++ beyond.new) (flat_view (λ b. b) birth.old) (flat_view (λ b. b) birth.new)) }
+    ensures err { OnErr result (StopsBetween (told_format birth_format) (old_or_joined (flat_joining same_birth)) (bytes.now ++ beyond.old) (flat_view (λ b. b) birth.old) (flat_view (λ b. b) birth.new)) }
+    ensures less { length beyond.new ≤ length beyond.old }
 {
     if let Some(rest) = behind_told(birth, bytes) {
         return Ok(rest);
     }
-    let read: Result<(Flat<Birth>, &[u8]), ReadError> = read_told(version, source, bytes);
+    let read: Result<(Flat<Birth>, &[u8]), ReadError> = read_told(
+        version,
+        Source::of(beyond.alloc()),
+        bytes,
+    );
     match read {
         Err(_) => Err(OutOfMemory),
         Ok((told, rest)) => {
-            birth.join_in(source.alloc(), &told)?;
+            birth.join_in(beyond.alloc(), &told)?;
             Ok(rest)
         }
     }

@@ -1,5 +1,5 @@
 //! What is said of contexts joined as its bytes are read.
-ghost use Rattle.std.specs.Prelude.{◌≡◌, ◌≢◌, ℕ, IfOk, List, Ok, OnErr};
+ghost use Rattle.std.specs.Prelude.{◌≡◌, ◌≢◌, ◌++◌, ℕ, IfOk, List, Ok, OnErr, ◌≤◌, length};
 ghost use Rattle.std.specs.Ordering.{nat_cmp};
 ghost use Rattle.join_core.specs.laws.Between.{old_or_joined-laws};
 ghost use Rattle.join_core.specs.Flat.{FlatView, flat_joining};
@@ -27,15 +27,17 @@ use crate::entries::WireValue;
 use crate::fields::{read_call, read_name_count, read_some_byte};
 use crate::front_posts::behind_told;
 use crate::join_births::raise_birth;
-use crate::join_rows::{WireJoin, raise_map};
+use crate::join_rows::{WireJoin, raise_entries, raise_map};
+use crate::posts::read_post;
 use join_core::{Flat, Join, OutOfMemory, Pair};
 use join_nest::{Keyed, Lift, Trunc};
 use mpx_birth::Birth;
 use mpx_board::{CallPosts, Entry, Lifted, VersionVector};
 use mpx_format::{ReadError, Version};
+use mpx_group::Proc;
 use mpx_name::Name;
 use mpx_post::Post;
-use mpx_rope::Source;
+use mpx_rope::Beyond;
 
 impl WireJoin for Flat<Post> {
     ghost View = { FlatView Given };
@@ -50,27 +52,35 @@ impl WireJoin for Flat<Post> {
 
     fn read_new<'a>(
         version: Version,
-        source: Source<'_>,
+        beyond: &mut Beyond<'a>,
         bytes: &'a [u8],
     ) -> Result<(Flat<Post>, &'a [u8]), ReadError> {
-        <Flat<Post> as WireValue>::read(version, source, bytes)
+        if let Ok((form, rest)) = read_u8(bytes) {
+            if form == 1 {
+                return match read_post(version, beyond, rest) {
+                    Err(e) => Err(e),
+                    Ok((post, rest)) => Ok((Flat::Known(post), rest)),
+                };
+            }
+        }
+        <Flat<Post> as WireValue>::read(version, beyond.source(), bytes)
     }
 
     fn raise<'a>(
         &mut self,
         version: Version,
-        source: Source<'_>,
+        beyond: &mut Beyond<'a>,
         bytes: &'a [u8],
     ) -> Result<&'a [u8], OutOfMemory> {
-        if let Some(rest) = behind_told(version, self, bytes) {
-            return Ok(rest);
-        }
-        match <Flat<Post> as WireValue>::read(version, source, bytes) {
-            Err(_) => Err(OutOfMemory),
-            Ok((told, rest)) => {
-                self.join_in(source.alloc(), &told)?;
-                Ok(rest)
-            }
+        match behind_told(version, self, beyond, bytes) {
+            Some(rest) => Ok(rest),
+            None => match <Flat<Post> as WireJoin>::read_new(version, beyond, bytes) {
+                Err(_) => Err(OutOfMemory),
+                Ok((told, rest)) => {
+                    self.join_in(beyond.alloc(), &told)?;
+                    Ok(rest)
+                }
+            },
         }
     }
 
@@ -92,21 +102,24 @@ impl WireJoin for CallPosts {
 
     fn read_new<'a>(
         version: Version,
-        source: Source<'_>,
+        beyond: &mut Beyond<'a>,
         bytes: &'a [u8],
     ) -> Result<(CallPosts, &'a [u8]), ReadError> {
-        <CallPosts as WireValue>::read(version, source, bytes)
+        if beyond.has_items() {
+            return read_beside(version, beyond, bytes);
+        }
+        <CallPosts as WireValue>::read(version, beyond.source(), bytes)
     }
 
     fn raise<'a>(
         &mut self,
         version: Version,
-        source: Source<'_>,
+        beyond: &mut Beyond<'a>,
         bytes: &'a [u8],
     ) -> Result<&'a [u8], OutOfMemory> {
         match read_some_byte(bytes) {
-            Err(_) => unreachable!(),
-            Ok((count, rest)) => raise_map(version, source, self, count as usize, rest),
+            Err(_) => Err(OutOfMemory),
+            Ok((count, rest)) => raise_map(version, beyond, self, count as usize, rest),
         }
     }
 
@@ -115,26 +128,50 @@ impl WireJoin for CallPosts {
     ghost between_laws = { call_between_laws };
 }
 
+// The posts of a call, of which some may have their items beyond: they are joined to none.
+#[inline(never)]
+fn read_beside<'a>(
+    version: Version,
+    beyond: &mut Beyond<'a>,
+    bytes: &'a [u8],
+) -> Result<(CallPosts, &'a [u8]), ReadError>
+    requires { StandsInFront (call_posts version) (bytes.now ++ beyond.old) }
+    ensures read { IfOk result (λ x. (call_posts version).read (bytes.now ++ beyond.old) ≡ Ok (view_of_call x.0, x.1.now ++ beyond.new)) }
+    ensures less { length beyond.new ≤ length beyond.old }
+{
+    match read_some_byte(bytes) {
+        Err(e) => Err(e),
+        Ok((count, rest)) => {
+            let mut entries: Vec<(Proc, Flat<Post>)> = Vec::new(beyond.alloc());
+            match raise_entries(version, beyond, &mut entries, count as usize, rest) {
+                Err(_) => Err(ReadError::OutOfMemory),
+                Ok(rest) => Ok((Keyed::from_rising(entries), rest)),
+            }
+        }
+    }
+}
+
 // HELD CALLS
 
 // The dropped front, and the calls at or above it.
 fn raise_held<'a>(
     version: Version,
-    source: Source<'_>,
+    beyond: &mut Beyond<'a>,
     held: &mut Trunc<CallPosts>,
     bytes: &'a [u8],
 ) -> Result<&'a [u8], OutOfMemory>
-    requires { StandsInFront (held_format version) bytes.now }
-    ensures ok { IfOk result (λ rest. JoinsFront (held_format version) (trunc_joining call_joining) bytes.now rest.now (view_of_calls held.old) (view_of_calls held.new)) }
-    ensures err { OnErr result (StopsBetween (held_format version) (trunc_between call_between) bytes.now (view_of_calls held.old) (view_of_calls held.new)) }
+    requires { StandsInFront (held_format version) (bytes.now ++ beyond.old) }
+    ensures ok { IfOk result (λ rest. JoinsFront (held_format version) (trunc_joining call_joining) (bytes.now ++ beyond.old) (rest.now ++ beyond.new) (view_of_calls held.old) (view_of_calls held.new)) }
+    ensures err { OnErr result (StopsBetween (held_format version) (trunc_between call_between) (bytes.now ++ beyond.old) (view_of_calls held.old) (view_of_calls held.new)) }
+    ensures less { length beyond.new ≤ length beyond.old }
 {
     match read_u32(bytes) {
-        Err(_) => unreachable!(),
+        Err(_) => Err(OutOfMemory),
         Ok((dropped, rest)) => match read_u32(rest) {
-            Err(_) => unreachable!(),
+            Err(_) => Err(OutOfMemory),
             Ok((count, rest)) => {
                 held.drop_below(dropped);
-                raise_calls(version, source, held, count, rest)
+                raise_calls(version, beyond, held, count, rest)
             }
         },
     }
@@ -143,18 +180,19 @@ fn raise_held<'a>(
 // So many calls.
 fn raise_calls<'a>(
     version: Version,
-    source: Source<'_>,
+    beyond: &mut Beyond<'a>,
     held: &mut Trunc<CallPosts>,
     count: u32,
     bytes: &'a [u8],
 ) -> Result<&'a [u8], OutOfMemory>
-    requires { StandsInFront (rows nat_cmp call_format (call_posts version) count) bytes.now }
-    ensures ok { IfOk result (λ rest. RaisesCalls (rows nat_cmp call_format (call_posts version) count) call_joining bytes.now rest.now (view_of_calls held.old) (view_of_calls held.new)) }
-    ensures err { OnErr result (StopsCalls (rows nat_cmp call_format (call_posts version) count) call_between bytes.now (view_of_calls held.old) (view_of_calls held.new)) }
+    requires { StandsInFront (rows nat_cmp call_format (call_posts version) count) (bytes.now ++ beyond.old) }
+    ensures ok { IfOk result (λ rest. RaisesCalls (rows nat_cmp call_format (call_posts version) count) call_joining (bytes.now ++ beyond.old) (rest.now ++ beyond.new) (view_of_calls held.old) (view_of_calls held.new)) }
+    ensures err { OnErr result (StopsCalls (rows nat_cmp call_format (call_posts version) count) call_between (bytes.now ++ beyond.old) (view_of_calls held.old) (view_of_calls held.new)) }
+    ensures less { length beyond.new ≤ length beyond.old }
 {
     let mut rest = bytes;
     for _ in 0..count {
-        let after = raise_call(version, source, held, rest)?;
+        let after = raise_call(version, beyond, held, rest)?;
         rest = after;
     }
     Ok(rest)
@@ -163,21 +201,22 @@ fn raise_calls<'a>(
 // The call at the front. Where it is below the dropped front, it is passed over.
 fn raise_call<'a>(
     version: Version,
-    source: Source<'_>,
+    beyond: &mut Beyond<'a>,
     held: &mut Trunc<CallPosts>,
     bytes: &'a [u8],
 ) -> Result<&'a [u8], OutOfMemory>
-    requires { StandsInFront (row call_format (call_posts version)) bytes.now }
-    ensures ok { IfOk result (λ rest. RaisesCall (row call_format (call_posts version)) call_joining bytes.now rest.now (view_of_calls held.old) (view_of_calls held.new)) }
-    ensures err { OnErr result (StopsCall (row call_format (call_posts version)) call_between bytes.now (view_of_calls held.old) (view_of_calls held.new)) }
+    requires { StandsInFront (row call_format (call_posts version)) (bytes.now ++ beyond.old) }
+    ensures ok { IfOk result (λ rest. RaisesCall (row call_format (call_posts version)) call_joining (bytes.now ++ beyond.old) (rest.now ++ beyond.new) (view_of_calls held.old) (view_of_calls held.new)) }
+    ensures err { OnErr result (StopsCall (row call_format (call_posts version)) call_between (bytes.now ++ beyond.old) (view_of_calls held.old) (view_of_calls held.new)) }
+    ensures less { length beyond.new ≤ length beyond.old }
 {
     let Ok((call, rest)) = read_call(bytes) else {
         return Err(OutOfMemory);
     };
-    match held.replace(&call, Keyed::new(source.alloc())) {
-        None => put_call(version, source, held, call, rest),
+    match held.replace(&call, Keyed::new(beyond.alloc())) {
+        None => put_call(version, beyond, held, call, rest),
         Some(mut posts) => {
-            let raised = posts.raise(version, source, rest);
+            let raised = posts.raise(version, beyond, rest);
             held.replace(&call, posts);
             raised
         }
@@ -187,17 +226,18 @@ fn raise_call<'a>(
 // The posts of a call that isn't held are put in, unless it is below the dropped front.
 fn put_call<'a>(
     version: Version,
-    source: Source<'_>,
+    beyond: &mut Beyond<'a>,
     held: &mut Trunc<CallPosts>,
     call: u32,
     bytes: &'a [u8],
 ) -> Result<&'a [u8], OutOfMemory>
-    requires { StandsInFront (call_posts version) bytes.now }
+    requires { StandsInFront (call_posts version) (bytes.now ++ beyond.old) }
     ensures dropped { (view_of_calls held.new).dropped ≡ (view_of_calls held.old).dropped }
-    ensures ok { IfOk result (λ rest. PutsCall (call_posts version) call bytes.now rest.now (view_of_calls held.old) (view_of_calls held.new)) }
+    ensures ok { IfOk result (λ rest. PutsCall (call_posts version) call (bytes.now ++ beyond.old) (rest.now ++ beyond.new) (view_of_calls held.old) (view_of_calls held.new)) }
     ensures err { OnErr result ((view_of_calls held.new).calls ≡ (view_of_calls held.old).calls) }
+    ensures less { length beyond.new ≤ length beyond.old }
 {
-    let Ok((posts, rest)) = <CallPosts as WireValue>::read(version, source, bytes) else {
+    let Ok((posts, rest)) = <CallPosts as WireJoin>::read_new(version, beyond, bytes) else {
         return Err(OutOfMemory);
     };
     if call < held.dropped() {
@@ -212,67 +252,78 @@ fn put_call<'a>(
 // How many calls each process has harvested.
 fn raise_fronts<'a>(
     version: Version,
-    source: Source<'_>,
+    beyond: &mut Beyond<'a>,
     fronts: &mut VersionVector,
     bytes: &'a [u8],
 ) -> Result<&'a [u8], OutOfMemory>
-    requires { StandsInFront fronts_format bytes.now }
-    ensures ok { IfOk result (λ rest. JoinsFront fronts_format numbers_joining bytes.now rest.now (view_of_numbers fronts.old) (view_of_numbers fronts.new)) }
-    ensures err { OnErr result (StopsBetween fronts_format numbers_between bytes.now (view_of_numbers fronts.old) (view_of_numbers fronts.new)) }
+    requires { StandsInFront fronts_format (bytes.now ++ beyond.old) }
+    ensures ok { IfOk result (λ rest. JoinsFront fronts_format numbers_joining (bytes.now ++ beyond.old) (rest.now ++ beyond.new) (view_of_numbers fronts.old) (view_of_numbers fronts.new)) }
+    ensures err { OnErr result (StopsBetween fronts_format numbers_between (bytes.now ++ beyond.old) (view_of_numbers fronts.old) (view_of_numbers fronts.new)) }
+    ensures less { length beyond.new ≤ length beyond.old }
 {
     match read_u8(bytes) {
-        Err(_) => unreachable!(),
-        Ok((count, rest)) => raise_map(version, source, fronts, count as usize, rest),
+        Err(_) => Err(OutOfMemory),
+        Ok((count, rest)) => {
+            // numbers are spelled as fronts are, but that there is one
+            if count == 0 {
+                Ok(rest)
+            } else {
+                fronts.raise(version, beyond, bytes)
+            }
+        }
     }
 }
 
 // How far it is: the fronts and the held calls.
 fn raise_progress<'a>(
     version: Version,
-    source: Source<'_>,
+    beyond: &mut Beyond<'a>,
     known: &mut Pair<VersionVector, Trunc<CallPosts>>,
     bytes: &'a [u8],
 ) -> Result<&'a [u8], OutOfMemory>
-    requires { StandsInFront (progress version) bytes.now }
-    ensures ok { IfOk result (λ rest. JoinsFront (progress version) (pair_joining numbers_joining (trunc_joining call_joining)) bytes.now rest.now
+    requires { StandsInFront (progress version) (bytes.now ++ beyond.old) }
+    ensures ok { IfOk result (λ rest. JoinsFront (progress version) (pair_joining numbers_joining (trunc_joining call_joining)) (bytes.now ++ beyond.old) (rest.now ++ beyond.new)
         (view_of_numbers known.old.first, view_of_calls known.old.second) (view_of_numbers known.new.first, view_of_calls known.new.second)) }
-    ensures err { OnErr result (StopsBetween (progress version) (pair_between numbers_between (trunc_between call_between)) bytes.now
+    ensures err { OnErr result (StopsBetween (progress version) (pair_between numbers_between (trunc_between call_between)) (bytes.now ++ beyond.old)
         (view_of_numbers known.old.first, view_of_calls known.old.second) (view_of_numbers known.new.first, view_of_calls known.new.second)) }
+    ensures less { length beyond.new ≤ length beyond.old }
 {
-    let rest = raise_fronts(version, source, &mut known.first, bytes)?;
-    raise_held(version, source, &mut known.second, rest)
+    let rest = raise_fronts(version, beyond, &mut known.first, bytes)?;
+    raise_held(version, beyond, &mut known.second, rest)
 }
 
 // A live context.
 fn raise_context<'a>(
     version: Version,
-    source: Source<'_>,
+    beyond: &mut Beyond<'a>,
     entry: &mut Entry,
     bytes: &'a [u8],
 ) -> Result<&'a [u8], OutOfMemory>
-    requires { StandsInFront (context version) bytes.now }
-    ensures ok { IfOk result (λ rest. JoinsFront (context version) entry_joining bytes.now rest.now (view_of_entry entry.old) (view_of_entry entry.new)) }
-    ensures err { OnErr result (StopsBetween (context version) entry_between bytes.now (view_of_entry entry.old) (view_of_entry entry.new)) }
+    requires { StandsInFront (context version) (bytes.now ++ beyond.old) }
+    ensures ok { IfOk result (λ rest. JoinsFront (context version) entry_joining (bytes.now ++ beyond.old) (rest.now ++ beyond.new) (view_of_entry entry.old) (view_of_entry entry.new)) }
+    ensures err { OnErr result (StopsBetween (context version) entry_between (bytes.now ++ beyond.old) (view_of_entry entry.old) (view_of_entry entry.new)) }
+    ensures less { length beyond.new ≤ length beyond.old }
 {
-    let rest = raise_birth(version, source, &mut entry.first, bytes)?;
-    raise_progress(version, source, &mut entry.second, rest)
+    let rest = raise_birth(version, beyond, &mut entry.first, bytes)?;
+    raise_progress(version, beyond, &mut entry.second, rest)
 }
 
 // The same, where the taker's may be dead.
 #[inline(never)]
 fn raise_live<'a>(
     version: Version,
-    source: Source<'_>,
+    beyond: &mut Beyond<'a>,
     known: &mut Lifted,
     bytes: &'a [u8],
 ) -> Result<&'a [u8], OutOfMemory>
-    requires { StandsInFront (lift_form (context version) 0) bytes.now }
-    ensures ok { IfOk result (λ rest. JoinsFront (lift_form (context version) 0) lifted_joining bytes.now rest.now (view_of_lifted known.old) (view_of_lifted known.new)) }
-    ensures err { OnErr result (StopsBetween (lift_form (context version) 0) lifted_between bytes.now (view_of_lifted known.old) (view_of_lifted known.new)) }
+    requires { StandsInFront (lift_form (context version) 0) (bytes.now ++ beyond.old) }
+    ensures ok { IfOk result (λ rest. JoinsFront (lift_form (context version) 0) lifted_joining (bytes.now ++ beyond.old) (rest.now ++ beyond.new) (view_of_lifted known.old) (view_of_lifted known.new)) }
+    ensures err { OnErr result (StopsBetween (lift_form (context version) 0) lifted_between (bytes.now ++ beyond.old) (view_of_lifted known.old) (view_of_lifted known.new)) }
+    ensures less { length beyond.new ≤ length beyond.old }
 {
     match known {
-        Lift::Live(entry) => raise_context(version, source, entry, bytes),
-        Lift::Dead => match read_live(version, source, bytes) {
+        Lift::Live(entry) => raise_context(version, beyond, entry, bytes),
+        Lift::Dead => match read_live(version, beyond.source(), bytes) {
             Err(_) => Err(OutOfMemory),
             Ok((_live, rest)) => Ok(rest),
         },
@@ -309,25 +360,25 @@ impl WireJoin for Lifted {
 
     fn read_new<'a>(
         version: Version,
-        source: Source<'_>,
+        beyond: &mut Beyond<'a>,
         bytes: &'a [u8],
     ) -> Result<(Lifted, &'a [u8]), ReadError> {
-        <Lifted as WireValue>::read(version, source, bytes)
+        <Lifted as WireValue>::read(version, beyond.source(), bytes)
     }
 
     fn raise<'a>(
         &mut self,
         version: Version,
-        source: Source<'_>,
+        beyond: &mut Beyond<'a>,
         bytes: &'a [u8],
     ) -> Result<&'a [u8], OutOfMemory> {
         match version {
-            Version::One => raise_live(version, source, self, bytes),
+            Version::One => raise_live(version, beyond, self, bytes),
             Version::Two => match read_u8(bytes) {
-                Err(_) => unreachable!(),
+                Err(_) => Err(OutOfMemory),
                 Ok((form, rest)) => {
                     if form == 0 {
-                        raise_live(version, source, self, rest)
+                        raise_live(version, beyond, self, rest)
                     } else {
                         bury(self);
                         Ok(rest)
@@ -345,17 +396,24 @@ impl WireJoin for Lifted {
 // What is said of contexts, by name.
 pub fn raise_contexts<'a>(
     version: Version,
-    source: Source<'_>,
+    beyond: &mut Beyond<'a>,
     contexts: &mut Keyed<Name, Lifted>,
     bytes: &'a [u8],
 ) -> Result<&'a [u8], OutOfMemory>
-    requires { StandsInFront (contexts_format version) bytes.now }
-    ensures ok { IfOk result (λ rest. JoinsFront (contexts_format version) (keyed_joining lifted_joining) bytes.now rest.now (view_of_entries contexts.old) (view_of_entries contexts.new)) }
-    ensures err { OnErr result (StopsBetween (contexts_format version) (keyed_between lifted_between) bytes.now (view_of_entries contexts.old) (view_of_entries contexts.new)) }
+    requires { StandsInFront (contexts_format version) (bytes.now ++ beyond.old) }
+    ensures ok { IfOk result (λ rest. JoinsFront (contexts_format version) (keyed_joining lifted_joining) (bytes.now ++ beyond.old) (rest.now ++ beyond.new) (view_of_entries contexts.old) (view_of_entries contexts.new)) }
+    ensures err { OnErr result (StopsBetween (contexts_format version) (keyed_between lifted_between) (bytes.now ++ beyond.old) (view_of_entries contexts.old) (view_of_entries contexts.new)) }
     ensures some { OnErr result ((rest : List ℕ) → name_count.read bytes.now ≢ Ok (0, rest)) }
+    ensures none { IfOk result (λ rest. (left : List ℕ) → name_count.read bytes.now ≡ Ok (0, left) → rest.now ≡ left) }
+    ensures less { length beyond.new ≤ length beyond.old }
 {
     match read_name_count(bytes) {
-        Err(_) => unreachable!(),
-        Ok((count, rest)) => raise_map(version, source, contexts, count as usize, rest),
+        Err(_) => Err(OutOfMemory),
+        Ok((count, rest)) => {
+            if count == 0 {
+                return Ok(rest);
+            }
+            raise_map(version, beyond, contexts, count as usize, rest)
+        }
     }
 }

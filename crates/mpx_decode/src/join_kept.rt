@@ -1,6 +1,6 @@
 //! Acknowledgements joined as their bytes are read, beside what is kept of them as it is spelled: rows that stand in the frame as they are
 //! kept are passed over by their bytes.
-ghost use Rattle.std.specs.Prelude.{◌≡◌, ◌≢◌, ◌==◌, ◌<◌, ◌+◌, ◌≤◌, ℕ, false, IfOk, IfSome, IsTrue, List, Ok, OnErr, length};
+ghost use Rattle.std.specs.Prelude.{◌≡◌, ◌≢◌, ◌==◌, ◌<◌, ◌+◌, ◌++◌, ◌≤◌, ℕ, false, IfOk, IfSome, IsTrue, List, Ok, OnErr, length};
 ghost use Rattle.std.specs.Ordering.{nat_cmp};
 ghost use Rattle.std.specs.FinMap.{entries, is_sorted};
 ghost use Rattle.join_nest.specs.Seen.{keyed_view, seen};
@@ -23,29 +23,30 @@ use mpx_board::{Acks, VersionVector};
 use mpx_format::{Kept, KeptAcks, PIECE_ROWS, Version};
 use mpx_group::Proc;
 use mpx_name::Name;
-use mpx_rope::Source;
+use mpx_rope::Beyond;
 use std::mem;
 
 // What all processes acknowledge.
 pub fn raise_all_acks<'a>(
     version: Version,
-    source: Source<'_>,
+    beyond: &mut Beyond<'a>,
     all: &mut Keyed<Proc, Acks>,
     kept: &mut Kept,
     bytes: &'a [u8],
 ) -> Result<&'a [u8], OutOfMemory>
-    requires spelled { StandsInFront all_acks bytes.now }
+    requires spelled { StandsInFront all_acks (bytes.now ++ beyond.old) }
     requires kept { AreKept kept.old.of.items (view_of_all_acks all.old) }
-    ensures ok { IfOk result (λ rest. JoinsFront all_acks (keyed_joining acks_joining) bytes.now rest.now (view_of_all_acks all.old) (view_of_all_acks all.new)) }
-    ensures err { OnErr result (StopsBetween all_acks (keyed_between acks_between) bytes.now (view_of_all_acks all.old) (view_of_all_acks all.new)) }
+    ensures ok { IfOk result (λ rest. JoinsFront all_acks (keyed_joining acks_joining) (bytes.now ++ beyond.old) (rest.now ++ beyond.new) (view_of_all_acks all.old) (view_of_all_acks all.new)) }
+    ensures err { OnErr result (StopsBetween all_acks (keyed_between acks_between) (bytes.now ++ beyond.old) (view_of_all_acks all.old) (view_of_all_acks all.new)) }
     ensures some { OnErr result ((rest : List ℕ) → byte.read bytes.now ≢ Ok (0, rest)) }
     ensures kept { AreKept kept.new.of.items (view_of_all_acks all.new) }
+    ensures less { length beyond.new ≤ length beyond.old }
 {
     match read_u8(bytes) {
-        Err(_) => unreachable!(),
+        Err(_) => Err(OutOfMemory),
         Ok((count, rest)) => {
-            let mut entries = mem::replace(all, Keyed::new(source.alloc())).into_entries();
-            let raised = raise_processes(version, source, &mut entries, kept, count as usize, rest);
+            let mut entries = mem::replace(all, Keyed::new(beyond.alloc())).into_entries();
+            let raised = raise_processes(version, beyond, &mut entries, kept, count as usize, rest);
             *all = Keyed::from_rising(entries);
             raised
         }
@@ -55,27 +56,28 @@ pub fn raise_all_acks<'a>(
 // What so many processes acknowledge, one after the other.
 fn raise_processes<'a>(
     version: Version,
-    source: Source<'_>,
+    beyond: &mut Beyond<'a>,
     entries: &mut Vec<(Proc, Acks)>,
     kept: &mut Kept,
     count: usize,
     bytes: &'a [u8],
 ) -> Result<&'a [u8], OutOfMemory>
     requires rising { IsTrue (is_sorted nat_cmp entries.old.items) }
-    requires spelled { StandsInFront (rows nat_cmp process acks count) bytes.now }
+    requires spelled { StandsInFront (rows nat_cmp process acks count) (bytes.now ++ beyond.old) }
     requires kept { AreKept kept.old.of.items (keyed_view nat_cmp view_of_acks entries.old.items) }
-    ensures ok { IfOk result (λ rest. JoinsFront (rows nat_cmp process acks count) (keyed_joining acks_joining) bytes.now rest.now
+    ensures ok { IfOk result (λ rest. JoinsFront (rows nat_cmp process acks count) (keyed_joining acks_joining) (bytes.now ++ beyond.old) (rest.now ++ beyond.new)
         (keyed_view nat_cmp view_of_acks entries.old.items) (keyed_view nat_cmp view_of_acks entries.new.items)) }
-    ensures err { OnErr result (StopsBetween (rows nat_cmp process acks count) (keyed_between acks_between) bytes.now
+    ensures err { OnErr result (StopsBetween (rows nat_cmp process acks count) (keyed_between acks_between) (bytes.now ++ beyond.old)
         (keyed_view nat_cmp view_of_acks entries.old.items) (keyed_view nat_cmp view_of_acks entries.new.items)) }
     ensures rising { IsTrue (is_sorted nat_cmp entries.new.items) }
     ensures some { OnErr result (0 < count) }
     ensures kept { AreKept kept.new.of.items (keyed_view nat_cmp view_of_acks entries.new.items) }
+    ensures less { length beyond.new ≤ length beyond.old }
 {
     let mut next = 0usize;
     let mut rest = bytes;
     for _ in 0..count {
-        let (after, left) = raise_process(version, source, entries, kept, next, rest)?;
+        let (after, left) = raise_process(version, beyond, entries, kept, next, rest)?;
         next = after;
         rest = left;
     }
@@ -85,73 +87,76 @@ fn raise_processes<'a>(
 // What one process acknowledges, which stands at this place, or where else it may. Tells the place after it.
 fn raise_process<'a>(
     version: Version,
-    source: Source<'_>,
+    beyond: &mut Beyond<'a>,
     entries: &mut Vec<(Proc, Acks)>,
     kept: &mut Kept,
     next: usize,
     bytes: &'a [u8],
 ) -> Result<(usize, &'a [u8]), OutOfMemory>
     requires rising { IsTrue (is_sorted nat_cmp entries.old.items) }
-    requires spelled { StandsInFront (row process acks) bytes.now }
+    requires spelled { StandsInFront (row process acks) (bytes.now ++ beyond.old) }
     requires kept { AreKept kept.old.of.items (keyed_view nat_cmp view_of_acks entries.old.items) }
-    ensures ok { IfOk result (λ x. RaisesRow nat_cmp view_of_acks (row process acks) acks_joining bytes.now x.1.now entries.old.items entries.new.items) }
-    ensures err { OnErr result (StopsRow nat_cmp view_of_acks (row process acks) acks_between bytes.now entries.old.items entries.new.items) }
+    ensures ok { IfOk result (λ x. RaisesRow nat_cmp view_of_acks (row process acks) acks_joining (bytes.now ++ beyond.old) (x.1.now ++ beyond.new) entries.old.items entries.new.items) }
+    ensures err { OnErr result (StopsRow nat_cmp view_of_acks (row process acks) acks_between (bytes.now ++ beyond.old) entries.old.items entries.new.items) }
     ensures rising { IsTrue (is_sorted nat_cmp entries.new.items) }
     ensures kept { AreKept kept.new.of.items (keyed_view nat_cmp view_of_acks entries.new.items) }
+    ensures less { length beyond.new ≤ length beyond.old }
 {
     if next < entries.len() {
         if let Some(after) = entries[next].0.behind(bytes) {
             let process = entries[next].0;
-            let rest = raise_one(version, source, process, &mut entries[next].1, kept, after)?;
+            let rest = raise_one(version, beyond, process, &mut entries[next].1, kept, after)?;
             return Ok((next + 1, rest));
         }
     }
     kept.forget_all();
-    raise_placed(version, source, entries, bytes)
+    raise_placed(version, beyond, entries, bytes)
 }
 
 // What is said at the front of the process, joined to what it said.
 fn raise_one<'a>(
     version: Version,
-    source: Source<'_>,
+    beyond: &mut Beyond<'a>,
     process: Proc,
     said: &mut Acks,
     kept: &mut Kept,
     bytes: &'a [u8],
 ) -> Result<&'a [u8], OutOfMemory>
-    requires spelled { StandsInFront acks bytes.now }
+    requires spelled { StandsInFront acks (bytes.now ++ beyond.old) }
     requires kept { ArePieces (pieces_of kept.old.of.items process) (entries (view_of_acks said.old)) }
-    ensures ok { IfOk result (λ rest. JoinsFront acks acks_joining bytes.now rest.now (view_of_acks said.old) (view_of_acks said.new)) }
-    ensures err { OnErr result (StopsBetween acks acks_between bytes.now (view_of_acks said.old) (view_of_acks said.new)) }
+    ensures ok { IfOk result (λ rest. JoinsFront acks acks_joining (bytes.now ++ beyond.old) (rest.now ++ beyond.new) (view_of_acks said.old) (view_of_acks said.new)) }
+    ensures err { OnErr result (StopsBetween acks acks_between (bytes.now ++ beyond.old) (view_of_acks said.old) (view_of_acks said.new)) }
     ensures kept { ArePieces (pieces_of kept.new.of.items process) (entries (view_of_acks said.new)) }
     ensures others { (p : ℕ) → (p == process) ≡ false → pieces_of kept.new.of.items p ≡ pieces_of kept.old.of.items p }
+    ensures less { length beyond.new ≤ length beyond.old }
 {
     let place = process.number() as usize;
     if place < kept.of.len() {
-        return raise_beside(version, source, said, &mut kept.of[place], bytes);
+        return raise_beside(version, beyond, said, &mut kept.of[place], bytes);
     }
-    said.raise(version, source, bytes)
+    said.raise(version, beyond, bytes)
 }
 
 // What is said at the front, joined to what a process said, of which pieces may be kept.
 fn raise_beside<'a>(
     version: Version,
-    source: Source<'_>,
+    beyond: &mut Beyond<'a>,
     said: &mut Acks,
     kept: &mut KeptAcks,
     bytes: &'a [u8],
 ) -> Result<&'a [u8], OutOfMemory>
-    requires spelled { StandsInFront acks bytes.now }
+    requires spelled { StandsInFront acks (bytes.now ++ beyond.old) }
     requires kept { ArePieces kept.old.pieces.items (entries (view_of_acks said.old)) }
-    ensures ok { IfOk result (λ rest. JoinsFront acks acks_joining bytes.now rest.now (view_of_acks said.old) (view_of_acks said.new)) }
-    ensures err { OnErr result (StopsBetween acks acks_between bytes.now (view_of_acks said.old) (view_of_acks said.new)) }
+    ensures ok { IfOk result (λ rest. JoinsFront acks acks_joining (bytes.now ++ beyond.old) (rest.now ++ beyond.new) (view_of_acks said.old) (view_of_acks said.new)) }
+    ensures err { OnErr result (StopsBetween acks acks_between (bytes.now ++ beyond.old) (view_of_acks said.old) (view_of_acks said.new)) }
     ensures kept { ArePieces kept.new.pieces.items (entries (view_of_acks said.new)) }
+    ensures less { length beyond.new ≤ length beyond.old }
 {
     match read_some_names(bytes) {
-        Err(_) => unreachable!(),
+        Err(_) => Err(OutOfMemory),
         Ok((count, rest)) => {
-            let mut entries = mem::replace(said, Keyed::new(source.alloc())).into_entries();
-            let raised = raise_rows(version, source, &mut entries, kept, count as usize, rest);
+            let mut entries = mem::replace(said, Keyed::new(beyond.alloc())).into_entries();
+            let raised = raise_rows(version, beyond, &mut entries, kept, count as usize, rest);
             *said = Keyed::from_rising(entries);
             raised
         }
@@ -161,21 +166,22 @@ fn raise_beside<'a>(
 // So many rows, one piece or one row after the other.
 fn raise_rows<'a>(
     version: Version,
-    source: Source<'_>,
+    beyond: &mut Beyond<'a>,
     entries: &mut Vec<(Name, VersionVector)>,
     kept: &mut KeptAcks,
     count: usize,
     bytes: &'a [u8],
 ) -> Result<&'a [u8], OutOfMemory>
     requires rising { IsTrue (is_sorted name_cmp entries.old.items) }
-    requires spelled { StandsInFront (rows name_cmp name numbers count) bytes.now }
+    requires spelled { StandsInFront (rows name_cmp name numbers count) (bytes.now ++ beyond.old) }
     requires kept { ArePieces kept.old.pieces.items (seen view_of_numbers entries.old.items) }
-    ensures ok { IfOk result (λ rest. JoinsFront (rows name_cmp name numbers count) (keyed_joining numbers_joining) bytes.now rest.now
+    ensures ok { IfOk result (λ rest. JoinsFront (rows name_cmp name numbers count) (keyed_joining numbers_joining) (bytes.now ++ beyond.old) (rest.now ++ beyond.new)
         (keyed_view name_cmp view_of_numbers entries.old.items) (keyed_view name_cmp view_of_numbers entries.new.items)) }
-    ensures err { OnErr result (StopsBetween (rows name_cmp name numbers count) (keyed_between numbers_between) bytes.now
+    ensures err { OnErr result (StopsBetween (rows name_cmp name numbers count) (keyed_between numbers_between) (bytes.now ++ beyond.old)
         (keyed_view name_cmp view_of_numbers entries.old.items) (keyed_view name_cmp view_of_numbers entries.new.items)) }
     ensures rising { IsTrue (is_sorted name_cmp entries.new.items) }
     ensures kept { ArePieces kept.new.pieces.items (seen view_of_numbers entries.new.items) }
+    ensures less { length beyond.new ≤ length beyond.old }
 {
     let mut next = 0usize;
     let mut done = 0usize;
@@ -183,7 +189,7 @@ fn raise_rows<'a>(
     while done < count {
         let (some, at, after) = raise_some(
             version,
-            source,
+            beyond,
             entries,
             kept,
             next,
@@ -201,7 +207,7 @@ fn raise_rows<'a>(
 // after them.
 fn raise_some<'a>(
     version: Version,
-    source: Source<'_>,
+    beyond: &mut Beyond<'a>,
     entries: &mut Vec<(Name, VersionVector)>,
     kept: &mut KeptAcks,
     next: usize,
@@ -210,21 +216,22 @@ fn raise_some<'a>(
 ) -> Result<(usize, usize, &'a [u8]), OutOfMemory>
     requires rising { IsTrue (is_sorted name_cmp entries.old.items) }
     requires some { 0 < most }
-    requires spelled { StandsInFront (row name numbers) bytes.now }
+    requires spelled { StandsInFront (row name numbers) (bytes.now ++ beyond.old) }
     requires kept { ArePieces kept.old.pieces.items (seen view_of_numbers entries.old.items) }
-    ensures ok { IfOk result (λ x. RaisesRows name_cmp view_of_numbers (row name numbers) numbers_joining x.0 bytes.now x.2.now entries.old.items entries.new.items) }
+    ensures ok { IfOk result (λ x. RaisesRows name_cmp view_of_numbers (row name numbers) numbers_joining x.0 (bytes.now ++ beyond.old) (x.2.now ++ beyond.new) entries.old.items entries.new.items) }
     ensures some { IfOk result (λ x. 0 < x.0) }
     ensures few { IfOk result (λ x. x.0 ≤ most) }
-    ensures err { OnErr result (StopsRow name_cmp view_of_numbers (row name numbers) numbers_between bytes.now entries.old.items entries.new.items) }
+    ensures err { OnErr result (StopsRow name_cmp view_of_numbers (row name numbers) numbers_between (bytes.now ++ beyond.old) entries.old.items entries.new.items) }
     ensures rising { IsTrue (is_sorted name_cmp entries.new.items) }
     ensures kept { ArePieces kept.new.pieces.items (seen view_of_numbers entries.new.items) }
+    ensures less { length beyond.new ≤ length beyond.old }
 {
     if let Some((same, after)) = same_rows(entries.as_slice(), kept, next, bytes) {
         if same <= most {
             return Ok((same, next + same, after));
         }
     }
-    let (at, after) = raise_row(version, source, entries, kept, next, bytes)?;
+    let (at, after) = raise_row(version, beyond, entries, kept, next, bytes)?;
     Ok((1, at, after))
 }
 
@@ -256,22 +263,23 @@ fn same_rows<'a>(
 // The row at the front; its piece is no longer kept, and those behind it neither where a row was put in. Tells the place after it.
 fn raise_row<'a>(
     version: Version,
-    source: Source<'_>,
+    beyond: &mut Beyond<'a>,
     entries: &mut Vec<(Name, VersionVector)>,
     kept: &mut KeptAcks,
     next: usize,
     bytes: &'a [u8],
 ) -> Result<(usize, &'a [u8]), OutOfMemory>
     requires rising { IsTrue (is_sorted name_cmp entries.old.items) }
-    requires spelled { StandsInFront (row name numbers) bytes.now }
+    requires spelled { StandsInFront (row name numbers) (bytes.now ++ beyond.old) }
     requires kept { ArePieces kept.old.pieces.items (seen view_of_numbers entries.old.items) }
-    ensures ok { IfOk result (λ x. RaisesRow name_cmp view_of_numbers (row name numbers) numbers_joining bytes.now x.1.now entries.old.items entries.new.items) }
-    ensures err { OnErr result (StopsRow name_cmp view_of_numbers (row name numbers) numbers_between bytes.now entries.old.items entries.new.items) }
+    ensures ok { IfOk result (λ x. RaisesRow name_cmp view_of_numbers (row name numbers) numbers_joining (bytes.now ++ beyond.old) (x.1.now ++ beyond.new) entries.old.items entries.new.items) }
+    ensures err { OnErr result (StopsRow name_cmp view_of_numbers (row name numbers) numbers_between (bytes.now ++ beyond.old) entries.old.items entries.new.items) }
     ensures rising { IsTrue (is_sorted name_cmp entries.new.items) }
     ensures kept { ArePieces kept.new.pieces.items (seen view_of_numbers entries.new.items) }
+    ensures less { length beyond.new ≤ length beyond.old }
 {
     let len = entries.len();
-    match raise_entry(version, source, entries, next, bytes) {
+    match raise_entry(version, beyond, entries, next, bytes) {
         Err(e) => {
             kept.forget_all();
             Err(e)

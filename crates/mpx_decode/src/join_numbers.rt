@@ -1,5 +1,5 @@
 //! Numbers of calls by process joined as their bytes are read, four at once as long as the taker has the same processes.
-ghost use Rattle.std.specs.Prelude.{◌≡◌, ◌+◌, ◌≤◌, ◌<◌, ℕ, IfOk, IfSome, IsTrue, OnErr, IfNone, get_or, length, max, set};
+ghost use Rattle.std.specs.Prelude.{◌≡◌, ◌+◌, ◌++◌, ◌≤◌, ◌<◌, ℕ, IfOk, IfSome, IsTrue, OnErr, IfNone, get_or, length, max, set};
 ghost use Rattle.std.specs.Ordering.{nat_cmp};
 ghost use Rattle.std.specs.FinMap.{is_sorted};
 ghost use Rattle.join_core.specs.Max.{max_joining};
@@ -16,7 +16,7 @@ use join_core::{Join, Max, OutOfMemory};
 use join_nest::Keyed;
 use mpx_format::Version;
 use mpx_group::Proc;
-use mpx_rope::Source;
+use mpx_rope::{Beyond, Source};
 use std::mem;
 
 // Where at least so many are new, they are read as a list, to which the taker's are joined: each that is put in moves all behind it.
@@ -25,27 +25,28 @@ const FEWEST_NEW: usize = 4;
 // Joins so many numbers at the front, one after the other.
 pub fn raise_numbers<'a>(
     version: Version,
-    source: Source<'_>,
+    beyond: &mut Beyond<'a>,
     entries: &mut Vec<(Proc, Max)>,
     count: usize,
     bytes: &'a [u8],
 ) -> Result<&'a [u8], OutOfMemory>
     requires rising { IsTrue (is_sorted nat_cmp entries.old.items) }
-    requires spelled { StandsInFront (rows nat_cmp process some_calls count) bytes.now }
-    ensures ok { IfOk result (λ rest. JoinsFront (rows nat_cmp process some_calls count) (keyed_joining max_joining) bytes.now rest.now
+    requires spelled { StandsInFront (rows nat_cmp process some_calls count) (bytes.now ++ beyond.old) }
+    ensures ok { IfOk result (λ rest. JoinsFront (rows nat_cmp process some_calls count) (keyed_joining max_joining) (bytes.now ++ beyond.old) (rest.now ++ beyond.new)
         (keyed_view nat_cmp (λ n. n.0) entries.old.items) (keyed_view nat_cmp (λ n. n.0) entries.new.items)) }
-    ensures err { OnErr result (StopsBetween (rows nat_cmp process some_calls count) (keyed_between (old_or_joined max_joining)) bytes.now
+    ensures err { OnErr result (StopsBetween (rows nat_cmp process some_calls count) (keyed_between (old_or_joined max_joining)) (bytes.now ++ beyond.old)
         (keyed_view nat_cmp (λ n. n.0) entries.old.items) (keyed_view nat_cmp (λ n. n.0) entries.new.items)) }
     ensures rising { IsTrue (is_sorted nat_cmp entries.new.items) }
+    ensures less { length beyond.new ≤ length beyond.old }
 {
     if entries.len() + FEWEST_NEW <= count {
-        return merge_numbers(version, source, entries, count, bytes);
+        return merge_numbers(version, beyond, entries, count, bytes);
     }
     let (done, behind) = raise_fours(entries, count, bytes);
     let mut next = done;
     let mut rest = behind;
     for _ in done..count {
-        let (after, left) = raise_entry(version, source, entries, next, rest)?;
+        let (after, left) = raise_entry(version, beyond, entries, next, rest)?;
         next = after;
         rest = left;
     }
@@ -55,25 +56,26 @@ pub fn raise_numbers<'a>(
 // Joins so many numbers at the front, in one pass over both: the taker's to those that are read.
 fn merge_numbers<'a>(
     version: Version,
-    source: Source<'_>,
+    beyond: &mut Beyond<'a>,
     entries: &mut Vec<(Proc, Max)>,
     count: usize,
     bytes: &'a [u8],
 ) -> Result<&'a [u8], OutOfMemory>
     requires rising { IsTrue (is_sorted nat_cmp entries.old.items) }
-    requires spelled { StandsInFront (rows nat_cmp process some_calls count) bytes.now }
-    ensures ok { IfOk result (λ rest. JoinsFront (rows nat_cmp process some_calls count) (keyed_joining max_joining) bytes.now rest.now
+    requires spelled { StandsInFront (rows nat_cmp process some_calls count) (bytes.now ++ beyond.old) }
+    ensures ok { IfOk result (λ rest. JoinsFront (rows nat_cmp process some_calls count) (keyed_joining max_joining) (bytes.now ++ beyond.old) (rest.now ++ beyond.new)
         (keyed_view nat_cmp (λ n. n.0) entries.old.items) (keyed_view nat_cmp (λ n. n.0) entries.new.items)) }
-    ensures err { OnErr result (StopsBetween (rows nat_cmp process some_calls count) (keyed_between (old_or_joined max_joining)) bytes.now
+    ensures err { OnErr result (StopsBetween (rows nat_cmp process some_calls count) (keyed_between (old_or_joined max_joining)) (bytes.now ++ beyond.old)
         (keyed_view nat_cmp (λ n. n.0) entries.old.items) (keyed_view nat_cmp (λ n. n.0) entries.new.items)) }
     ensures rising { IsTrue (is_sorted nat_cmp entries.new.items) }
+    ensures less { length beyond.new ≤ length beyond.old }
 {
-    let Ok((read, rest)) = read_rows(version, source, count, bytes) else {
+    let Ok((read, rest)) = read_rows(version, Source::of(beyond.alloc()), count, bytes) else {
         return Err(OutOfMemory);
     };
-    let held = Keyed::from_rising(mem::replace(entries, Vec::new(source.alloc())));
+    let held = Keyed::from_rising(mem::replace(entries, Vec::new(beyond.alloc())));
     let mut all = Keyed::from_rising(read);
-    match all.join_in(source.alloc(), &held) {
+    match all.join_in(beyond.alloc(), &held) {
         Err(e) => {
             *entries = held.into_entries();
             Err(e)

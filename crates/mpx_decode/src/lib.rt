@@ -30,4 +30,4 @@ mod taking;
 
 pub use codes::read_version;
 pub use contexts::read_parts;
-pub use taking::take_parts;
+pub use taking::{take_apart, take_parts};

@@ -18,7 +18,7 @@ use std::alloc::Global;
 // So many rows: in one loop over their bytes where all of them are right, and else as any entries, which tells the first fault.
 pub fn read_rows<'a>(
     version: Version,
-    source: Source<'_>,
+    source: Source<'a>,
     count: usize,
     bytes: &'a [u8],
 ) -> Result<(Vec<(Proc, Max)>, &'a [u8]), ReadError>

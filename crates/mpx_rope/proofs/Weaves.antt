@@ -1,8 +1,8 @@
 -- Ropes whose own bytes or shared ones grow, and how many bytes they have.
 use Rattle.std.proofs.Common.{◌≡◌, ◌≢◌, ℕ, ◌+◌, ◌-◌, ◌^◌, ◌<◌, ◌≤◌, List, [], ◌∷◌, ◌++◌, length, take, drop, refl, sym, subst, ap, ◌∙◌, arith, append_assoc, get_or, Result, Ok, Err}
-use Rattle.std.proofs.lemmas.List.{append-nil, drop-append-le, drop-drop, drop_all, drop_more, length-append, length-drop, length-take-le, take-append-le, take_all}
+use Rattle.std.proofs.lemmas.List.{append-nil, drop-append-le, drop-drop, drop_all, drop_more, length-append, length-drop, length-take-le, take-append-drop, take-append-le, take_all}
 use Rattle.std.specs.Result.{OnOk, OnErr}
-use Rattle.mpx_rope.specs.Ropes.{AreMany, ArePlaced, IsRope, shared_len, woven}
+use Rattle.mpx_rope.specs.Ropes.{AreMany, ArePlaced, IsRope, near_len, shared_len, woven}
 
 -- the places end before the own bytes do
 pub placed_within : (from end : ℕ) (ss : List (ℕ × List ℕ)) → ArePlaced from end ss → from ≤ end
@@ -157,3 +157,56 @@ module _ {A E : Type 0} (ss : List (ℕ × List ℕ)) (carried : ℕ) where
   pub grown_err : (answer : Result A E) (old new value : List ℕ) → OnErr answer (new ≡ old) → woven 0 old ss ≡ value → OnErr answer (woven 0 new ss ≡ value)
   grown_err (Ok x) old new value err is = tt
   grown_err (Err e) old new value err is = ap (λ own. woven 0 own ss) err ∙ is
+
+-- WHAT IS NEAR, AND WHAT LIES BEYOND
+
+module _ (from : ℕ) (own : List ℕ) where
+  pub near_within : (ss : List (ℕ × List ℕ)) → ArePlaced from (from + length own) ss → near_len from own ss ≤ length own
+  near_within [] p = omega arith
+  near_within (s ∷ ss) p = front_within from own s ss p
+
+  -- the places behind what is near
+  near_placed : (ss : List (ℕ × List ℕ)) → ArePlaced from (from + length own) ss → ArePlaced (from + near_len from own ss) (from + length own) ss
+  near_placed [] p = omega arith
+  near_placed (s ∷ ss) p = (omega (arith, p.0), p.1)
+
+  -- what is near stands before what lies beyond
+  near_woven : (ss : List (ℕ × List ℕ)) → ArePlaced from (from + length own) ss → woven from own ss ≡ take (near_len from own ss) own ++ woven (from + near_len from own ss) (drop (near_len from own ss) own) ss
+  near_woven [] p = sym (take-append-drop (length own) own)
+  near_woven (s ∷ ss) p =
+      let n : ℕ = s.0 - from in
+      let none : s.0 - (from + n) ≡ 0 = omega (arith, p.0) in
+      append_assoc (take n own) s.1 (woven s.0 (drop n own) ss)
+      ∙ ap (λ k. take n own ++ ((take k (drop n own) ++ s.1) ++ woven s.0 (drop k (drop n own)) ss)) (sym none)
+
+-- the first piece stands among the own bytes
+pub first_place : (from : ℕ) (own : List ℕ) (s : ℕ × List ℕ) (ss : List (ℕ × List ℕ)) → 1 ≤ length ss → s ≡ get_or ss 0 s → ArePlaced from (from + length own) ss → s.0 - from ≤ length own
+first_place from own s [] some is p = absurd (omega (arith, some))
+first_place from own s (x ∷ ss) some is p =
+    let same : s.0 - from ≡ x.0 - from = ap (λ (y : ℕ × List ℕ). y.0 - from) is in
+    omega (arith, same, front_within from own x ss p)
+
+module _ (end n : ℕ) (own : List ℕ) (ss : List (ℕ × List ℕ)) (inside : (length own ≤ end) × ArePlaced (end - length own) end ss) (is : n ≡ near_len (end - length own) own ss) where
+  abbrev from : ℕ
+  from = end - length own
+
+  placed : ArePlaced from (from + length own) ss
+  placed = subst (λ e. ArePlaced from e ss) (omega (arith, inside.0)) inside.1
+
+  within : n ≤ length own
+  within = subst (λ k. k ≤ length own) (sym is) (near_within from own ss placed)
+
+  moved : end - length (drop n own) ≡ from + n
+  moved = omega (arith, length-drop n own, within, inside.0)
+
+  pub beyond_placed : (length (drop n own) ≤ end) × ArePlaced (end - length (drop n own)) end ss
+  beyond_placed =
+      let there : ArePlaced (from + n) (from + length own) ss = subst (λ k. ArePlaced (from + k) (from + length own) ss) (sym is) (near_placed from own ss placed) in
+      let whole : from + length own ≡ end = omega (arith, inside.0) in
+      (omega (arith, length-drop n own, inside.0), subst (λ (x : ℕ × ℕ). ArePlaced x.0 x.1 ss) (λ i. (sym moved i, whole i)) there)
+
+  pub beyond_woven : woven from own ss ≡ take n own ++ woven (end - length (drop n own)) (drop n own) ss
+  beyond_woven =
+      near_woven from own ss placed
+      ∙ ap (λ k. take k own ++ woven (from + k) (drop k own) ss) (sym is)
+      ∙ ap (λ k. take n own ++ woven k (drop n own) ss) (sym moved)

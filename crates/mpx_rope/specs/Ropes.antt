@@ -18,6 +18,11 @@ abbrev pub ArePlaced : (from end : ℕ) → List (ℕ × List ℕ) → Type 0
 ArePlaced from end [] = from ≤ end
 ArePlaced from end (s ∷ more) = (from ≤ s.0) × ArePlaced s.0 end more
 
+-- how many own bytes stand before the next shared ones, where so many are left out in front
+abbrev pub near_len : ℕ → List ℕ → List (ℕ × List ℕ) → ℕ
+near_len from own [] = length own
+near_len from own (s ∷ more) = s.0 - from
+
 -- how many bytes are shared
 abbrev pub shared_len : List (ℕ × List ℕ) → ℕ
 shared_len [] = 0

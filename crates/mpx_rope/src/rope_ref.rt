@@ -2,6 +2,7 @@
 ghost use Rattle.std.specs.Prelude.{◌≡◌, ◌≤◌, ◌++◌, IfNone, IfOk, IfSome, OnOk, length, slice_range};
 ghost use Rattle.mpx_rope.specs.Ropes.{ArePlaced, IsRope, woven};
 
+use crate::beyond::{Beyond, near_and_beyond};
 use crate::shared::Shared;
 use crate::source::Source;
 use std::alloc::{AllocError, Global};
@@ -65,6 +66,13 @@ impl<'a> RopeRef<'a> {
         let mut bytes = Vec::with_capacity(alloc, self.len())?;
         write_woven(self.own, self.shared, &mut bytes)?;
         Ok(bytes)
+    }
+
+    /// The bytes before the first shared items, where they lie, and what lies beyond them.
+    pub fn apart(&self, alloc: Global) -> (&'a [u8], Beyond<'a>)
+        ensures { self.now ≡ result.0.now ++ result.1 }
+    {
+        near_and_beyond(self.source(alloc), self.own, self.own.len(), self.shared)
     }
 
     /// What a reader of all bytes may share.

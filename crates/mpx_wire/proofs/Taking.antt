@@ -1,13 +1,15 @@
 -- What is spelled is joined as it is read.
-use Rattle.std.proofs.Common.{◌≡◌, ◌≢◌, ℕ, ◌≤◌, true, List, [], ◌∷◌, length, Result, Ok, Err, refl, sym, ap, ◌∙◌, subst, arith}
+use Rattle.std.proofs.Common.{◌≡◌, ◌≢◌, ℕ, ◌≤◌, ◌⊎◌, inl, inr, List, [], ◌∷◌, length, Result, Ok, Err, OnOk, refl, sym, ap, ◌∙◌, subst, arith}
 use Rattle.std.proofs.lemmas.List.{append-nil}
-use Rattle.mpx_board.specs.Boards.{IsBetween, empty, join}
+use Rattle.mpx_board.specs.Boards.{Fact, Has, IsBetween, IsBoardBelow, Look, empty, join}
 use Rattle.mpx_board.specs.Contexts.{look_of}
-use Rattle.mpx_board.specs.Parts.{PartsView, parts_between, parts_between_laws, parts_joining}
+use Rattle.mpx_board.specs.Parts.{PartsView, parts_between, parts_between_laws, parts_joining, parts_laws}
 use Rattle.mpx_board.specs.Tidy.{is_tidy}
+use Rattle.mpx_board.proofs.Facts.{below_through}
 use Rattle.mpx_board.proofs.Left.{taken_err}
 use Rattle.mpx_board.proofs.Looking.{look-empty, look-join}
 use Rattle.mpx_board.proofs.Order.{same_look}
+use Rattle.mpx_board.proofs.Semilattice.{joins_associate}
 use Rattle.mpx_board.proofs.Tidiness.{tidy_empty}
 use Rattle.mpx_format.specs.declared.defects.Defect.{Defect}
 use Rattle.mpx_format.specs.declared.defects.Defect.TheVariants.{BadMagic}
@@ -16,12 +18,13 @@ use Rattle.mpx_format.specs.declared.defects.ReadError.TheVariants as errors
 use Rattle.mpx_format.specs.declared.versions.Version.{Version}
 use Rattle.mpx_format.specs.Codes.{version_byte}
 use Rattle.mpx_format.specs.Contexts.{frame, parts}
-use Rattle.mpx_format.specs.Decoding.{IsSpelled, Spells}
+use Rattle.mpx_format.specs.Decoding.{IsSpelled}
 use Rattle.mpx_format.specs.declared.versions.Version.TheVariants.{One, Two}
 use Rattle.mpx_format.specs.Format.{Fails, Format, ◌>>=◌, both, mark, mark_at}
 use Rattle.mpx_format.proofs.ContextLaws.{frame_laws}
 use Rattle.mpx_format.proofs.Decoded.{frame_tidy}
-use Rattle.mpx_format.proofs.FormatLaws.{bind_ok, ok_is}
+use Rattle.mpx_format.proofs.CodeLaws.{version_laws}
+use Rattle.mpx_format.proofs.FormatLaws.{Exactly, bind_ok, mark_laws, ok_is}
 use Rattle.mpx_decode.proofs.NoParts.{three_zeros}
 use Rattle.mpx_decode.specs.Raising.{JoinsFront, StandsTidy, StopsBetween, no_parts}
 use Rattle.mpx_wire.specs.Reading.{front}
@@ -137,3 +140,42 @@ many_tell bytes many v s none =
 -- what isn't touched is between
 pub left_alone : (old v : PartsView) → IsBetween (look_of old) (look_of v) (look_of old)
 left_alone old v = taken_err (Err (tt {0})) old v old (parts_between_laws.old old v)
+
+-- TAKEN ONCE MORE
+
+-- what was joined in part is joined with the rest
+pub joins_again : (old v mid : PartsView) → parts_between old v mid → join (look_of mid) (look_of v) ≡ join (look_of old) (look_of v)
+joins_again old v mid left =
+    let j = parts_joining.join in
+    let above : j old mid ≡ mid = parts_between_laws.above old v mid left in
+    let below : j mid (j old v) ≡ j old v = parts_between_laws.below old v mid left in
+    let same : j mid v ≡ j old v =
+    ap (λ (m : PartsView). j m v) (sym above ∙ parts_laws.commutative old mid) ∙ parts_laws.associative mid old v ∙ below in
+    sym (look-join mid v) ∙ ap look_of same ∙ look-join old v
+
+-- and what is left of that is between, too
+pub between_again : (old v mid new : Look) → join mid v ≡ join old v → IsBetween old v mid → IsBetween mid v new → IsBetween old v new
+between_again old v mid new same k l = record {
+  joined = ap (join old) (sym l.joined) ∙ sym (joins_associate old mid new) ∙ ap (λ (m : Look). join m new) k.joined ∙ l.joined;
+  above = below_through old mid new k.above l.above;
+  below = subst (IsBoardBelow new) same l.below;
+  known = λ f h. known_of f (l.known f h);
+}
+  where
+    known_of : (f : Fact) → (Has mid f ⊎ (Has v f ⊎ Has (join mid v) f)) → Has old f ⊎ (Has v f ⊎ Has (join old v) f)
+    known_of f (inl h) = k.known f h
+    known_of f (inr (inl h)) = inr (inl h)
+    known_of f (inr (inr h)) = inr (inr (subst (λ (b : Look). Has b f) same h))
+
+-- parts of which some are joined
+pub spelled_between : (bytes : List ℕ) (version : Version) (rest : List ℕ) → front.read bytes ≡ Ok (version, rest) → (old new : PartsView) → StopsBetween (parts version) parts_between rest old new → (v : PartsView) → IsSpelled bytes v → parts_between old v new
+spelled_between bytes version rest e old new r v s =
+    let same : r.value ≡ v = ap (λ (x : PartsView × List ℕ). x.0) (ok_is (r.value, r.rest) (v, []) (sym r.read ∙ spelled_behind bytes v s version rest e)) in
+    subst (λ (w : PartsView). parts_between old w new) same r.left
+
+pub front_laws : Exactly front
+front_laws = mark_laws BadMagic 77 (mark_laws BadMagic 80 (mark_laws BadMagic 88 (mark_laws BadMagic 71 version_laws)))
+
+pub if_done : {T E P Q : Type 0} (r : Result T E) → (P → Q) → OnOk r P → OnOk r Q
+if_done (Ok x) f h = f h
+if_done (Err e) f h = tt

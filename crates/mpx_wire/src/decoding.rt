@@ -1,5 +1,5 @@
 //! Reading whole frames, into boards of their own or joined to another.
-ghost use Rattle.std.specs.Prelude.{◌≡◌, ◌≢◌, IfOk, IfErr, IsTrue, Ok, OnErr, OnOk, is_ok};
+ghost use Rattle.std.specs.Prelude.{◌≡◌, ◌≢◌, ◌++◌, ℕ, IfOk, IfErr, IsTrue, List, Ok, OnErr, OnOk, is_ok};
 ghost use Rattle.mpx_board.specs.Boards.{IsBetween, empty, join};
 ghost use Rattle.mpx_board.specs.Contexts.{look_of};
 ghost use Rattle.mpx_board.specs.Parts.{PartsView, parts_between, parts_joining};
@@ -14,7 +14,7 @@ ghost use Rattle.mpx_wire.specs.Reading.{front};
 
 use join_core::{Exact, OutOfMemory};
 use mpx_board::{Board, Parts};
-use mpx_decode::{read_parts, read_version, take_parts};
+use mpx_decode::{read_parts, read_version, take_apart, take_parts};
 use mpx_format::{Defect, Kept, ReadError, SHORT, Version, WireError, placed};
 use mpx_rope::{RopeRef, Source};
 use std::alloc::Global;
@@ -46,6 +46,13 @@ fn read_front(bytes: &[u8]) -> Result<(Version, &[u8]), ReadError>
     let rest = read_mark(Defect::BadMagic, 0x58, rest)?;
     let rest = read_mark(Defect::BadMagic, 0x47, rest)?;
     read_version(rest)
+}
+
+// The same, which stands there whatever follows.
+fn read_near_front(bytes: &[u8]) -> Result<(Version, &[u8]), ReadError>
+    ensures { IfOk result (λ x. (more : List ℕ) → front.read (bytes.now ++ more) ≡ Ok (x.0, x.1.now ++ more)) }
+{
+    read_front(bytes)
 }
 
 // The version, and the parts as it spells them.
@@ -118,8 +125,8 @@ pub fn take_spelled(alloc: Global, board: &mut Board, bytes: &[u8]) -> Result<()
     take_from(Source::of(alloc), board, &mut Kept::new(alloc), bytes)
 }
 
-/// The same of a frame whose items may be shared: what it joins to the board shares them, and copies none. Where pieces are shared, it
-/// joins all bytes in one place first, to read them. What is kept of acknowledgements as they are spelled is passed over where its bytes
+/// The same of a frame whose items may be shared: what it joins to the board shares them, and copies none. Where pieces are shared, its
+/// bytes are read where they lie; only where a field isn't found whole there are all copied into one place. What is kept of acknowledgements as they are spelled is passed over where its bytes
 /// stand, and stays right.
 pub fn take_rope(
     alloc: Global,
@@ -136,10 +143,51 @@ pub fn take_rope(
 {
     match rope.in_one_place() {
         Some(bytes) => take_from(rope.source(alloc), board, kept, bytes),
-        None => match rope.joined(alloc) {
-            Err(_) => Err(OutOfMemory),
-            Ok(bytes) => take_from(rope.source(alloc), board, kept, &bytes),
+        None => match take_where_it_lies(alloc, board, kept, rope) {
+            Ok(()) => Ok(()),
+            Err(_) => take_joined(alloc, board, kept, rope),
         },
+    }
+}
+
+// The same, read where its bytes lie. An `Err` says that memory is refused, or that a piece stands where it isn't read so.
+fn take_where_it_lies(
+    alloc: Global,
+    board: &mut Board,
+    kept: &mut Kept,
+    rope: &RopeRef<'_>,
+) -> Result<(), OutOfMemory>
+    requires kept { AreKept kept.old.of.items (parts_of board.old).1 }
+    requires spelled { (v : PartsView) × IsSpelled rope.now v }
+    ensures kept { AreKept kept.new.of.items (parts_of board.new).1 }
+    ensures ok { OnOk result ((v : PartsView) → IsSpelled rope.now v → look board.new ≡ join (look board.old) (look_of v)) }
+    ensures err { OnErr result ((v : PartsView) → IsSpelled rope.now v → IsBetween (look board.old) (look_of v) (look board.new)) }
+    ensures again { OnErr result ((v : PartsView) → IsSpelled rope.now v → join (look board.new) (look_of v) ≡ join (look board.old) (look_of v)) }
+{
+    let (near, mut beyond) = rope.apart(alloc);
+    let Ok((version, rest)) = read_near_front(near) else {
+        return Err(OutOfMemory);
+    };
+    let _after = take_apart(version, &mut beyond, board, kept, rest)?;
+    Ok(())
+}
+
+// The same, of a copy of all bytes in one place.
+fn take_joined(
+    alloc: Global,
+    board: &mut Board,
+    kept: &mut Kept,
+    rope: &RopeRef<'_>,
+) -> Result<(), OutOfMemory>
+    requires kept { AreKept kept.old.of.items (parts_of board.old).1 }
+    requires spelled { (v : PartsView) × IsSpelled rope.now v }
+    ensures kept { AreKept kept.new.of.items (parts_of board.new).1 }
+    ensures ok { OnOk result ((v : PartsView) → IsSpelled rope.now v → look board.new ≡ join (look board.old) (look_of v)) }
+    ensures err { OnErr result ((v : PartsView) → IsSpelled rope.now v → IsBetween (look board.old) (look_of v) (look board.new)) }
+{
+    match rope.joined(alloc) {
+        Err(_) => Err(OutOfMemory),
+        Ok(bytes) => take_from(rope.source(alloc), board, kept, &bytes),
     }
 }
 

@@ -1,5 +1,7 @@
-use Rattle.std.proofs.Common.{List, ℕ, Ok, ap, ◌∙◌, sym}
+use Rattle.std.proofs.Common.{List, ℕ, Ok, ap, ◌∙◌, sym, ◌++◌, arith}
 use Rattle.mpx_kind.specs.declared.kinds.Fields.{Fields}
+use Rattle.mpx_format.proofs.PostLaws.{post_laws}
+use Rattle.mpx_decode.proofs.NearBytes.{fields_on, read_on}
 use Rattle.mpx_decode.proofs.FrontPosts.{FieldsStand, items_behind, none_behind, on_true, same_op_is}
 use Rattle.mpx_decode.proofs.front_posts.behind_post.Goals as goal
 
@@ -13,8 +15,8 @@ behind_counts-requires-2 c =
     let kind = on_true _ c.if-not-front.false c.has_front-front.ensures.kind in
     rw (c.is_had-got.ensures, c.fields-fields.ensures, kind, c.rcounts.ensures) c.limits.ensures.post.rcounts
 
-pub returns-in-None : goal.returns-in-None
-returns-in-None c =
+pub returns-in-None-clause-some : goal.returns-in-None-clause-some
+returns-in-None-clause-some c =
     let stands : FieldsStand c.args.version c.args.bytes.now c.in_ok-both.both.now c.in-Ok-read_type.ty c.args.post.now = record {
       k = c.in-Ok.kind;
       m = c.in-Ok-read_mode.mode;
@@ -40,10 +42,11 @@ returns-in-None c =
       same_op = same_op_is _ _ (on_true _ c.if-not-same.false c.has_fields-same.ensures.op);
       same_type = on_true _ c.if-not-same.false c.has_fields-same.ensures.ty;
     } in
-    none_behind c.args.version c.args.bytes.now c.in_ok-both.both.now c.in-Ok-read_type.ty c.args.post.now c.limits.ensures.post stands c.in-None.ensures.value
+    let near = none_behind c.args.version c.args.bytes.now c.in_ok-both.both.now c.in-Ok-read_type.ty c.args.post.now c.limits.ensures.post stands c.in-None.ensures.value in
+    read_on (post_laws c.args.version) c.args.bytes.now c.in_ok-both.both.now c.args.post.now (λ i. omega (arith, c.type_inv.bytes i)) near c.args.beyond.now
 
-pub returns-in-Some : goal.returns-in-Some
-returns-in-Some c =
+pub returns-in-Some-clause-some : goal.returns-in-Some-clause-some
+returns-in-Some-clause-some c =
     let stands : FieldsStand c.args.version c.args.bytes.now c.in_ok-both.both.now c.in-Ok-read_type.ty c.args.post.now = record {
       k = c.in-Ok.kind;
       m = c.in-Ok-read_mode.mode;
@@ -69,4 +72,6 @@ returns-in-Some c =
       same_op = same_op_is _ _ (on_true _ c.if-not-same.false c.has_fields-same.ensures.op);
       same_type = on_true _ c.if-not-same.false c.has_fields-same.ensures.ty;
     } in
-    items_behind c.args.version c.args.bytes.now c.in_ok-both.both.now c.in-Ok-read_type.ty c.args.post.now c.limits.ensures.post stands c.behind_items.result (λ x. x.now) c.in-Some.items.now c.in-Some.ensures.value c.behind_items.ensures
+    let more = c.args.beyond.now in
+    let all = fields_on c.args.version c.args.bytes.now c.in_ok-both.both.now more c.in-Ok-read_type.ty c.args.post.now (λ i. omega (arith, c.type_inv.bytes i)) stands in
+    items_behind c.args.version (c.args.bytes.now ++ more) (c.in_ok-both.both.now ++ more) c.in-Ok-read_type.ty c.args.post.now c.limits.ensures.post all c.behind_items.result (λ x. x.now ++ c.behind_items.new.beyond) c.in-Some.items.now c.in-Some.ensures.value c.behind_items.ensures.some

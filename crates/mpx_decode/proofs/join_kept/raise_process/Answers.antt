@@ -1,4 +1,4 @@
-use Rattle.std.proofs.Common.{◌≡◌, ◌==◌, ◌<◌, ℕ, false, length, ap, sym, subst, arith}
+use Rattle.std.proofs.Common.{◌≡◌, ◌==◌, ◌<◌, ℕ, false, length, ap, sym, subst, arith, ◌++◌}
 use Rattle.std.specs.Ordering.{nat_cmp}
 use Rattle.std.specs.Cmp.{nat_cmp_total}
 use Rattle.std.specs.FinMap.{entries, nat_cmp-IsAntisymmetric}
@@ -15,7 +15,7 @@ use Rattle.mpx_decode.proofs.OneRow.{raises_at, sorted_at, stops_at, value_stand
 use Rattle.mpx_decode.proofs.join_kept.raise_process.Goals as goal
 
 pub raise_one-requires-clause-spelled : goal.raise_one-requires-clause-spelled
-raise_one-requires-clause-spelled c = value_stands process acks c.args.bytes.now c.index.result.now.0 c.in-Some.after.now c.in-Some.ensures c.requires.spelled
+raise_one-requires-clause-spelled c = value_stands process acks (c.args.bytes.now ++ c.args.beyond.now) c.index.result.now.0 (c.in-Some.after.now ++ c.args.beyond.now) (c.in-Some.ensures c.args.beyond.now) c.requires.spelled
 
 pub raise_one-requires-clause-kept : goal.raise_one-requires-clause-kept
 raise_one-requires-clause-kept c =
@@ -29,7 +29,7 @@ pub returns-in_err-rest-clause-err : goal.returns-in_err-rest-clause-err
 returns-in_err-rest-clause-err c =
     let lt : c.args.next < length c.args.entries.now.items = omega arith in
     let there = same_place c.args.entries.now.items c.args.next c.index_mut.result.now c.index.result.now lt c.index_mut.ensures.value c.index.ensures in
-    on_err c.from_residual.result (stops_at nat_cmp_total nat_cmp-IsAntisymmetric view_of_acks process acks c.args.bytes.now c.index.result.now.0 c.in-Some.after.now c.in-Some.ensures c.args.entries.now.items c.requires.rising
+    on_err c.from_residual.result (stops_at nat_cmp_total nat_cmp-IsAntisymmetric view_of_acks process acks (c.args.bytes.now ++ c.args.beyond.now) c.index.result.now.0 (c.in-Some.after.now ++ c.args.beyond.now) (c.in-Some.ensures c.args.beyond.now) c.args.entries.now.items c.requires.rising
     c.args.next c.index_mut.result.now c.raise_one.new.said lt c.index_mut.ensures.value (ap (λ e. e.0) there) acks_laws acks_between_laws c.in_err-rest.ensures.err)
 
 pub returns-in_err-rest-clause-rising : goal.returns-in_err-rest-clause-rising
@@ -53,8 +53,8 @@ pub returns-in-Some-clause-ok : goal.returns-in-Some-clause-ok
 returns-in-Some-clause-ok c =
     let lt : c.args.next < length c.args.entries.now.items = omega arith in
     let there = same_place c.args.entries.now.items c.args.next c.index_mut.result.now c.index.result.now lt c.index_mut.ensures.value c.index.ensures in
-    raises_at nat_cmp_total nat_cmp-IsAntisymmetric view_of_acks process acks c.args.bytes.now c.index.result.now.0 c.in-Some.after.now c.in-Some.ensures c.args.entries.now.items c.requires.rising
-    c.args.next c.index_mut.result.now c.raise_one.new.said lt c.index_mut.ensures.value (ap (λ e. e.0) there) acks_joining c.in_ok-rest.rest.now c.in_ok-rest.ensures.ok
+    raises_at nat_cmp_total nat_cmp-IsAntisymmetric view_of_acks process acks (c.args.bytes.now ++ c.args.beyond.now) c.index.result.now.0 (c.in-Some.after.now ++ c.args.beyond.now) (c.in-Some.ensures c.args.beyond.now) c.args.entries.now.items c.requires.rising
+    c.args.next c.index_mut.result.now c.raise_one.new.said lt c.index_mut.ensures.value (ap (λ e. e.0) there) acks_joining (c.in_ok-rest.rest.now ++ c.raise_one.new.beyond) c.in_ok-rest.ensures.ok
 
 pub returns-in-Some-clause-rising : goal.returns-in-Some-clause-rising
 returns-in-Some-clause-rising c =

@@ -1,17 +1,15 @@
 use Rattle.std.proofs.Common.{◌≡◌, ◌∙◌, List, ℕ, OnErr, OnOk, subst, sym}
 use Rattle.mpx_board.specs.Boards.{IsBetween, join}
 use Rattle.mpx_board.specs.Contexts.{look_of}
-use Rattle.mpx_board.specs.Looks.{look, parts_of}
+use Rattle.mpx_board.specs.Looks.{look}
 use Rattle.mpx_board.specs.Parts.{PartsView}
 use Rattle.mpx_format.specs.Decoding.{IsSpelled}
-use Rattle.mpx_wire.proofs.Taking.{left_alone, many_tell}
+use Rattle.mpx_decode.proofs.Taken.{if_err}
+use Rattle.mpx_wire.proofs.Taking.{between_again, if_done, many_tell}
 use Rattle.mpx_wire.proofs.decoding.take_rope.Goals as goal
 
 pub take_from-requires-clause-spelled : goal.take_from-requires-clause-spelled
 take_from-requires-clause-spelled c = subst (λ (bytes : List ℕ). (v : PartsView) × IsSpelled bytes v) (sym c.in-Some.ensures.some) c.requires.spelled
-
-pub take_from-requires-in-Ok-clause-spelled : goal.take_from-requires-in-Ok-clause-spelled
-take_from-requires-in-Ok-clause-spelled c = subst (λ (bytes : List ℕ). (v : PartsView) × IsSpelled bytes v) (sym (c.deref.ensures.value ∙ c.in-Ok.ensures)) c.requires.spelled
 
 pub returns-in-Some-clause-ok : goal.returns-in-Some-clause-ok
 returns-in-Some-clause-ok c =
@@ -21,16 +19,13 @@ pub returns-in-Some-clause-err : goal.returns-in-Some-clause-err
 returns-in-Some-clause-err c =
     subst (λ (bytes : List ℕ). OnErr c.take_from.result ((v : PartsView) → IsSpelled bytes v → IsBetween (look c.args.board.now) (look_of v) (look c.take_from.new.board))) c.in-Some.ensures.some c.take_from.ensures.err
 
+-- what was joined in part is joined with the rest
+pub returns-in-Err-clause-ok : goal.returns-in-Err-clause-ok
+returns-in-Err-clause-ok c = if_done c.take_joined.result (λ joined v spelled. joined v spelled ∙ c.in-Err.ensures.again v spelled) c.take_joined.ensures.ok
+
 pub returns-in-Err-clause-err : goal.returns-in-Err-clause-err
-returns-in-Err-clause-err c = λ v spelled. left_alone (parts_of c.args.board.now) v
+returns-in-Err-clause-err c =
+    if_err c.take_joined.result (λ left v spelled. between_again (look c.args.board.now) (look_of v) (look c.take_where_it_lies.new.board) (look c.take_joined.new.board) (c.in-Err.ensures.again v spelled) (c.in-Err.ensures.err v spelled) (left v spelled)) c.take_joined.ensures.err
 
 pub returns-in-Err-clause-some : goal.returns-in-Err-clause-some
-returns-in-Err-clause-some c = many_tell c.args.rope.now c.in-None.ensures.none
-
-pub returns-in-Ok-clause-ok : goal.returns-in-Ok-clause-ok
-returns-in-Ok-clause-ok c =
-    subst (λ (bytes : List ℕ). OnOk c.take_from-in-Ok.result ((v : PartsView) → IsSpelled bytes v → look c.take_from-in-Ok.new.board ≡ join (look c.args.board.now) (look_of v))) (c.deref.ensures.value ∙ c.in-Ok.ensures) c.take_from-in-Ok.ensures.ok
-
-pub returns-in-Ok-clause-err : goal.returns-in-Ok-clause-err
-returns-in-Ok-clause-err c =
-    subst (λ (bytes : List ℕ). OnErr c.take_from-in-Ok.result ((v : PartsView) → IsSpelled bytes v → IsBetween (look c.args.board.now) (look_of v) (look c.take_from-in-Ok.new.board))) (c.deref.ensures.value ∙ c.in-Ok.ensures) c.take_from-in-Ok.ensures.err
+returns-in-Err-clause-some c = if_err c.take_joined.result (λ left v spelled. many_tell c.args.rope.now c.in-None.ensures.none v spelled) c.take_joined.ensures.err
