@@ -94,8 +94,8 @@ fn gathered<H: Host>(
 
 fn main(rt: HostRuntime) -> Result<ExitCode, RanksError> {
     let ops = Ops::none(rt.alloc());
-    let ran = ranks(&rt, rt.alloc(), 4, 0, &FirstSum, &ops)?;
-    for (rank, answer) in ran.answers.iter().enumerate() {
+    let answers = ranks(&rt, rt.alloc(), 4, 0, &FirstSum, &ops)?.into_answers();
+    for (rank, answer) in answers.iter().enumerate() {
         match answer {
             Ok(text) => {
                 let _printed = println!(rt; "rank {rank}: {text}");

@@ -14,5 +14,5 @@ mod steps;
 mod trace;
 
 pub use frame::Frame;
-pub use port::{Bus, Met, Pop, Port, Push};
+pub use port::{Bus, Met, Pop, Port, Push, drop_ports};
 pub use rule::Named;

@@ -65,6 +65,11 @@ impl Model for Port {
         × MayPushAll p.pass.me.0.client.setup (seat_of p.pass.me.0.client).me p.line.me.0.client p.kept.items };
 }
 
+/// Drops ports, as `drop_nodes` of `mpx_node` does nodes: so the caller's crate doesn't prove how.
+pub fn drop_ports(ports: Vec<Port>) {
+    drop(ports);
+}
+
 /// What a push came to.
 #[derive(Drop)]
 pub enum Push {

@@ -1,155 +1,29 @@
 //! What is said of contexts joined as its bytes are read.
 ghost use Rattle.std.specs.Prelude.{◌≡◌, ◌≢◌, ◌++◌, ℕ, IfOk, List, Ok, OnErr, ◌≤◌, length};
 ghost use Rattle.std.specs.Ordering.{nat_cmp};
-ghost use Rattle.join_core.specs.laws.Between.{old_or_joined-laws};
-ghost use Rattle.join_core.specs.Flat.{FlatView, flat_joining};
-ghost use Rattle.join_core.specs.laws.Flat.{flat_laws};
-ghost use Rattle.join_core.specs.FlatSeen.{flat_view};
-ghost use Rattle.join_core.specs.Joins.{old_or_joined};
 ghost use Rattle.join_core.specs.Pair.{pair_between, pair_joining};
 ghost use Rattle.join_nest.specs.Between.{keyed_between, trunc_between};
 ghost use Rattle.join_nest.specs.Keyed.{keyed_joining};
 ghost use Rattle.join_nest.specs.Lift.{dead};
 ghost use Rattle.join_nest.specs.Trunc.{trunc_joining};
-ghost use Rattle.mpx_birth.specs.Births.{same_birth};
-ghost use Rattle.mpx_post.specs.Equality.{given_equality, same_given};
-ghost use Rattle.mpx_post.specs.Posts.{Given};
-ghost use Rattle.mpx_board.specs.Parts.{CallView, LiftedView, call_between, call_between_laws, call_joining, call_laws, entry_between, entry_joining, lifted_between, lifted_between_laws, lifted_joining, lifted_laws, numbers_between, numbers_joining};
-ghost use Rattle.mpx_board.specs.Views.{view_of_call, view_of_calls, view_of_entries, view_of_entry, view_of_lifted, view_of_numbers};
-ghost use Rattle.mpx_format.specs.Births.{birth as birth_format};
-ghost use Rattle.mpx_format.specs.Contexts.{call_posts, context, held as held_format, lift_form, lifted, posted, progress, told as told_format};
+ghost use Rattle.mpx_board.specs.Parts.{LiftedView, call_between, call_joining, entry_between, entry_joining, lifted_between, lifted_between_laws, lifted_joining, lifted_laws, numbers_between, numbers_joining};
+ghost use Rattle.mpx_board.specs.Views.{view_of_calls, view_of_entries, view_of_entry, view_of_lifted, view_of_numbers};
+ghost use Rattle.mpx_format.specs.Contexts.{call_posts, context, held as held_format, lift_form, lifted, progress};
 ghost use Rattle.mpx_format.specs.Fields.{call as call_format, fronts as fronts_format, name_count};
 ghost use Rattle.mpx_decode.specs.Raising.{JoinsFront, PutsCall, RaisesCall, RaisesCalls, StandsInFront, StopsBetween, StopsCall, StopsCalls, contexts as contexts_format, row, rows};
 
 use crate::big_endian::{read_u8, read_u32};
 use crate::contexts::read_live;
 use crate::entries::WireValue;
-use crate::fields::{read_call, read_name_count, read_some_byte};
-use crate::front_posts::behind_told;
+use crate::fields::{read_call, read_name_count};
 use crate::join_births::raise_birth;
-use crate::join_rows::{WireJoin, raise_entries, raise_map};
-use crate::posts::read_post;
-use join_core::{Flat, Join, OutOfMemory, Pair};
+use crate::join_rows::{WireJoin, raise_map};
+use join_core::{OutOfMemory, Pair};
 use join_nest::{Keyed, Lift, Trunc};
-use mpx_birth::Birth;
 use mpx_board::{CallPosts, Entry, Lifted, VersionVector};
 use mpx_format::{ReadError, Version};
-use mpx_group::Proc;
 use mpx_name::Name;
-use mpx_post::Post;
 use mpx_rope::Beyond;
-
-impl WireJoin for Flat<Post> {
-    ghost View = { FlatView Given };
-
-    ghost view = { flat_view (λ p. p) };
-
-    ghost joining = { flat_joining same_given };
-
-    ghost between = { old_or_joined (flat_joining same_given) };
-
-    ghost wire = { posted };
-
-    fn read_new<'a>(
-        version: Version,
-        beyond: &mut Beyond<'a>,
-        bytes: &'a [u8],
-    ) -> Result<(Flat<Post>, &'a [u8]), ReadError> {
-        if let Ok((form, rest)) = read_u8(bytes) {
-            if form == 1 {
-                return match read_post(version, beyond, rest) {
-                    Err(e) => Err(e),
-                    Ok((post, rest)) => Ok((Flat::Known(post), rest)),
-                };
-            }
-        }
-        <Flat<Post> as WireValue>::read(version, beyond.source(), bytes)
-    }
-
-    fn raise<'a>(
-        &mut self,
-        version: Version,
-        beyond: &mut Beyond<'a>,
-        bytes: &'a [u8],
-    ) -> Result<&'a [u8], OutOfMemory> {
-        match behind_told(version, self, beyond, bytes) {
-            Some(rest) => Ok(rest),
-            None => match <Flat<Post> as WireJoin>::read_new(version, beyond, bytes) {
-                Err(_) => Err(OutOfMemory),
-                Ok((told, rest)) => {
-                    self.join_in(beyond.alloc(), &told)?;
-                    Ok(rest)
-                }
-            },
-        }
-    }
-
-    ghost laws = { flat_laws given_equality };
-
-    ghost between_laws = { old_or_joined-laws (flat_laws given_equality) };
-}
-
-impl WireJoin for CallPosts {
-    ghost View = { CallView };
-
-    ghost view = { view_of_call };
-
-    ghost joining = { call_joining };
-
-    ghost between = { call_between };
-
-    ghost wire = { call_posts };
-
-    fn read_new<'a>(
-        version: Version,
-        beyond: &mut Beyond<'a>,
-        bytes: &'a [u8],
-    ) -> Result<(CallPosts, &'a [u8]), ReadError> {
-        if beyond.has_items() {
-            return read_beside(version, beyond, bytes);
-        }
-        <CallPosts as WireValue>::read(version, beyond.source(), bytes)
-    }
-
-    fn raise<'a>(
-        &mut self,
-        version: Version,
-        beyond: &mut Beyond<'a>,
-        bytes: &'a [u8],
-    ) -> Result<&'a [u8], OutOfMemory> {
-        match read_some_byte(bytes) {
-            Err(_) => Err(OutOfMemory),
-            Ok((count, rest)) => raise_map(version, beyond, self, count as usize, rest),
-        }
-    }
-
-    ghost laws = { call_laws };
-
-    ghost between_laws = { call_between_laws };
-}
-
-// The posts of a call, of which some may have their items beyond: they are joined to none.
-#[inline(never)]
-fn read_beside<'a>(
-    version: Version,
-    beyond: &mut Beyond<'a>,
-    bytes: &'a [u8],
-) -> Result<(CallPosts, &'a [u8]), ReadError>
-    requires { StandsInFront (call_posts version) (bytes.now ++ beyond.old) }
-    ensures read { IfOk result (λ x. (call_posts version).read (bytes.now ++ beyond.old) ≡ Ok (view_of_call x.0, x.1.now ++ beyond.new)) }
-    ensures less { length beyond.new ≤ length beyond.old }
-{
-    match read_some_byte(bytes) {
-        Err(e) => Err(e),
-        Ok((count, rest)) => {
-            let mut entries: Vec<(Proc, Flat<Post>)> = Vec::new(beyond.alloc());
-            match raise_entries(version, beyond, &mut entries, count as usize, rest) {
-                Err(_) => Err(ReadError::OutOfMemory),
-                Ok(rest) => Ok((Keyed::from_rising(entries), rest)),
-            }
-        }
-    }
-}
 
 // HELD CALLS
 

@@ -19,6 +19,7 @@ mod join_births;
 mod join_contexts;
 mod join_kept;
 mod join_numbers;
+mod join_posts;
 mod join_rows;
 mod lists;
 mod making;

@@ -19,5 +19,5 @@ mod taking;
 
 pub use finished::Finished;
 pub use laws::newest_results_stay;
-pub use node::{Harvest, Node};
+pub use node::{Harvest, Node, drop_nodes};
 pub use part::PartError;

@@ -46,6 +46,11 @@ pub enum Harvest {
     NotOpened,
 }
 
+/// Drops nodes. A crate that drops one by itself proves once more how each of its parts is dropped; one that calls this doesn't.
+pub fn drop_nodes(nodes: Vec<Node>) {
+    drop(nodes);
+}
+
 impl Node {
     ghost use Rattle.mpx_node.specs.Nodes.{Opens, Posts, add_result, NodeView, start_node, checked_on, children_on, gathering_name, gathers_on, next_result, open_gathering_node, posted_on, result_on, front_on, freed_on};
     ghost use Rattle.mpx_node.specs.Shown.{node_of};

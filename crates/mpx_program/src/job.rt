@@ -129,6 +129,7 @@ fn answer<W: Write, E: Write>(
             let Printed { text, end, left } = printed;
             let answer = write_printed(text.as_bytes(), end, out);
             let told = explained(alloc, call, prepared, &answer, &left);
+            left.let_go();
             let explains = call.flags.explain;
             exit_of(&answer, prepared.complains, explains, more_of(&told), err)
         }

@@ -15,7 +15,7 @@ use crate::work::{Work, Worked};
 use join_core::OutOfMemory;
 use mpx_at_once::{AtOnceError, all_at_once};
 use mpx_bus::{Bus, Named, Port};
-use mpx_node::Node;
+use mpx_node::{Node, drop_nodes};
 use mpx_num::{Listing, Ops};
 use std::alloc::Global;
 use std::marker::Brand;
@@ -34,6 +34,17 @@ pub struct Ran<A> {
     pub answers: Vec<A>,
     /// The node of each process in the end: first those of the ranks, then the relays'. Who wants to ask further asks them.
     pub nodes: Vec<Node>,
+}
+
+impl<A: Drop> Ran<A> {
+    /// The answers alone. The nodes are dropped here, so that the caller's crate doesn't prove how.
+    pub fn into_answers(self) -> Vec<A>
+        ensures { result.items ≡ self.answers.items }
+    {
+        let Ran { answers, nodes } = self;
+        drop_nodes(nodes);
+        answers
+    }
 }
 
 /// Why a job came to nothing.

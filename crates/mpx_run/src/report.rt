@@ -10,10 +10,10 @@ ghost use Rattle.mpx_run.specs.Reports.{EndsSo, IsBy, IsEvaluatedText, lines_at}
 use crate::end::{Cause, End};
 use crate::follows::Follows;
 use join_core::OutOfMemory;
-use mpx_bus::Port;
+use mpx_bus::{Port, drop_ports};
 use mpx_eval::eval;
 use mpx_meaning::Report;
-use mpx_node::Node;
+use mpx_node::{Node, drop_nodes};
 use mpx_num::{Listing, Ops};
 use mpx_script::Script;
 use mpx_sim::{Observer, run_sim_observed};
@@ -51,6 +51,18 @@ impl Left {
             nodes: Vec::new(alloc),
             ports: Vec::new(alloc),
         }
+    }
+
+    /// Drops it. A crate that does so by itself proves once more how a node is dropped.
+    pub fn let_go(self) {
+        let Left {
+            transcripts,
+            nodes,
+            ports,
+        } = self;
+        drop(transcripts);
+        drop_nodes(nodes);
+        drop_ports(ports);
     }
 }
 
@@ -157,17 +169,23 @@ fn print_report(
     ensures nodes { IfOk result (λ printed. printed.left.nodes.items ≡ nodes.items) }
     ensures ports { IfOk result (λ printed. printed.left.ports.items ≡ ports.items) }
 {
-    let text = text_of(alloc, &report, ranks)?;
-    let end = end_of(report.waiting, cause);
-    Ok(Printed {
-        text,
-        end,
-        left: Left {
-            transcripts: report.transcripts,
-            nodes,
-            ports,
-        },
-    })
+    match text_of(alloc, &report, ranks) {
+        Ok(text) => {
+            let end = end_of(report.waiting, cause);
+            let transcripts = report.transcripts;
+            let left = Left {
+                transcripts,
+                nodes,
+                ports,
+            };
+            Ok(Printed { text, end, left })
+        }
+        Err(OutOfMemory) => {
+            drop_nodes(nodes);
+            drop_ports(ports);
+            Err(OutOfMemory)
+        }
+    }
 }
 
 // The lines of all ranks.

@@ -160,8 +160,9 @@ fn run_bytes<T: Threads + Wait + Sync, W: Write, G: Gate + Sync>(
         Ok(printed) => printed,
         Err(error) => return Err(error),
     };
-    let (out, end) = (printed.text, printed.end);
-    write_printed(out.as_bytes(), end, writer)
+    let Printed { text, end, left } = printed;
+    left.let_go();
+    write_printed(text.as_bytes(), end, writer)
 }
 
 /// Writes what a job comes to, and answers its end. The error is `Write`; a beginning of the text may then be out.

@@ -50,9 +50,8 @@ fn print_job<P, R: Threads + Wait + Sync, W: Write>(
 where
     P: Program<Answer = Result<String, Why>> + Sync,
 {
-    let ran = ranks(rt, alloc, count, 0, program, ops)?;
-    drop(ran.nodes);
-    print_answers(out, name, ran.answers)
+    let answers = ranks(rt, alloc, count, 0, program, ops)?.into_answers();
+    print_answers(out, name, answers)
 }
 
 fn print_answers<W: Write>(

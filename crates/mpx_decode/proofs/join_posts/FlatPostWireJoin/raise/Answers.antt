@@ -9,7 +9,7 @@ use Rattle.mpx_post.specs.Equality.{given_equality, same_given}
 use Rattle.mpx_format.specs.Contexts.{posted}
 use Rattle.mpx_decode.specs.Raising.{StandsInFront}
 use Rattle.mpx_decode.proofs.Taken.{read_joined, read_stops, same_joined, stops_at_once}
-use Rattle.mpx_decode.proofs.join_contexts.FlatPostWireJoin.raise.Goals as goal
+use Rattle.mpx_decode.proofs.join_posts.FlatPostWireJoin.raise.Goals as goal
 
 pub returns-in-Some-clause-ok : goal.returns-in-Some-clause-ok
 returns-in-Some-clause-ok c = same_joined (posted c.args.version) (c.args.bytes.now ++ c.args.beyond.now) (c.in-Some.rest.now ++ c.behind_told.new.beyond) (flat_view (λ p. p) c.args.self.now) c.in-Some.ensures.some (flat_laws given_equality)

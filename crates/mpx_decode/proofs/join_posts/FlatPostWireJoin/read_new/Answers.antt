@@ -4,7 +4,7 @@ use Rattle.mpx_format.proofs.ContextLaws.{posted_laws}
 use Rattle.mpx_format.proofs.FormatLaws.{byte_laws}
 use Rattle.mpx_decode.proofs.FrontPosts.{told_behind}
 use Rattle.mpx_decode.proofs.NearBytes.{gives_then, read_on}
-use Rattle.mpx_decode.proofs.join_contexts.FlatPostWireJoin.read_new.Goals as goal
+use Rattle.mpx_decode.proofs.join_posts.FlatPostWireJoin.read_new.Goals as goal
 
 pub returns-in-Ok-read_post-clause-read : goal.returns-in-Ok-read_post-clause-read
 returns-in-Ok-read_post-clause-read c =

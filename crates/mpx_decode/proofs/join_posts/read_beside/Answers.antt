@@ -13,7 +13,7 @@ use Rattle.mpx_decode.proofs.FirstPosts.{read_whole}
 use Rattle.mpx_decode.proofs.NearBytes.{read_on}
 use Rattle.mpx_decode.proofs.NoParts.{map_none}
 use Rattle.mpx_decode.proofs.Taken.{map_raised, rows_stand}
-use Rattle.mpx_decode.proofs.join_contexts.read_beside.Goals as goal
+use Rattle.mpx_decode.proofs.join_posts.read_beside.Goals as goal
 
 pub raise_entries-requires-clause-spelled : goal.raise_entries-requires-clause-spelled
 unfolding call_posts

@@ -10,7 +10,7 @@ use Rattle.mpx_format.specs.Fields.{process, some_byte}
 use Rattle.mpx_format.proofs.FieldLaws.{some_byte_laws}
 use Rattle.mpx_decode.proofs.Taken.{map_raised, map_stops, rows_stand, stops_at_once}
 use Rattle.mpx_decode.proofs.NearBytes.{read_on}
-use Rattle.mpx_decode.proofs.join_contexts.CallPostsWireJoin.raise.Goals as goal
+use Rattle.mpx_decode.proofs.join_posts.CallPostsWireJoin.raise.Goals as goal
 
 pub raise_map-requires-clause-follows : goal.raise_map-requires-clause-follows
 raise_map-requires-clause-follows c = (λ v. v, λ x. refl)
