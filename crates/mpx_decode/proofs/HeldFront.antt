@@ -86,15 +86,6 @@ front_stands version bytes (errors.Defect d) fails other s =
     absurd cc
 
 module _ (version : Version) (bytes after : List ℕ) (d : ℕ) (first : (number w32).read bytes ≡ Ok (d, after)) where
-  -- and the second
-  pub count_stands_behind : (e : ReadError) → Fails e ((number w32).read after) → e ≢ errors.OutOfMemory → StandsInFront (held version) bytes → ⊥
-  unfolding held calls
-  count_stands_behind errors.OutOfMemory fails other s = other refl
-  count_stands_behind (errors.Defect x) fails other s =
-      let none : (held version).read bytes ≡ Err x = rw (first, fails) refl in
-      let clash : Err x ≡ Ok s.0 = sym none ∙ s.1 in
-      absurd cc
-
   module _ (behind : List ℕ) (n : ℕ) (second : (number w32).read after ≡ Ok (n, behind)) where
     abbrev each : List (ℕ × CallView) → Format (ℕ × CallView)
     each = entry nat_cmp (Some d) call (call_posts version) always

@@ -3,12 +3,10 @@ use Rattle.std.proofs.Common.{◌≡◌, ◌≢◌, ℕ, zero, suc, true, cond, 
 use Rattle.join_core.specs.Joins.{Joining, BetweenLaws}
 use Rattle.join_core.specs.Pair.{pair_between, pair_joining}
 use Rattle.join_nest.specs.Lift.{LiftView, dead, lift_between, lift_joining, live}
-use Rattle.mpx_format.specs.declared.defects.ReadError.{ReadError}
-use Rattle.mpx_format.specs.declared.defects.ReadError.TheVariants as errors
 use Rattle.mpx_format.specs.declared.versions.Version.{Version}
 use Rattle.mpx_format.specs.declared.versions.Version.TheVariants.{One, Two}
 use Rattle.mpx_format.specs.Contexts.{code_of_lift, context, lift_form, lifted}
-use Rattle.mpx_format.specs.Format.{Format, Fails, ◌>>=◌, both, byte, only, out_of_limits, tagged}
+use Rattle.mpx_format.specs.Format.{Format, ◌>>=◌, both, byte, only, out_of_limits, tagged}
 use Rattle.mpx_format.proofs.FormatLaws.{bind_ok, guard_ok, ok_is}
 use Rattle.mpx_decode.specs.Raising.{JoinsFront, StandsInFront, StopsBetween}
 use Rattle.mpx_decode.proofs.OneRow.{row_read, value_stands}
@@ -72,13 +70,6 @@ dead_stays j dead = refl
 module _ {V : Type 0} (f : Format V) (tag : LiftView V → ℕ) (bytes : List ℕ) where
   abbrev either_form : Format (LiftView V)
   either_form = tagged (λ t. nat_lt t 2) tag (lift_form f)
-
-  pub form_stands : (e : ReadError) → Fails e (byte.read bytes) → e ≢ errors.OutOfMemory → StandsInFront either_form bytes → ⊥
-  form_stands errors.OutOfMemory fails other s = other refl
-  form_stands (errors.Defect d) fails other s =
-      let none : either_form.read bytes ≡ Err d = rw fails refl in
-      let clash : Err d ≡ Ok s.0 = sym none ∙ s.1 in
-      absurd cc
 
   module _ (t : ℕ) (after : List ℕ) (is : byte.read bytes ≡ Ok (t, after)) where
     abbrev form : Format ℕ

@@ -1,5 +1,5 @@
 -- The parts of a board joined as they are read: the contexts, and then the acknowledgements.
-use Rattle.std.proofs.Common.{◌≡◌, ◌≢◌, ◌<◌, ℕ, nat_lt, arith, true, List, [], map, None, Result, Ok, Err, IfOk, OnErr, refl, sym, ap, ◌∙◌, subst}
+use Rattle.std.proofs.Common.{◌≡◌, ◌<◌, ℕ, nat_lt, arith, true, List, [], map, None, Result, Ok, Err, IfOk, OnErr, refl, sym, ap, ◌∙◌, subst}
 use Rattle.std.proofs.lemmas.Bool.Decides.{nat_tests}
 use Rattle.std.proofs.lemmas.Simd.{map-map}
 use Rattle.std.specs.Ordering.{nat_cmp}
@@ -15,10 +15,8 @@ use Rattle.mpx_board.specs.Tidy.{is_tidy}
 use Rattle.mpx_board.proofs.Left.{tidy_left}
 use Rattle.mpx_board.proofs.Tidiness.{tidy_join}
 use Rattle.mpx_format.specs.declared.defects.Defect.{Defect}
-use Rattle.mpx_format.specs.declared.defects.ReadError.{ReadError}
-use Rattle.mpx_format.specs.declared.defects.ReadError.TheVariants as errors
 use Rattle.mpx_format.specs.Fields.{fronts, numbers, process, some_byte, some_calls}
-use Rattle.mpx_format.specs.Format.{Format, Fails, ◌>>=◌, byte, many_read}
+use Rattle.mpx_format.specs.Format.{Format, ◌>>=◌, byte, many_read}
 use Rattle.mpx_format.specs.Rising.{always, entry, keyed}
 use Rattle.mpx_format.proofs.FormatLaws.{ok_is}
 use Rattle.mpx_decode.specs.Raising.{JoinsFront, StandsInFront, StandsTidy, StopsBetween, rows}
@@ -46,15 +44,6 @@ module _ {K J V W : Type 0} (R : K → K → Ordering) (view : J → V) (other :
       ap (λ (es : List (K × W)). from_sorted {R = R} es) (seen_by_other a ∙ ap (map (λ (e : K × V). (e.0, of e.1))) same ∙ sym (seen_by_other b))
 
 -- A MAP BEHIND ITS COUNT
-
--- where a map stands, its count is read
-module _ {K V : Type 0} (R : K → K → Ordering) (count : Format ℕ) (key : Format K) (value : Format V) (bytes : List ℕ) where
-  pub count_stands : (e : ReadError) → Fails e (count.read bytes) → e ≢ errors.OutOfMemory → StandsInFront (keyed R count key value always) bytes → ⊥
-  count_stands errors.OutOfMemory fails other s = other refl
-  count_stands (errors.Defect d) fails other s =
-      let none : (keyed R count key value always).read bytes ≡ Err d = rw fails refl in
-      let clash : Err d ≡ Ok s.0 = sym none ∙ s.1 in
-      absurd cc
 
 module _ {K V : Type 0} (R : K → K → Ordering) (count : Format ℕ) (key : Format K) (value : Format V) (bytes : List ℕ) (n : ℕ) (after : List ℕ) (is : count.read bytes ≡ Ok (n, after)) where
   abbrev entries_then : Result (List (K × V) × List ℕ) Defect → Result (FinMap R V × List ℕ) Defect
