@@ -1,5 +1,5 @@
 -- What is under way behind a turn.
-use Rattle.std.proofs.Common.{◌≡◌, ◌+◌, ◌^◌, ◌<◌, ◌≤◌, ℕ, zero, suc, Bool, true, false, get_or, take, drop, cond, List, [], ◌∷◌, ◌++◌, length, map, set, Option, Some, None, refl, inl, inr, sym, ap, ◌∙◌, subst, arith}
+use Rattle.std.proofs.Common.{◌≡◌, ◌+◌, ◌<◌, ◌≤◌, ℕ, zero, suc, Bool, true, false, get_or, take, cond, List, [], ◌∷◌, ◌++◌, length, map, set, Option, Some, None, refl, inl, inr, sym, ap, ◌∙◌, subst, arith}
 use Rattle.std.specs.Prelude.{All, nat_eq, nat_lt, slice_get, ◌&&◌, if◌then◌else◌}
 use Rattle.std.specs.List.{filter, remove}
 use Rattle.std.proofs.lemmas.Bool.Decides.{eqb_tells, nat_tests}
@@ -7,24 +7,10 @@ use Rattle.std.proofs.lemmas.List.Elements.{All-filter, All-nil, All-cons, All-h
 use Rattle.std.proofs.lemmas.Option.{same_Some, slice_get-get_or}
 use Rattle.mpx_board.specs.Boards.{Look}
 use Rattle.mpx_sim.specs.declared.frame_under_way.FrameUnderWay.{FrameUnderWay}
-use Rattle.mpx_sim.specs.Draws.{ScheduleView, draw, drawn, drawn_again, powers_below}
+use Rattle.mpx_sim.specs.Draws.{ScheduleView, draw, drawn, drawn_again}
 use Rattle.mpx_sim.specs.Turns.{FrameView, IsUnder, all_put_off, asked, put_off, those_left}
 use Rattle.mpx_sim.specs.Shown.{frame_of}
 use Rattle.mpx_sim.specs.SideBySide.{left_from}
-
--- HOW MANY SHIFTS
-
-pub powers_more : (k m limit : ℕ) → m ≡ k + 1 → 2 ^ k < limit → powers_below m limit ≡ suc (powers_below k limit)
-powers_more k m limit e below =
-    let next : m ≡ suc k = omega (arith, e) in
-    let is : nat_lt (2 ^ k) limit ≡ true = grind (arith, nat_tests, below) in
-    ap (λ n. powers_below n limit) next ∙ ap (λ b. if b then suc (powers_below k limit) else powers_below k limit) is
-
-pub powers_same : (k m limit : ℕ) → m ≡ k + 1 → limit ≤ 2 ^ k → powers_below m limit ≡ powers_below k limit
-powers_same k m limit e over =
-    let next : m ≡ suc k = omega (arith, e) in
-    let not : nat_lt (2 ^ k) limit ≡ false = grind (arith, nat_tests, over) in
-    ap (λ n. powers_below n limit) next ∙ ap (λ b. if b then suc (powers_below k limit) else powers_below k limit) not
 
 -- WHETHER A FRAME COMES AGAIN
 
@@ -146,9 +132,3 @@ some_again n k more r is at =
       | inl comes ↦ (comes.1, same_Some more k (sym at ∙ is ∙ ap (λ b. if b then Some k else None) comes.0))
       | inr gone ↦ let never : Some more ≡ None = sym at ∙ is ∙ ap (λ b. if b then Some k else None) gone.0 in cc never
     ]
-
-pub none_again : (n k : ℕ) (r : Option ℕ) → r ≡ (if nat_eq n 0 then Some k else None) → r ≡ None → n ≡ 0 → ⊥
-none_again n k r is at none =
-    let same : nat_eq n 0 ≡ true = grind (arith, nat_tests, none) in
-    let never : None ≡ Some k = sym at ∙ is ∙ ap (λ b. if b then Some k else None) same in
-    cc never

@@ -9,7 +9,7 @@ use Rattle.std.proofs.lemmas.Option.{slice_get-get_or, slice_get_within, same_So
 use Rattle.mpx_num.specs.declared.own.Operation.{Operation}
 use Rattle.mpx_name.specs.Name.{Name}
 use Rattle.mpx_board.specs.declared.errors.PruneError.{PruneError}
-use Rattle.mpx_board.specs.Boards.{IsBoardBelow, Look, Numbers}
+use Rattle.mpx_board.specs.Boards.{IsBoardBelow, Numbers}
 use Rattle.mpx_board.specs.Changes.{pruned_on}
 use Rattle.mpx_delta.specs.Digests.{HasUpTo}
 use Rattle.mpx_node.specs.declared.finished.Finished.{Finished}
@@ -42,13 +42,6 @@ all_at P xs i x e h = subst P (read_at xs i x x e) (h i x (slice_get_within xs i
 
 pub all_more : {A : Type 0} (P Q : A → Type 0) → ((x : A) → P x → Q x) → (xs : List A) → All P xs → All Q xs
 all_more P Q f xs h k d l = f (get_or xs k d) (h k d l)
-
--- parts among others
-pub among_itself : (parts : List Look) → All (IsAmong parts) parts
-among_itself parts k d l = (k, slice_get-get_or parts k d l)
-
-pub among_then : (a b c : List Look) → All (IsAmong a) b → All (IsAmong b) c → All (IsAmong a) c
-among_then a b c h k = all_more (IsAmong b) (IsAmong a) (λ x is. all_at (IsAmong a) b is.0 x is.1 h) c k
 
 -- ONE DOING
 

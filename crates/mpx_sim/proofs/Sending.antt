@@ -1,11 +1,9 @@
 -- Frames, and the board whose bytes they are.
 use Rattle.std.proofs.Common.{◌≡◌, ◌+◌, ◌<◌, ◌≤◌, ℕ, zero, suc, Bool, true, false, get_or, take, drop, List, [], ◌∷◌, ◌++◌, length, map, set, Some, refl, sym, ap, ◌∙◌, inl, subst, arith}
 use Rattle.std.specs.Prelude.{All, nat_eq, nat_lt, slice_get, if◌then◌else◌}
-use Rattle.std.specs.List.{remove}
-use Rattle.std.specs.Option.{option_map}
 use Rattle.std.proofs.lemmas.Bool.Decides.{nat_tests}
 use Rattle.std.proofs.lemmas.List.{append-nil, append_assoc}
-use Rattle.std.proofs.lemmas.Option.{get_or_from_slice_get, same_Some, slice_get-get_or, slice_get-map, slice_get_within}
+use Rattle.std.proofs.lemmas.Option.{get_or_from_slice_get, slice_get_within}
 use Rattle.std.proofs.lemmas.List.Elements.{All-append, All-nil, All-cons, All-head, All-push, All-tail, All-map}
 use Rattle.rand_pcg.specs.Lcg.{Lcg}
 use Rattle.mpx_num.specs.declared.own.Operation.{Operation}
@@ -25,11 +23,11 @@ use Rattle.mpx_world.proofs.Reached.{own_seen}
 use Rattle.mpx_meaning.specs.Evaluation.{Script}
 use Rattle.mpx_system.specs.Systems.{Doing, Leads, MayDo, Nets, System, does, does_all, start_system}
 use Rattle.mpx_system.proofs.Leading.{coupled, leads_on}
-use Rattle.mpx_system.proofs.Results.{mapped_at, some_at}
+use Rattle.mpx_system.proofs.Results.{some_at}
 use Rattle.mpx_sim.specs.declared.frame_under_way.FrameUnderWay.{FrameUnderWay}
 use Rattle.mpx_sim.specs.declared.schedule.Schedule.{Schedule}
 use Rattle.mpx_sim.specs.Draws.{ScheduleView, draw, drawn, drawn_again, drawn_once, drawn_times}
-use Rattle.mpx_sim.specs.Turns.{Coming, FrameView, IsListOf, IsUnder, Moment, Saying, a_list, asked, drawn_again_for, drawn_for, joined, no_list, one_a_turn, sends_each, those_out}
+use Rattle.mpx_sim.specs.Turns.{Coming, FrameView, IsListOf, Moment, Saying, a_list, asked, drawn_again_for, drawn_for, joined, no_list, one_a_turn, sends_each, those_out}
 use Rattle.mpx_sim.specs.Running.{IsAmong, IsAt, IsUnderWay, ProcessView}
 use Rattle.mpx_sim.specs.Shown.{frame_of, part_of, schedule_of, shown}
 use Rattle.mpx_sim.proofs.Phases.{comes_now}

@@ -1,4 +1,4 @@
-use Rattle.std.proofs.Common.{◌≡◌, ◌∙◌, ◌+◌, ap, arith, refl, suc, sym}
+use Rattle.std.proofs.Common.{◌∙◌, ap, arith, refl, suc, sym}
 use Rattle.mpx_sim.specs.Draws.{draw, drawn}
 use Rattle.mpx_sim.specs.Shown.{frame_of, part_of, schedule_of}
 use Rattle.mpx_sim.specs.Turns.{FrameView}

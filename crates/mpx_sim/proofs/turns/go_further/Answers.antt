@@ -1,4 +1,4 @@
-use Rattle.std.proofs.Common.{◌≡◌, ◌<◌, ◌∙◌, zero, ap, inr, map, refl, sym, subst, arith}
+use Rattle.std.proofs.Common.{◌≡◌, ◌∙◌, zero, ap, inr, map, refl, sym, subst, arith}
 use Rattle.mpx_sim.specs.Shown.{frames_of, process_of, schedule_of}
 use Rattle.mpx_sim.specs.SideBySide.{all_taken}
 use Rattle.mpx_sim.specs.Running.{HaveCome}
