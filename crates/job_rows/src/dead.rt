@@ -61,7 +61,7 @@ fn push_run<T: Threads + Sync>(
         return writeln!(text, "out of memory");
     };
     let pushed = push_nodes(text, &run.nodes);
-    drop(run);
+    run.let_go();
     pushed
 }
 

@@ -15,7 +15,7 @@ use crate::process::Process;
 use crate::turns::simulate;
 use join_core::OutOfMemory;
 use mpx_meaning::Report;
-use mpx_node::Node;
+use mpx_node::{Node, drop_nodes};
 use mpx_num::{Listing, Ops};
 use mpx_rank::push_where;
 use mpx_script::Script;
@@ -32,6 +32,15 @@ pub struct Run {
     pub nodes: Vec<Node>,
     /// How many turns were made: the turn that ends a run before its last doesn't count.
     pub turns: u32,
+}
+
+impl Run {
+    /// Drops it. A crate that does so by itself proves once more how a node is dropped.
+    pub fn let_go(self) {
+        let Run { report, nodes, .. } = self;
+        drop(report);
+        drop_nodes(nodes);
+    }
 }
 
 /// Runs a script's ranks, and relays, over an interconnect that loses, repeats and reorders frames.
