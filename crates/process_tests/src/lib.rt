@@ -1,6 +1,6 @@
-//! Tests of nodes and worlds, and of desks, with values from outside, and one run of each call that takes memory. They stand in a
-//! crate of their own, so that the crates below are proved once. Each is rows over one function that does what they say; functions
-//! with many exits own no node, world or desk, since each exit of a function walks the drop of all that it owns.
+//! Tests of processes, with values from outside: of nodes, worlds and desks, and one run of each call of these that takes memory; of ports on a bus, of
+//! shared ports, and of jobs of ranks in threads. They stand in a crate of their own, so that the crates below are proved once. Functions with many
+//! exits own no node, world, desk or port, since each exit of a function walks the drop of all that it owns.
 #![tactic(auto)]
 
 #[cfg(test)]
@@ -12,11 +12,25 @@ mod desk_rows;
 #[cfg(test)]
 mod desks;
 #[cfg(test)]
+mod had;
+#[cfg(test)]
+mod jobs;
+#[cfg(test)]
+mod let_go;
+#[cfg(test)]
 mod looks;
 #[cfg(test)]
 mod node_rows;
 #[cfg(test)]
+mod port_fleets;
+#[cfg(test)]
+mod port_rows;
+#[cfg(test)]
+mod ports;
+#[cfg(test)]
 mod questions;
+#[cfg(test)]
+mod shared_pairs;
 #[cfg(test)]
 mod world_rows;
 #[cfg(test)]

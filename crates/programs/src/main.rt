@@ -1,5 +1,5 @@
-//! The program `programs`: small programs by `ranks`, as the tutorials of MPI have them, each in a file of its own, and three whose boards the
-//! program carries by hand.
+//! The program `programs`: small programs by `ranks`, as the tutorials of MPI have them, each in a file of its own, and four whose boards the
+//! program carries by hand. By the words `pipe 0` and `pipe 1` it is one of two processes that add their numbers, on its standard streams.
 #![tactic(auto)]
 
 mod asks;
@@ -9,6 +9,7 @@ mod flight;
 mod inbox;
 mod nodes;
 mod paths;
+mod pipe;
 mod scan;
 mod sort;
 mod waiting;
@@ -23,14 +24,15 @@ use mpx_num::{Ops, OwnOp};
 use mpx_ranks::{Program, ranks};
 use nodes::sums_of_own_nodes;
 use paths::Paths;
+use pipe::{process, sums_by_lines};
 use scan::Scan;
 use sort::Sort;
 use std::alloc::Global;
-use std::io;
-use std::io::Write;
+use std::io::{Input, Write};
 use std::process::ExitCode;
 use std::sync::Wait;
 use std::thread::Threads;
+use std::{env, io};
 use waiting::sum_from_inbox;
 use why::Why;
 
@@ -88,19 +90,74 @@ fn print_by_hand<W: Write>(alloc: Global, out: &mut W, ops: &Ops) -> Result<(), 
     writeln!(out, "inbox {sum} {boards}")?;
     let (left, right) = sums_of_own_nodes(alloc, ops)?;
     writeln!(out, "nodes {left} {right}")?;
+    let (first, last) = sums_by_lines(alloc, ops)?;
+    writeln!(out, "pipe {first} {last}")?;
     Ok(())
 }
 
-// Makes the list of the job's own operations, and runs all by it.
-fn go<R: Threads + Wait + Sync, W: Write>(rt: &R, alloc: Global, out: &mut W) -> Result<(), Why> {
+// What the words ask for: all programs, or one of the two processes.
+#[derive(Clone, Copy)]
+enum Asked {
+    All,
+    Rank0,
+    Rank1,
+}
+
+fn process_asked(rank: &str) -> Option<Asked> {
+    if rank == "0" {
+        Some(Asked::Rank0)
+    } else if rank == "1" {
+        Some(Asked::Rank1)
+    } else {
+        None
+    }
+}
+
+fn asked(rt: &HostRuntime) -> Option<Asked> {
+    let words: Vec<String> = env::args(rt).ok()?.collect(rt.alloc()).ok()?;
+    match words.as_slice() {
+        [_] => Some(Asked::All),
+        [_, pipe, rank] if pipe.as_str() == "pipe" => process_asked(rank.as_str()),
+        _ => None,
+    }
+}
+
+// Does what is asked for.
+fn answer<R: Threads + Wait + Input + Sync, W: Write>(
+    rt: &R,
+    alloc: Global,
+    asked: Asked,
+    out: &mut W,
+    ops: &Ops,
+) -> Result<(), Why> {
+    let sum = match asked {
+        Asked::All => return print_all(rt, alloc, out, ops),
+        Asked::Rank0 => process(alloc, 0, ops, rt.reader(), out)?,
+        Asked::Rank1 => process(alloc, 1, ops, rt.reader(), out)?,
+    };
+    sum.ok_or(Why::NoAnswer)?;
+    Ok(())
+}
+
+// Makes the list of the job's own operations, and answers by it.
+fn go<R: Threads + Wait + Input + Sync, W: Write>(
+    rt: &R,
+    alloc: Global,
+    asked: Asked,
+    out: &mut W,
+) -> Result<(), Why> {
     let mut list: Vec<Box<dyn OwnOp + Send + Sync + Drop>> = Vec::new(alloc);
     list.push(Box::new(alloc, Product)?)?;
     let ops = Ops::new(list)?;
-    print_all(rt, alloc, out, &ops)
+    answer(rt, alloc, asked, out, &ops)
 }
 
 fn main(rt: HostRuntime) -> ExitCode {
-    match go(&rt, rt.alloc(), &mut io::writer(&rt)) {
+    let Some(asked) = asked(&rt) else {
+        let _told = writeln!(rt.stderr(), "programs takes no words, or pipe 0, or pipe 1");
+        return ExitCode::from(2);
+    };
+    match go(&rt, rt.alloc(), asked, &mut io::writer(&rt)) {
         Ok(()) => ExitCode::SUCCESS,
         Err(why) => {
             let _told = writeln!(rt.stderr(), "gave up: {why}");

@@ -1,10 +1,12 @@
 //! Why a rank gives up, and what each of its calls is given.
+use hex::FromHexError;
 use join_core::OutOfMemory;
 use mpx_comm::{AskError, CallError, Comm, GivenError, Request, TurnError, WaitError, integers_of};
 use mpx_node::Finished;
 use mpx_num::{Numbers, Ops, OpsError};
 use mpx_post::PostError;
 use mpx_ranks::RanksError;
+use mpx_wire::{EncodeError, WireError};
 use std::alloc::{AllocError, Global};
 use std::io;
 use thiserror::Error;
@@ -31,11 +33,17 @@ pub enum Why {
     #[error("{0}")]
     Ops(#[from] OpsError),
     #[error("{0}")]
+    Encode(#[from] EncodeError),
+    #[error("{0}")]
+    Wire(#[from] WireError),
+    #[error("{0}")]
+    Hex(#[from] FromHexError),
+    #[error("{0}")]
     Memory(#[from] OutOfMemory),
     #[error("out of memory")]
     Alloc(#[from(alloc)] AllocError),
-    #[error("write fault")]
-    Write(#[from] io::Error),
+    #[error("a stream failed")]
+    Stream(#[from] io::Error),
     /// A call gave something else than what is asked for, or nothing.
     #[error("no answer")]
     NoAnswer,

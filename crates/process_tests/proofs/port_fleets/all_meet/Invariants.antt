@@ -1,0 +1,5 @@
+use Rattle.process_tests.specs.Homes.{ranks_alone}
+use Rattle.process_tests.proofs.port_fleets.all_meet.Given as goal
+
+abbrev pub ghosts-new : goal.ghosts-new
+ghosts-new g a = record { setup = ranks_alone 8 }

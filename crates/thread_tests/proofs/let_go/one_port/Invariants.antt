@@ -1,5 +1,0 @@
-use Rattle.thread_tests.specs.Homes.{ranks_alone}
-use Rattle.thread_tests.proofs.let_go.one_port.Given as goal
-
-abbrev pub ghosts-new : goal.ghosts-new
-ghosts-new g = record { setup = ranks_alone 1 }

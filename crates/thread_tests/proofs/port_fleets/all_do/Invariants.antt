@@ -1,6 +1,0 @@
-use Rattle.std.proofs.Common.{All}
-use Rattle.thread_tests.specs.Homes.{IsHome}
-use Rattle.thread_tests.proofs.port_fleets.all_do.Given as goal
-
-abbrev pub invariant-loop-i : goal.invariant-loop-i
-invariant-loop-i g l = All (IsHome l.bus l.ranks) l.ports

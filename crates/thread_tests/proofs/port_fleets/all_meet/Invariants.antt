@@ -1,5 +1,0 @@
-use Rattle.thread_tests.specs.Homes.{ranks_alone}
-use Rattle.thread_tests.proofs.port_fleets.all_meet.Given as goal
-
-abbrev pub ghosts-new : goal.ghosts-new
-ghosts-new g a = record { setup = ranks_alone 8 }

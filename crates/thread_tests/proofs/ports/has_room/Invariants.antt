@@ -1,5 +1,0 @@
-use Rattle.mpx_bus.specs.Ports.{IsSamePort}
-use Rattle.thread_tests.proofs.ports.has_room.Given as goal
-
-abbrev pub invariant-loop : goal.invariant-loop
-invariant-loop g l = IsSamePort l.fn.port l.port

@@ -1,5 +1,0 @@
-use Rattle.thread_tests.specs.Homes.{ranks_alone}
-use Rattle.thread_tests.proofs.shared_pairs.two_ports.Given as goal
-
-abbrev pub ghosts-new : goal.ghosts-new
-ghosts-new g = record { setup = ranks_alone 2 }
