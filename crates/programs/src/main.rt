@@ -113,7 +113,7 @@ fn process_asked(rank: &str) -> Option<Asked> {
     }
 }
 
-fn asked(rt: &HostRuntime) -> Option<Asked> {
+fn asked_of(rt: &HostRuntime) -> Option<Asked> {
     let words: Vec<String> = env::args(rt).ok()?.collect(rt.alloc()).ok()?;
     match words.as_slice() {
         [_] => Some(Asked::All),
@@ -153,7 +153,7 @@ fn go<R: Threads + Wait + Input + Sync, W: Write>(
 }
 
 fn main(rt: HostRuntime) -> ExitCode {
-    let Some(asked) = asked(&rt) else {
+    let Some(asked) = asked_of(&rt) else {
         let _told = writeln!(rt.stderr(), "programs takes no words, or pipe 0, or pipe 1");
         return ExitCode::from(2);
     };
