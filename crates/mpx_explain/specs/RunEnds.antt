@@ -2,7 +2,7 @@
 use Rattle.std.specs.Prelude.{◌≡◌, ℕ, zero, suc, ◌+◌, ◌-◌, ◌<◌, ◌≤◌, ◌==◌, ◌&&◌, nat_le, nat_lt, Bool, true, false, cond, List, [], ◌∷◌, ◌++◌, codes, length, replicate, slice_get, slice_index_or, slice_set, map, Option, Some, None, IsSomeAnd}
 use Rattle.std.specs.Borrow.{Bor}
 use Rattle.std.specs.Fmt.{decimal}
-use Rattle.std.specs.List.{All, flat_map, fold, list_any, starts_with}
+use Rattle.std.specs.List.{All, Contains, flat_map, fold, list_any, starts_with}
 use Rattle.std.specs.Option.{option_map, option_map_or}
 use Rattle.mpx_name.specs.Name.{Name}
 use Rattle.mpx_birth.specs.Births.{BirthView}
@@ -136,16 +136,21 @@ pub record ComesFirst (run : EndedRun) (e : EarlierCall) : Type 0 where
   pub waits : waits_at run e.rank ≡ Some e.statement
   pub lacks : LacksPosts run e.rank e.call
 
--- a rank waits there
-abbrev pub IsThere : EndedRun → ℕ × ℕ → Type 0
-IsThere run place = waits_at run place.0 ≡ Some place.1
+-- a rank waits there, and is among those that are told, with no call of which its board lacks posts
+pub record IsServed (run : EndedRun) (told : List WaitingRank) (place : ℕ × ℕ) : Type 0 where
+  pub waits : waits_at run place.0 ≡ Some place.1
+  pub rank : WaitingRank
+  pub among : Contains told rank
+  pub there : where_of rank ≡ place
+  pub none : rank.calls.items ≡ []
 
--- those are told that wait in a run, in rank order, each at its statement, and no other; and of each call just the posts that the rank's own board lacks
+-- those are told that wait in a run, in rank order, each at its statement, and no other; of each call just the posts that the rank's own board lacks;
+-- and all posts have come at those alone that are told with no such call
 pub record TellsRun (run : EndedRun) (end : RunEnd) : Type 0 where
   pub places : map where_of end.waiting.items ≡ waiting_upto run run.script.now.ranks
   pub lacked : All (AreLacked run) end.waiting.items
   pub earlier : All (ComesFirst run) end.earlier.items
-  pub served : All (IsThere run) end.served.items
+  pub served : All (IsServed run end.waiting.items) end.served.items
 
 -- LINES
 
