@@ -18,24 +18,24 @@ use Rattle.mpx_script.specs.LinesGiven.{lines_given}
 use Rattle.mpx_waiting.specs.ToldLines.{line_at}
 use Rattle.mpx_explain.specs.declared.ends.EarlierCall.{EarlierCall}
 use Rattle.mpx_explain.specs.declared.ends.RunEnd.{RunEnd}
-use Rattle.mpx_explain.specs.RunEnds.{AreLacked, ComesFirst, EarlierView, IsLacking, IsRunTold, IsServed, LacksPosts, TellsRun, earlier_text, earlier_view, first_untold, lacked_by, lines_in, process_of, refused_in, run_text, statements_in, waiting_there, waiting_upto, waits_at, where_of}
+use Rattle.mpx_explain.specs.RunEnds.{AreLacked, ComesFirst, EarlierView, IsLacking, IsRunTold, IsServed, LacksPosts, TellsRun, earlier_text, earlier_view, first_untold, lacked_by, line_count, process_of, refused_in, run_text, statements_of_rank, waiting_there, waiting_upto, waiting_place, where_of}
 
 -- a rank that waits does so where it stands, and one that doesn't, nowhere
 
 module _ (run : EndedRun) (rank : ℕ) (waits : Bool) (is : waits ≡ list_any (λ (other : ℕ). other == rank) run.waiting.now) where
   abbrev stands : Option ℕ
-  stands = first_untold (refused_in run rank) 0 (statements_in run rank) (lines_in run rank)
+  stands = first_untold (refused_in run rank) 0 (statements_of_rank run rank) (line_count run rank)
 
-  pub waits_there : (refused : List Bool) (statements : List Statement) (lines : ℕ) (place : Option ℕ) → waits ≡ true → refused ≡ refused_in run rank → statements ≡ statements_in run rank → lines ≡ lines_in run rank
-      → place ≡ first_untold refused 0 statements lines → place ≡ waits_at run rank
+  pub waits_there : (refused : List Bool) (statements : List Statement) (lines : ℕ) (place : Option ℕ) → waits ≡ true → refused ≡ refused_in run rank → statements ≡ statements_of_rank run rank → lines ≡ line_count run rank
+      → place ≡ first_untold refused 0 statements lines → place ≡ waiting_place run rank
   waits_there refused statements lines place does marked these many at =
       at
       ∙ ap (λ (m : List Bool). first_untold m 0 statements lines) marked
       ∙ ap (λ (s : List Statement). first_untold (refused_in run rank) 0 s lines) these
-      ∙ ap (λ (n : ℕ). first_untold (refused_in run rank) 0 (statements_in run rank) n) many
+      ∙ ap (λ (n : ℕ). first_untold (refused_in run rank) 0 (statements_of_rank run rank) n) many
       ∙ ap (λ (b : Bool). cond b stands None) (sym does ∙ is)
 
-  pub waits_nowhere : waits ≡ false → None ≡ waits_at run rank
+  pub waits_nowhere : waits ≡ false → None ≡ waiting_place run rank
   waits_nowhere never = ap (λ (b : Bool). cond b stands None) (sym never ∙ is)
 
 -- all ranks are told
@@ -49,10 +49,10 @@ tells_run run end n ranks all are places lacked earlier served = record {
 }
 
 -- with those of one rank more
-pub upto_more : (run : EndedRun) (n : ℕ) (had new : List (ℕ × ℕ)) → had ≡ waiting_upto run n → new ≡ had ++ waiting_there n (waits_at run n) → new ≡ waiting_upto run (n + 1)
+pub upto_more : (run : EndedRun) (n : ℕ) (had new : List (ℕ × ℕ)) → had ≡ waiting_upto run n → new ≡ had ++ waiting_there n (waiting_place run n) → new ≡ waiting_upto run (n + 1)
 upto_more run n had new is more =
     let k : suc n ≡ n + 1 = omega arith in
-    more ∙ ap (λ xs. xs ++ waiting_there n (waits_at run n)) is ∙ ap (waiting_upto run) k
+    more ∙ ap (λ xs. xs ++ waiting_there n (waiting_place run n)) is ∙ ap (waiting_upto run) k
 
 -- a call that a rank's process has not harvested, with the members whose posts its board lacks, of whom there are some
 pub lacks_of : (run : EndedRun) (rank : ℕ) (node : NodeView) (c : MissingCall) (name : Name) (call : ℕ) (missing : List MissingMember) (none : Bool) → process_of run rank ≡ Some node → front_on node name ≤ call
@@ -77,7 +77,7 @@ served_still run told new rank places is =
     λ all. subst (λ (xs : List WaitingRank). All (IsServed run xs) places) (sym is) (All-weaker (IsServed run told) (IsServed run (told ++ rank ∷ [])) keeps places all)
 
 -- and with its place, where no call of it is told
-pub served_more : (run : EndedRun) (told new : List WaitingRank) (rank : WaitingRank) (places all : List (ℕ × ℕ)) (place : ℕ × ℕ) → new ≡ told ++ rank ∷ [] → all ≡ places ++ place ∷ [] → waits_at run place.0 ≡ Some place.1 → where_of rank ≡ place → rank.calls.items ≡ []
+pub served_more : (run : EndedRun) (told new : List WaitingRank) (rank : WaitingRank) (places all : List (ℕ × ℕ)) (place : ℕ × ℕ) → new ≡ told ++ rank ∷ [] → all ≡ places ++ place ∷ [] → waiting_place run place.0 ≡ Some place.1 → where_of rank ≡ place → rank.calls.items ≡ []
     → All (IsServed run told) places → All (IsServed run new) all
 served_more run told new rank places all place is are waits there none had =
     let one : IsServed run new place = record {

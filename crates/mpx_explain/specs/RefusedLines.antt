@@ -18,12 +18,12 @@ pub record Keeps (old new : List ℕ) : Type 0 where
   pub is : new ≡ old ++ more
 
 -- the lines of a text, as line feeds (10) part it
-abbrev pub lines_in : (text : List ℕ) → List (List ℕ)
-lines_in text = slice_split (λ byte. byte == 10) text
+abbrev pub text_lines : (text : List ℕ) → List (List ℕ)
+text_lines text = slice_split (λ byte. byte == 10) text
 
 -- a text in which this line stands in the place of the one with that number, from 1 on
 abbrev pub with_line : (text : List ℕ) → (number : ℕ) → (line : List ℕ) → List ℕ
-with_line text number line = join_with_byte 10 (slice_set (lines_in text) (number - 1) line)
+with_line text number line = join_with_byte 10 (slice_set (text_lines text) (number - 1) line)
 
 -- a text without the line that is refused: nothing stands there
 abbrev pub without_refused : Result ScriptView ScriptError → (text : List ℕ) → List ℕ

@@ -2,7 +2,7 @@
 ghost use Rattle.std.specs.Prelude.{◌≡◌, ◌==◌, ◌&&◌, ◌++◌, ◌∷◌, [], IfOk, IfSome, OnOk, Some, length, map, not, slice_get, true};
 ghost use Rattle.std.specs.List.{All};
 ghost use Rattle.mpx_explain.specs.declared.ended.EndedRun.{EndedRun as Ended};
-ghost use Rattle.mpx_explain.specs.RunEnds.{AreLacked, ComesFirst, IsServed, LacksPosts, TellsRun, waiting_there, waits_at, where_of};
+ghost use Rattle.mpx_explain.specs.RunEnds.{AreLacked, ComesFirst, IsServed, LacksPosts, TellsRun, waiting_there, waiting_place, where_of};
 
 use crate::ended::{EndedRun, node_at};
 use crate::lacking::lacking_call;
@@ -58,7 +58,7 @@ fn push_rank(
     rank: u8,
     end: &mut RunEnd,
 ) -> Result<(), OutOfMemory>
-    ensures places { OnOk result (map where_of end.new.waiting.items ≡ map where_of end.old.waiting.items ++ waiting_there rank (waits_at run.now rank)) }
+    ensures places { OnOk result (map where_of end.new.waiting.items ≡ map where_of end.old.waiting.items ++ waiting_there rank (waiting_place run.now rank)) }
     ensures lacked { OnOk result (All (AreLacked run.now) end.old.waiting.items → All (AreLacked run.now) end.new.waiting.items) }
     ensures earlier { OnOk result (All (ComesFirst run.now) end.old.earlier.items → All (ComesFirst run.now) end.new.earlier.items) }
     ensures served { OnOk result (All (IsServed run.now end.old.waiting.items) end.old.served.items → All (IsServed run.now end.new.waiting.items) end.new.served.items) }
@@ -78,7 +78,7 @@ fn push_at(
     refused: &[bool],
     end: &mut RunEnd,
 ) -> Result<(), OutOfMemory>
-    requires { waits_at run.now rank ≡ place }
+    requires { waiting_place run.now rank ≡ place }
     ensures places { OnOk result (map where_of end.new.waiting.items ≡ map where_of end.old.waiting.items ++ waiting_there rank place) }
     ensures lacked { OnOk result (All (AreLacked run.now) end.old.waiting.items → All (AreLacked run.now) end.new.waiting.items) }
     ensures earlier { OnOk result (All (ComesFirst run.now) end.old.earlier.items → All (ComesFirst run.now) end.new.earlier.items) }
@@ -99,7 +99,7 @@ fn push_waiting(
     refused: &[bool],
     end: &mut RunEnd,
 ) -> Result<(), OutOfMemory>
-    requires { waits_at run.now rank ≡ Some statement }
+    requires { waiting_place run.now rank ≡ Some statement }
     ensures places { OnOk result (map where_of end.new.waiting.items ≡ map where_of end.old.waiting.items ++ (rank, statement) ∷ []) }
     ensures lacked { OnOk result (All (AreLacked run.now) end.old.waiting.items → All (AreLacked run.now) end.new.waiting.items) }
     ensures earlier { OnOk result (All (ComesFirst run.now) end.old.earlier.items → All (ComesFirst run.now) end.new.earlier.items) }
@@ -137,7 +137,7 @@ fn found_at(
     refused: &[bool],
     earlier: &mut Vec<EarlierCall>,
 ) -> Result<Found, OutOfMemory>
-    requires { waits_at run.now rank ≡ Some statement }
+    requires { waiting_place run.now rank ≡ Some statement }
     ensures place { IfOk result (λ found. where_of found.waiting ≡ (rank, statement)) }
     ensures lacked { IfOk result (λ found. AreLacked run.now found.waiting) }
     ensures served { IfOk result (λ found. found.is_served ≡ true → found.waiting.calls.items ≡ []) }
@@ -159,7 +159,7 @@ fn found_by(
     refused: &[bool],
     earlier: &mut Vec<EarlierCall>,
 ) -> Result<Found, OutOfMemory>
-    requires waits { waits_at run.now rank ≡ Some statement }
+    requires waits { waiting_place run.now rank ≡ Some statement }
     requires own { slice_get run.now.nodes.now rank ≡ Some node }
     ensures place { IfOk result (λ found. where_of found.waiting ≡ (rank, statement)) }
     ensures lacked { IfOk result (λ found. AreLacked run.now found.waiting) }
@@ -183,7 +183,7 @@ fn found_behind(
     walk: &mut Walk,
     earlier: &mut Vec<EarlierCall>,
 ) -> Result<Found, OutOfMemory>
-    requires waits { waits_at run.now rank ≡ Some statement }
+    requires waits { waiting_place run.now rank ≡ Some statement }
     requires own { slice_get run.now.nodes.now rank ≡ Some node }
     ensures place { IfOk result (λ found. where_of found.waiting ≡ (rank, statement)) }
     ensures lacked { IfOk result (λ found. AreLacked run.now found.waiting) }
@@ -207,7 +207,7 @@ fn found_among(
     walk: &Walk,
     earlier: &mut Vec<EarlierCall>,
 ) -> Result<Found, OutOfMemory>
-    requires waits { waits_at run.now rank ≡ Some statement }
+    requires waits { waiting_place run.now rank ≡ Some statement }
     requires own { slice_get run.now.nodes.now rank ≡ Some node }
     ensures place { IfOk result (λ found. where_of found.waiting ≡ (rank, statement)) }
     ensures lacked { IfOk result (λ found. AreLacked run.now found.waiting) }
@@ -269,7 +269,7 @@ fn push_asked(
     walk: &Walk,
     earlier: &mut Vec<EarlierCall>,
 ) -> Result<Vec<MissingCall>, OutOfMemory>
-    requires waits { waits_at run.now rank ≡ Some statement }
+    requires waits { waiting_place run.now rank ≡ Some statement }
     requires own { slice_get run.now.nodes.now rank ≡ Some node }
     ensures calls { IfOk result (λ calls. All (LacksPosts run.now rank) calls.items) }
     ensures earlier { OnOk result (All (ComesFirst run.now) earlier.old.items → All (ComesFirst run.now) earlier.new.items) }
@@ -295,7 +295,7 @@ fn push_call(
     calls: &mut Vec<MissingCall>,
     earlier: &mut Vec<EarlierCall>,
 ) -> Result<(), OutOfMemory>
-    requires waits { waits_at run.now rank ≡ Some statement }
+    requires waits { waiting_place run.now rank ≡ Some statement }
     requires own { slice_get run.now.nodes.now rank ≡ Some node }
     ensures calls { OnOk result (All (LacksPosts run.now rank) calls.old.items → All (LacksPosts run.now rank) calls.new.items) }
     ensures earlier { OnOk result (All (ComesFirst run.now) earlier.old.items → All (ComesFirst run.now) earlier.new.items) }
@@ -324,7 +324,7 @@ fn push_earlier(
     walk: &Walk,
     earlier: &mut Vec<EarlierCall>,
 ) -> Result<(), OutOfMemory>
-    requires waits { waits_at run.now rank ≡ Some statement }
+    requires waits { waiting_place run.now rank ≡ Some statement }
     requires own { slice_get run.now.nodes.now rank ≡ Some node }
     ensures { OnOk result (All (ComesFirst run.now) earlier.old.items → All (ComesFirst run.now) earlier.new.items) }
 {
