@@ -1,6 +1,6 @@
 -- Ranks that wait, one after the other, and calls of which their boards lack posts.
 use Rattle.std.proofs.Common.{◌≡◌, ◌<◌, ◌≤◌, ℕ, suc, ◌+◌, ◌==◌, ◌&&◌, Bool, true, false, cond, List, [], ◌∷◌, ◌++◌, append_assoc, drop, drop-cons, Option, Some, None, Result, Ok, Err, length, map, nat_eq, arith, ap, subst, sym, ◌∙◌}
-use Rattle.std.specs.List.{All, flat_map, list_any}
+use Rattle.std.specs.List.{All, Contains, flat_map, list_any}
 use Rattle.std.proofs.lemmas.Bool.{and_parts, eqb-true}
 use Rattle.std.proofs.lemmas.List.{nil_from_length}
 use Rattle.std.proofs.lemmas.List.Elements.{All-push, All-weaker, Contains-append_left, Contains-push}
@@ -91,8 +91,8 @@ served_more run told new rank places all place is are waits there none had =
 
 -- a rank that is told to be served has no call that is lacking
 pub served_lacks : (served is_served asks none : Bool) (shown calls told : List MissingCall) → served ≡ (asks && (length shown == 0) && none) → shown ≡ calls → told ≡ calls → is_served ≡ served → is_served ≡ true → told ≡ []
-served_lacks served is_served asks none shown calls told is same these said yes =
-    these ∙ sym same ∙ nil_from_length shown (eqb-true (length shown) 0 (and_parts asks (length shown == 0) (and_parts (asks && (length shown == 0)) none (sym is ∙ sym said ∙ yes)).0).1)
+served_lacks served is_served asks none shown calls told is same these said so =
+    these ∙ sym same ∙ nil_from_length shown (eqb-true (length shown) 0 (and_parts asks (length shown == 0) (and_parts (asks && (length shown == 0)) none (sym is ∙ sym said ∙ so)).0).1)
 
 -- the lines of what was found tell of the run
 pub tells_end : {E : Type 0} (text : List ℕ) (run : EndedRun) (end : RunEnd) (old new : List ℕ) (pushed : Result (Unit {0}) E) → TellsRun run end → OnOk pushed (new ≡ old ++ run_text text run end) → OnOk pushed (IsRunTold text run old new)
