@@ -1,3 +1,4 @@
 pub mod FoundEnds
+pub mod RefusedTexts
 pub mod Summing
 pub mod Telling

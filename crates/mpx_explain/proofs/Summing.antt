@@ -4,7 +4,7 @@ use Rattle.std.specs.Prelude.{IfSome, IsSomeAnd, slice_index_or, option_and_then
 use Rattle.std.proofs.lemmas.List.{drop_all}
 use Rattle.mpx_num.specs.declared.operations.Op.{Op}
 use Rattle.mpx_statement.specs.declared.statement.Statement.{Statement}
-use Rattle.mpx_explain.specs.Overflows.{ComesTo, IsCombined, IsKnownAs, combined, exact_from, neutral}
+use Rattle.mpx_explain.specs.Overflows.{ComesTo, IsCombined, IsKnownAs, combined_whole, exact_from, neutral}
 
 -- what the statements of the ranks before this one come to
 pub record IsUpTo (statements : List (List Statement)) (op : Op) (index rank : ℕ) (places : List ℕ) (exact : Option ℤ) : Type 0 where
@@ -21,9 +21,9 @@ up_to_more statements op index rank places (Some b) (Some e) l step had =
     let place : ℕ = slice_index_or places rank 0 in
     let rest : List ℕ = drop (rank + 1) places in
     let cut : drop rank places ≡ place ∷ rest = drop-cons places rank 0 l ∙ (λ j. place ∷ drop (k j) places) in
-    let next : Option ℤ → Option ℤ = option_and_then (λ z. exact_from statements op index (rank + 1) (combined op had.whole z) rest) in
+    let next : Option ℤ → Option ℤ = option_and_then (λ z. exact_from statements op index (rank + 1) (combined_whole op had.whole z) rest) in
     record {
-      whole = combined op had.whole step.given;
+      whole = combined_whole op had.whole step.given;
       comes = sym (ap next step.gives) ∙ ap (exact_from statements op index rank had.whole) (sym cut) ∙ had.comes;
       known = step.known had.whole had.known;
     }

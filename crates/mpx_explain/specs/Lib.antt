@@ -1,3 +1,4 @@
 pub mod Findings
 pub mod Overflows
+pub mod RefusedLines
 pub mod RunEnds

@@ -24,14 +24,14 @@ use Rattle.mpx_explain.specs.declared.overflows.Overflow.{Overflow}
 -- WHAT STATEMENTS GIVE
 
 -- what a statement posts on `world`; one of `create_group` posts on a gathering
-abbrev pub posted_by : Statement → Option Draft
-posted_by (Post (CreateGroup on tag ranks to)) = None
-posted_by (Post posting) = cond (bytes_eq (communicator_word posting) (codes "world")) (Some (draft_of posting)) None
-posted_by statement = None
+abbrev pub draft_by : Statement → Option Draft
+draft_by (Post (CreateGroup on tag ranks to)) = None
+draft_by (Post posting) = cond (bytes_eq (communicator_word posting) (codes "world")) (Some (draft_of posting)) None
+draft_by statement = None
 
 -- the same of the statement with this place among a rank's
 abbrev pub posted_at : List (List Statement) → (rank place : ℕ) → Option Draft
-posted_at statements rank place = option_and_then posted_by (slice_get (slice_index_or statements rank []) place)
+posted_at statements rank place = option_and_then draft_by (slice_get (slice_index_or statements rank []) place)
 
 -- which of its numbers has this index
 abbrev pub given_at : List (List Statement) → (index rank place : ℕ) → Option ℤ
@@ -46,9 +46,9 @@ is_summed Prod = true
 is_summed op = false
 
 -- whole numbers, which don't wrap
-abbrev pub combined : Op → ℤ → ℤ → ℤ
-combined Prod x y = x *ℤ y
-combined op x y = x +ℤ y
+abbrev pub combined_whole : Op → ℤ → ℤ → ℤ
+combined_whole Prod x y = x *ℤ y
+combined_whole op x y = x +ℤ y
 
 -- a number that changes none
 abbrev pub neutral : Op → ℤ
@@ -58,7 +58,7 @@ neutral op = pos 0
 -- a number combined with those that the statements with these places give, the first of them this rank's, the next the next rank's
 abbrev pub exact_from : List (List Statement) → Op → (index rank : ℕ) → ℤ → (places : List ℕ) → Option ℤ
 exact_from statements op index rank before [] = Some before
-exact_from statements op index rank before (place ∷ places) = option_and_then (λ z. exact_from statements op index (rank + 1) (combined op before z) places) (given_at statements index rank place)
+exact_from statements op index rank before (place ∷ places) = option_and_then (λ z. exact_from statements op index (rank + 1) (combined_whole op before z) places) (given_at statements index rank place)
 
 -- what is known of a number: the number, or that it is past 128 bits
 abbrev pub IsKnownAs : Option ℤ → ℤ → Type 0
@@ -69,7 +69,7 @@ IsKnownAs None whole = 2 ^ 127 ≤ unsigned_abs whole
 pub record IsCombined (statements : List (List Statement)) (op : Op) (index rank place : ℕ) (before exact : Option ℤ) : Type 0 where
   pub given : ℤ
   pub gives : given_at statements index rank place ≡ Some given
-  pub known : (b : ℤ) → IsKnownAs before b → IsKnownAs exact (combined op b given)
+  pub known : (b : ℤ) → IsKnownAs before b → IsKnownAs exact (combined_whole op b given)
 
 -- what the statements with these places give, combined, one of each rank from rank 0 on
 pub record ComesTo (statements : List (List Statement)) (op : Op) (index : ℕ) (places : List ℕ) (exact : Option ℤ) : Type 0 where
@@ -125,12 +125,12 @@ abbrev pub gives_text : Ty → ℤ → List ℕ
 gives_text ty z = codes ", which gives " ++ number_text (into_range ty z)
 
 -- a number that is past its type; none is told of one that is past 128 bits
-abbrev pub what_text : Ty → Option ℤ → List ℕ
-what_text ty None = codes "the result is past " ++ type_word ty
-what_text ty (Some z) = past_text ty z ++ gives_text ty z
+abbrev pub past_result_text : Ty → Option ℤ → List ℕ
+past_result_text ty None = codes "the result is past " ++ type_word ty
+past_result_text ty (Some z) = past_text ty z ++ gives_text ty z
 
 abbrev pub overflow_text : (text : List ℕ) → Overflow → List ℕ
-overflow_text text o = start_text o.rank (line_at (lines_given o.rank text) o.statement) ++ what_text o.ty o.exact ++ codes "\n"
+overflow_text text o = start_text o.rank (line_at (lines_given o.rank text) o.statement) ++ past_result_text o.ty o.exact ++ codes "\n"
 
 -- lines are told behind others: each of an overflow, and one of how many more there are
 pub record AreOverflows (text : List ℕ) (statements : List (List Statement)) (old new : List ℕ) : Type 0 where

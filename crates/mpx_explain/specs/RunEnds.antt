@@ -2,7 +2,7 @@
 use Rattle.std.specs.Prelude.{◌≡◌, ℕ, zero, suc, ◌+◌, ◌-◌, ◌<◌, ◌≤◌, ◌==◌, ◌&&◌, nat_le, nat_lt, Bool, true, false, cond, List, [], ◌∷◌, ◌++◌, codes, length, replicate, slice_get, slice_index_or, slice_set, map, Option, Some, None, IsSomeAnd}
 use Rattle.std.specs.Borrow.{Bor}
 use Rattle.std.specs.Fmt.{decimal}
-use Rattle.std.specs.List.{All, flat_map, fold, list_any, starts_with}
+use Rattle.std.specs.List.{All, Contains, flat_map, fold, list_any, starts_with}
 use Rattle.std.specs.Option.{option_map, option_map_or}
 use Rattle.mpx_name.specs.Name.{Name}
 use Rattle.mpx_birth.specs.Births.{BirthView}
@@ -29,8 +29,8 @@ use Rattle.mpx_explain.specs.declared.ends.RunEnd.{RunEnd}
 -- WHERE A RANK STANDS
 
 -- a line of this rank begins so
-abbrev pub is_of : (rank : ℕ) → (start : List ℕ) → ComplaintView → Bool
-is_of rank start c = (c.rank == rank) && starts_with ◌==◌ c.text start
+abbrev pub is_complaint_of : (rank : ℕ) → (start : List ℕ) → ComplaintView → Bool
+is_complaint_of rank start c = (c.rank == rank) && starts_with ◌==◌ c.text start
 
 -- the statement with this place is marked, where there is one
 abbrev pub with_mark : (place : ℕ) → List Bool → List Bool
@@ -38,7 +38,7 @@ with_mark place marks = cond (nat_lt place (length marks)) (slice_set marks plac
 
 -- the statement of such a line is marked
 abbrev pub marked_by : (rank : ℕ) → (start : List ℕ) → List Bool → ComplaintView → List Bool
-marked_by rank start marks c = cond (is_of rank start c) (with_mark c.statement marks) marks
+marked_by rank start marks c = cond (is_complaint_of rank start c) (with_mark c.statement marks) marks
 
 -- of so many statements of a rank those that have such a line
 abbrev pub marks_of : (count rank : ℕ) → (start : List ℕ) → List ComplaintView → List Bool
@@ -57,20 +57,20 @@ first_untold refused place [] lines = None
 first_untold refused place (statement ∷ more) lines =
     cond (nat_lt lines (lines_of (slice_index_or refused place false) statement)) (Some place) (first_untold refused (place + 1) more (lines - lines_of (slice_index_or refused place false) statement))
 
-abbrev pub statements_in : EndedRun → (rank : ℕ) → List Statement
-statements_in run rank = slice_index_or run.script.now.statements rank []
+abbrev pub statements_of_rank : EndedRun → (rank : ℕ) → List Statement
+statements_of_rank run rank = slice_index_or run.script.now.statements rank []
 
 -- which of a rank's statements were refused, by the complaints of the script's evaluation
 abbrev pub refused_in : EndedRun → (rank : ℕ) → List Bool
-refused_in run rank = marks_of (length (statements_in run rank)) rank (codes "refused ") (map complaint_view run.complaints.now)
+refused_in run rank = marks_of (length (statements_of_rank run rank)) rank (codes "refused ") (map complaint_view run.complaints.now)
 
 -- how many lines a rank has
-abbrev pub lines_in : EndedRun → (rank : ℕ) → ℕ
-lines_in run rank = slice_index_or run.lines.now rank 0
+abbrev pub line_count : EndedRun → (rank : ℕ) → ℕ
+line_count run rank = slice_index_or run.lines.now rank 0
 
 -- where a rank waits: at the first statement whose lines it hasn't all; nowhere, where it doesn't wait
-abbrev pub waits_at : EndedRun → (rank : ℕ) → Option ℕ
-waits_at run rank = cond (list_any (λ (other : ℕ). other == rank) run.waiting.now) (first_untold (refused_in run rank) 0 (statements_in run rank) (lines_in run rank)) None
+abbrev pub waiting_place : EndedRun → (rank : ℕ) → Option ℕ
+waiting_place run rank = cond (list_any (λ (other : ℕ). other == rank) run.waiting.now) (first_untold (refused_in run rank) 0 (statements_of_rank run rank) (line_count run rank)) None
 
 -- WHOSE POSTS A BOARD LACKS
 
@@ -121,7 +121,7 @@ waiting_there rank (Some place) = (rank, place) ∷ []
 -- of the first so many ranks, in their order
 abbrev pub waiting_upto : EndedRun → (ranks : ℕ) → List (ℕ × ℕ)
 waiting_upto run zero = []
-waiting_upto run (suc n) = waiting_upto run n ++ waiting_there n (waits_at run n)
+waiting_upto run (suc n) = waiting_upto run n ++ waiting_there n (waiting_place run n)
 
 -- a rank and a statement
 abbrev pub where_of : WaitingRank → ℕ × ℕ
@@ -133,19 +133,24 @@ AreLacked run w = All (LacksPosts run w.rank) w.calls.items
 
 -- a rank waits there, and of an earlier call its board lacks posts
 pub record ComesFirst (run : EndedRun) (e : EarlierCall) : Type 0 where
-  pub waits : waits_at run e.rank ≡ Some e.statement
+  pub waits : waiting_place run e.rank ≡ Some e.statement
   pub lacks : LacksPosts run e.rank e.call
 
--- a rank waits there
-abbrev pub IsThere : EndedRun → ℕ × ℕ → Type 0
-IsThere run place = waits_at run place.0 ≡ Some place.1
+-- a rank waits there, and is among those that are told, with no call of which its board lacks posts
+pub record IsServed (run : EndedRun) (told : List WaitingRank) (place : ℕ × ℕ) : Type 0 where
+  pub waits : waiting_place run place.0 ≡ Some place.1
+  pub rank : WaitingRank
+  pub among : Contains told rank
+  pub there : where_of rank ≡ place
+  pub none : rank.calls.items ≡ []
 
--- those are told that wait in a run, in rank order, each at its statement, and no other; and of each call just the posts that the rank's own board lacks
+-- those are told that wait in a run, in rank order, each at its statement, and no other; of each call just the posts that the rank's own board lacks;
+-- and all posts have come at those alone that are told with no such call
 pub record TellsRun (run : EndedRun) (end : RunEnd) : Type 0 where
   pub places : map where_of end.waiting.items ≡ waiting_upto run run.script.now.ranks
   pub lacked : All (AreLacked run) end.waiting.items
   pub earlier : All (ComesFirst run) end.earlier.items
-  pub served : All (IsThere run) end.served.items
+  pub served : All (IsServed run end.waiting.items) end.served.items
 
 -- LINES
 

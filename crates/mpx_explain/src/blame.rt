@@ -1,4 +1,6 @@
-//! Which word of a refused line is to blame, found by trials of the line with other words. Nothing is claimed of it.
+//! Which word of a refused line is to blame, found by trials of the line with other words. Which one it is isn't claimed.
+ghost use Rattle.std.specs.Prelude.{◌<◌, ◌≤◌, IfOk, IfSome, length};
+
 use crate::forms::{Misfit, form_of, misfit_of};
 use crate::trials::{Change, RANKS, fault_of};
 use join_core::OutOfMemory;
@@ -32,7 +34,9 @@ pub fn word_to_blame(
     text: &[u8],
     refusal: ScriptError,
     ops: &Ops,
-) -> Result<Option<Blamed>, OutOfMemory> {
+) -> Result<Option<Blamed>, OutOfMemory>
+    ensures { IfOk result (λ found. IfSome found (λ blamed. (0 < blamed.place) × (blamed.place ≤ 64))) }
+{
     let Some(line) = line_in(alloc, text, refusal.line)? else {
         return Ok(None);
     };
@@ -43,7 +47,10 @@ pub fn word_to_blame(
 }
 
 // The word at this place of a line, from 0 on.
-fn blamed_at(alloc: Global, line: &Line<'_>, place: usize) -> Result<Option<Blamed>, OutOfMemory> {
+fn blamed_at(alloc: Global, line: &Line<'_>, place: usize) -> Result<Option<Blamed>, OutOfMemory>
+    requires { length line.now.words.items ≤ 64 }
+    ensures { IfOk result (λ found. IfSome found (λ blamed. (0 < blamed.place) × (blamed.place ≤ 64))) }
+{
     match line.words.get(place) {
         Some(word) => Ok(Some(Blamed {
             place: place.saturating_add(1),
@@ -58,7 +65,9 @@ pub(crate) fn line_in(
     alloc: Global,
     text: &[u8],
     number: u32,
-) -> Result<Option<Line<'_>>, OutOfMemory> {
+) -> Result<Option<Line<'_>>, OutOfMemory>
+    ensures { IfOk result (λ found. IfSome found (λ line. length line.words.items ≤ 64)) }
+{
     let Ok(text) = str::from_utf8(text) else {
         return Ok(None);
     };

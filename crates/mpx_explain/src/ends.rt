@@ -1,8 +1,8 @@
 //! Where ranks wait at the end of a run that ended early, and whose posts they lack by what their own boards hold.
-ghost use Rattle.std.specs.Prelude.{◌≡◌, ◌++◌, ◌∷◌, [], IfOk, IfSome, OnOk, Some, map, slice_get};
+ghost use Rattle.std.specs.Prelude.{◌≡◌, ◌==◌, ◌&&◌, ◌++◌, ◌∷◌, [], IfOk, IfSome, OnOk, Some, length, map, not, slice_get, true};
 ghost use Rattle.std.specs.List.{All};
 ghost use Rattle.mpx_explain.specs.declared.ended.EndedRun.{EndedRun as Ended};
-ghost use Rattle.mpx_explain.specs.RunEnds.{AreLacked, ComesFirst, IsThere, LacksPosts, TellsRun, waiting_there, waits_at, where_of};
+ghost use Rattle.mpx_explain.specs.RunEnds.{AreLacked, ComesFirst, IsServed, LacksPosts, TellsRun, waiting_there, waiting_place, where_of};
 
 use crate::ended::{EndedRun, node_at};
 use crate::lacking::lacking_call;
@@ -58,10 +58,10 @@ fn push_rank(
     rank: u8,
     end: &mut RunEnd,
 ) -> Result<(), OutOfMemory>
-    ensures places { OnOk result (map where_of end.new.waiting.items ≡ map where_of end.old.waiting.items ++ waiting_there rank (waits_at run.now rank)) }
+    ensures places { OnOk result (map where_of end.new.waiting.items ≡ map where_of end.old.waiting.items ++ waiting_there rank (waiting_place run.now rank)) }
     ensures lacked { OnOk result (All (AreLacked run.now) end.old.waiting.items → All (AreLacked run.now) end.new.waiting.items) }
     ensures earlier { OnOk result (All (ComesFirst run.now) end.old.earlier.items → All (ComesFirst run.now) end.new.earlier.items) }
-    ensures served { OnOk result (All (IsThere run.now) end.old.served.items → All (IsThere run.now) end.new.served.items) }
+    ensures served { OnOk result (All (IsServed run.now end.old.waiting.items) end.old.served.items → All (IsServed run.now end.new.waiting.items) end.new.served.items) }
 {
     let refused = refused_in(alloc, run, rank)?;
     let place = waits_at(run, rank, &refused);
@@ -78,11 +78,11 @@ fn push_at(
     refused: &[bool],
     end: &mut RunEnd,
 ) -> Result<(), OutOfMemory>
-    requires { waits_at run.now rank ≡ place }
+    requires { waiting_place run.now rank ≡ place }
     ensures places { OnOk result (map where_of end.new.waiting.items ≡ map where_of end.old.waiting.items ++ waiting_there rank place) }
     ensures lacked { OnOk result (All (AreLacked run.now) end.old.waiting.items → All (AreLacked run.now) end.new.waiting.items) }
     ensures earlier { OnOk result (All (ComesFirst run.now) end.old.earlier.items → All (ComesFirst run.now) end.new.earlier.items) }
-    ensures served { OnOk result (All (IsThere run.now) end.old.served.items → All (IsThere run.now) end.new.served.items) }
+    ensures served { OnOk result (All (IsServed run.now end.old.waiting.items) end.old.served.items → All (IsServed run.now end.new.waiting.items) end.new.served.items) }
 {
     match place {
         Some(statement) => push_waiting(alloc, run, rank, statement, refused, end),
@@ -99,11 +99,11 @@ fn push_waiting(
     refused: &[bool],
     end: &mut RunEnd,
 ) -> Result<(), OutOfMemory>
-    requires { waits_at run.now rank ≡ Some statement }
+    requires { waiting_place run.now rank ≡ Some statement }
     ensures places { OnOk result (map where_of end.new.waiting.items ≡ map where_of end.old.waiting.items ++ (rank, statement) ∷ []) }
     ensures lacked { OnOk result (All (AreLacked run.now) end.old.waiting.items → All (AreLacked run.now) end.new.waiting.items) }
     ensures earlier { OnOk result (All (ComesFirst run.now) end.old.earlier.items → All (ComesFirst run.now) end.new.earlier.items) }
-    ensures served { OnOk result (All (IsThere run.now) end.old.served.items → All (IsThere run.now) end.new.served.items) }
+    ensures served { OnOk result (All (IsServed run.now end.old.waiting.items) end.old.served.items → All (IsServed run.now end.new.waiting.items) end.new.served.items) }
 {
     let Found { waiting, is_served } = found_at(
         alloc,
@@ -137,9 +137,10 @@ fn found_at(
     refused: &[bool],
     earlier: &mut Vec<EarlierCall>,
 ) -> Result<Found, OutOfMemory>
-    requires { waits_at run.now rank ≡ Some statement }
+    requires { waiting_place run.now rank ≡ Some statement }
     ensures place { IfOk result (λ found. where_of found.waiting ≡ (rank, statement)) }
     ensures lacked { IfOk result (λ found. AreLacked run.now found.waiting) }
+    ensures served { IfOk result (λ found. found.is_served ≡ true → found.waiting.calls.items ≡ []) }
     ensures earlier { OnOk result (All (ComesFirst run.now) earlier.old.items → All (ComesFirst run.now) earlier.new.items) }
 {
     match node_at(run, rank) {
@@ -158,10 +159,11 @@ fn found_by(
     refused: &[bool],
     earlier: &mut Vec<EarlierCall>,
 ) -> Result<Found, OutOfMemory>
-    requires waits { waits_at run.now rank ≡ Some statement }
+    requires waits { waiting_place run.now rank ≡ Some statement }
     requires own { slice_get run.now.nodes.now rank ≡ Some node }
     ensures place { IfOk result (λ found. where_of found.waiting ≡ (rank, statement)) }
     ensures lacked { IfOk result (λ found. AreLacked run.now found.waiting) }
+    ensures served { IfOk result (λ found. found.is_served ≡ true → found.waiting.calls.items ≡ []) }
     ensures earlier { OnOk result (All (ComesFirst run.now) earlier.old.items → All (ComesFirst run.now) earlier.new.items) }
 {
     let statements = run.script.statements(rank);
@@ -181,10 +183,11 @@ fn found_behind(
     walk: &mut Walk,
     earlier: &mut Vec<EarlierCall>,
 ) -> Result<Found, OutOfMemory>
-    requires waits { waits_at run.now rank ≡ Some statement }
+    requires waits { waiting_place run.now rank ≡ Some statement }
     requires own { slice_get run.now.nodes.now rank ≡ Some node }
     ensures place { IfOk result (λ found. where_of found.waiting ≡ (rank, statement)) }
     ensures lacked { IfOk result (λ found. AreLacked run.now found.waiting) }
+    ensures served { IfOk result (λ found. found.is_served ≡ true → found.waiting.calls.items ≡ []) }
     ensures earlier { OnOk result (All (ComesFirst run.now) earlier.old.items → All (ComesFirst run.now) earlier.new.items) }
 {
     let asked = asked_at(alloc, node, run.script.statements(rank), statement, walk)?;
@@ -204,10 +207,11 @@ fn found_among(
     walk: &Walk,
     earlier: &mut Vec<EarlierCall>,
 ) -> Result<Found, OutOfMemory>
-    requires waits { waits_at run.now rank ≡ Some statement }
+    requires waits { waiting_place run.now rank ≡ Some statement }
     requires own { slice_get run.now.nodes.now rank ≡ Some node }
     ensures place { IfOk result (λ found. where_of found.waiting ≡ (rank, statement)) }
     ensures lacked { IfOk result (λ found. AreLacked run.now found.waiting) }
+    ensures served { IfOk result (λ found. found.is_served ≡ true → found.waiting.calls.items ≡ []) }
     ensures earlier { OnOk result (All (ComesFirst run.now) earlier.old.items → All (ComesFirst run.now) earlier.new.items) }
 {
     let many = earlier.len();
@@ -219,6 +223,8 @@ fn found_among(
 fn found_with(rank: u8, statement: usize, calls: Vec<MissingCall>, is_served: bool) -> Found
     ensures place { where_of result.waiting ≡ (rank, statement) }
     ensures lacked { (run : Ended) → All (LacksPosts run rank) calls.items → AreLacked run result.waiting }
+    ensures calls { result.waiting.calls.items ≡ calls.items }
+    ensures served { result.is_served ≡ is_served }
 {
     Found {
         waiting: WaitingRank {
@@ -231,7 +237,9 @@ fn found_with(rank: u8, statement: usize, calls: Vec<MissingCall>, is_served: bo
 }
 
 // Whether posts are lacking of none of the calls that are asked for, and of no earlier one.
-fn is_served(asked: &[Awaited], calls: &[MissingCall], no_earlier: bool) -> bool {
+fn is_served(asked: &[Awaited], calls: &[MissingCall], no_earlier: bool) -> bool
+    ensures { result ≡ (not (length asked.now == 0) && (length calls.now == 0) && no_earlier) }
+{
     !asked.is_empty() && calls.is_empty() && no_earlier
 }
 
@@ -261,7 +269,7 @@ fn push_asked(
     walk: &Walk,
     earlier: &mut Vec<EarlierCall>,
 ) -> Result<Vec<MissingCall>, OutOfMemory>
-    requires waits { waits_at run.now rank ≡ Some statement }
+    requires waits { waiting_place run.now rank ≡ Some statement }
     requires own { slice_get run.now.nodes.now rank ≡ Some node }
     ensures calls { IfOk result (λ calls. All (LacksPosts run.now rank) calls.items) }
     ensures earlier { OnOk result (All (ComesFirst run.now) earlier.old.items → All (ComesFirst run.now) earlier.new.items) }
@@ -287,7 +295,7 @@ fn push_call(
     calls: &mut Vec<MissingCall>,
     earlier: &mut Vec<EarlierCall>,
 ) -> Result<(), OutOfMemory>
-    requires waits { waits_at run.now rank ≡ Some statement }
+    requires waits { waiting_place run.now rank ≡ Some statement }
     requires own { slice_get run.now.nodes.now rank ≡ Some node }
     ensures calls { OnOk result (All (LacksPosts run.now rank) calls.old.items → All (LacksPosts run.now rank) calls.new.items) }
     ensures earlier { OnOk result (All (ComesFirst run.now) earlier.old.items → All (ComesFirst run.now) earlier.new.items) }
@@ -316,7 +324,7 @@ fn push_earlier(
     walk: &Walk,
     earlier: &mut Vec<EarlierCall>,
 ) -> Result<(), OutOfMemory>
-    requires waits { waits_at run.now rank ≡ Some statement }
+    requires waits { waiting_place run.now rank ≡ Some statement }
     requires own { slice_get run.now.nodes.now rank ≡ Some node }
     ensures { OnOk result (All (ComesFirst run.now) earlier.old.items → All (ComesFirst run.now) earlier.new.items) }
 {

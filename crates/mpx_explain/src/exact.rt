@@ -1,7 +1,7 @@
 //! Exact sums and products of what statements give on `world`.
 ghost use Rattle.std.specs.Prelude.{◌≡◌, ◌+ℤ◌, ◌*ℤ◌, IfSome, IsSomeAnd, None, Some, ℤ, bytes_eq, codes, cond, true};
 ghost use Rattle.std.specs.Option.{option_copied};
-ghost use Rattle.mpx_explain.specs.Overflows.{ComesTo, IsCombined, IsKnownAs, combined, given_at, is_summed, neutral, posted_at, posted_by, reduction_in, taken};
+ghost use Rattle.mpx_explain.specs.Overflows.{ComesTo, IsCombined, IsKnownAs, combined_whole, given_at, is_summed, neutral, posted_at, draft_by, reduction_in, taken};
 
 use mpx_kind::{Call, Reduction};
 use mpx_num::{Op, Ty};
@@ -83,7 +83,7 @@ fn step(
 }
 
 fn with_given(op: Op, before: Option<i128>, given: Option<i128>) -> Option<Option<i128>>
-    ensures { IfSome result (λ exact. IsSomeAnd given (λ g. (b : ℤ) → IsKnownAs before b → IsKnownAs exact (combined op b g))) }
+    ensures { IfSome result (λ exact. IsSomeAnd given (λ g. (b : ℤ) → IsKnownAs before b → IsKnownAs exact (combined_whole op b g))) }
 {
     match given {
         Some(given) => combined(op, before, given),
@@ -101,7 +101,7 @@ fn neutral(op: Op) -> i128
 }
 
 fn combined(op: Op, before: Option<i128>, given: i128) -> Option<Option<i128>>
-    ensures { IfSome result (λ exact. (b : ℤ) → IsKnownAs before b → IsKnownAs exact (combined op b given)) }
+    ensures { IfSome result (λ exact. (b : ℤ) → IsKnownAs before b → IsKnownAs exact (combined_whole op b given)) }
 {
     match op {
         Op::Prod => Some(product(before, given)),
@@ -155,7 +155,7 @@ pub(crate) fn posted_at(script: &Script, rank: usize, place: usize) -> Option<&D
 
 /// What a statement posts on `world`.
 pub(crate) fn posted_by(statement: &Statement) -> Option<&Draft>
-    ensures { option_copied result ≡ posted_by statement.now }
+    ensures { option_copied result ≡ draft_by statement.now }
 {
     match statement {
         Statement::Post(Posting::Call { on, draft }) => on_world(on, draft),

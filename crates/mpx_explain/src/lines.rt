@@ -1,9 +1,14 @@
 //! The refused lines of a script.
+ghost use Rattle.std.specs.Prelude.{◌≡◌, ◌++◌, [], cond, nat_lt, false, true, IfErr, IfNone, IfOk, IfSome, OnErr, OnOk, string_bytes};
+ghost use Rattle.std.specs.Option.{option_map};
+ghost use Rattle.mpx_script.specs.Reading.{reading};
+ghost use Rattle.mpx_script.specs.declared.faults.ScriptFault.TheVariants.{NameUnknown};
+ghost use Rattle.mpx_explain.specs.RefusedLines.{AreRefusalsTold, IsEndTold, IsLineTold, IsRefusalTold, IsToldUnlessUnknown, Keeps, beside_text, ends_all, feed_before, refusal_in, refusal_text, with_line, without_refused};
 
 use crate::blame::word_to_blame;
 use crate::detail::{detail_of, is_shown};
 use join_core::OutOfMemory;
-use mpx_num::Ops;
+use mpx_num::{Listing, Ops};
 use mpx_script::{ReadScriptError, ScriptError, ScriptFault, read_script};
 use std::alloc::Global;
 
@@ -27,7 +32,10 @@ pub fn explain_refusals(
     text: &[u8],
     ops: &Ops,
     told: &mut Vec<u8>,
-) -> Result<(), OutOfMemory> {
+) -> Result<(), OutOfMemory>
+    ensures keeps { Keeps told.old.items told.new.items }
+    ensures told { OnOk result (AreRefusalsTold (⟦<Ops as Listing>⟧.operations ops.now) text.now told.old.items told.new.items) }
+{
     let mut unbound = Vec::new(alloc);
     let pushed = push_refusals(alloc, text, &mut unbound, ops, told);
     drop(unbound);
@@ -41,7 +49,10 @@ fn push_refusals(
     unbound: &mut Vec<Unbound>,
     ops: &Ops,
     told: &mut Vec<u8>,
-) -> Result<(), OutOfMemory> {
+) -> Result<(), OutOfMemory>
+    ensures keeps { Keeps told.old.items told.new.items }
+    ensures told { OnOk result (AreRefusalsTold (⟦<Ops as Listing>⟧.operations ops.now) text.now told.old.items told.new.items) }
+{
     let mut rest = copied(alloc, text)?;
     for nth in 0..MOST_LINES {
         match explain_refusal(alloc, &rest, nth, unbound, ops, told)? {
@@ -61,21 +72,62 @@ fn explain_refusal(
     unbound: &mut Vec<Unbound>,
     ops: &Ops,
     told: &mut Vec<u8>,
-) -> Result<Option<Vec<u8>>, OutOfMemory> {
+) -> Result<Option<Vec<u8>>, OutOfMemory>
+    ensures told { IfOk result (λ left. IfSome left (λ _. IsLineTold (nat_lt 0 nth) (reading (⟦<Ops as Listing>⟧.operations ops.now) text.now) told.old.items told.new.items)) }
+    ensures left { IfOk result (λ left. IfSome left (λ behind. behind.items ≡ without_refused (reading (⟦<Ops as Listing>⟧.operations ops.now) text.now) text.now)) }
+    ensures end { IfOk result (λ left. IfNone left (IsEndTold nth (reading (⟦<Ops as Listing>⟧.operations ops.now) text.now) told.old.items told.new.items)) }
+    ensures err { IfErr result (λ _. told.new.items ≡ told.old.items) }
+{
     let Some(refusal) = refusal_of(alloc, text, ops)? else {
         return Ok(None);
     };
-    if nth > 0 && ends_all(refusal.what) {
-        return Ok(None);
-    }
-    if !follows(alloc, text, refusal, unbound.as_slice(), ops)? {
-        push_refused(alloc, text, refusal, nth > 0, ops, told)?;
-    }
     if ends_all(refusal.what) {
+        push_last(alloc, text, refusal, nth, ops, told)?;
         return Ok(None);
     }
+    let is_passed_over = follows(alloc, text, refusal, unbound.as_slice(), ops)?;
     push_unbound(alloc, text, refusal.line, unbound, ops)?;
-    Ok(Some(with_line(alloc, text, refusal.line, b"")?))
+    let behind = with_line(alloc, text, refusal.line, b"")?;
+    push_line(alloc, text, refusal, nth > 0, is_passed_over, ops, told)?;
+    Ok(Some(behind))
+}
+
+// Tells what is beside a refusal behind which nothing can be said, where it is the first.
+fn push_last(
+    alloc: Global,
+    text: &[u8],
+    refusal: ScriptError,
+    nth: usize,
+    ops: &Ops,
+    told: &mut Vec<u8>,
+) -> Result<(), OutOfMemory>
+    ensures told { OnOk result (IsRefusalTold false refusal told.old.items told.new.items) }
+    ensures err { OnErr result (told.new.items ≡ told.old.items) }
+{
+    if nth > 0 {
+        return Ok(());
+    }
+    push_refused(alloc, text, refusal, false, ops, told)
+}
+
+// Tells the line of a refusal, unless it is passed over.
+fn push_line(
+    alloc: Global,
+    text: &[u8],
+    refusal: ScriptError,
+    with_refusal: bool,
+    is_passed_over: bool,
+    ops: &Ops,
+    told: &mut Vec<u8>,
+) -> Result<(), OutOfMemory>
+    requires { is_passed_over ≡ true → refusal.what ≡ NameUnknown }
+    ensures told { OnOk result (IsToldUnlessUnknown with_refusal refusal told.old.items told.new.items) }
+    ensures err { OnErr result (told.new.items ≡ told.old.items) }
+{
+    if is_passed_over {
+        return Ok(());
+    }
+    push_refused(alloc, text, refusal, with_refusal, ops, told)
 }
 
 // Adds that there is more, where the text is refused once more.
@@ -84,11 +136,14 @@ fn push_whether_more(
     text: &[u8],
     ops: &Ops,
     told: &mut Vec<u8>,
-) -> Result<(), OutOfMemory> {
-    if refusal_of(alloc, text, ops)?.is_some() {
-        told.extend_from_slice(b"further lines aren't looked at\n")?;
+) -> Result<(), OutOfMemory>
+    ensures told { OnOk result (IsEndTold 10 (reading (⟦<Ops as Listing>⟧.operations ops.now) text.now) told.old.items told.new.items) }
+    ensures err { OnErr result (told.new.items ≡ told.old.items) }
+{
+    match refusal_of(alloc, text, ops)? {
+        Some(_) => Ok(told.extend_from_slice(b"further lines aren't looked at\n")?),
+        None => Ok(()),
     }
-    Ok(())
 }
 
 /// The refusal of a script, where it is refused.
@@ -96,7 +151,9 @@ pub(crate) fn refusal_of(
     alloc: Global,
     text: &[u8],
     ops: &Ops,
-) -> Result<Option<ScriptError>, OutOfMemory> {
+) -> Result<Option<ScriptError>, OutOfMemory>
+    ensures { IfOk result (λ found. found ≡ refusal_in (reading (⟦<Ops as Listing>⟧.operations ops.now) text.now)) }
+{
     match read_script(alloc, text, ops) {
         Ok(script) => {
             drop(script);
@@ -108,7 +165,9 @@ pub(crate) fn refusal_of(
 }
 
 // Whether nothing can be said of the lines behind.
-fn ends_all(what: ScriptFault) -> bool {
+fn ends_all(what: ScriptFault) -> bool
+    ensures { result ≡ ends_all what }
+{
     matches!(
         what,
         ScriptFault::TooLarge | ScriptFault::NoRanksLine | ScriptFault::RanksOutOfRange
@@ -123,10 +182,25 @@ fn follows(
     refusal: ScriptError,
     unbound: &[Unbound],
     ops: &Ops,
-) -> Result<bool, OutOfMemory> {
-    if refusal.what != ScriptFault::NameUnknown || unbound.is_empty() {
-        return Ok(false);
+) -> Result<bool, OutOfMemory>
+    ensures { IfOk result (λ follows. follows ≡ true → refusal.what ≡ NameUnknown) }
+{
+    match refusal.what {
+        ScriptFault::NameUnknown if !unbound.is_empty() => {
+            is_bound_with(alloc, text, refusal, unbound, ops)
+        }
+        _ => Ok(false),
     }
+}
+
+// The same of a name that is unknown.
+fn is_bound_with(
+    alloc: Global,
+    text: &[u8],
+    refusal: ScriptError,
+    unbound: &[Unbound],
+    ops: &Ops,
+) -> Result<bool, OutOfMemory> {
     if !would_bind(alloc, text, refusal, unbound, ops)? {
         return Ok(false);
     }
@@ -223,56 +297,67 @@ fn push_refused(
     with_refusal: bool,
     ops: &Ops,
     told: &mut Vec<u8>,
-) -> Result<(), OutOfMemory> {
-    if with_refusal {
-        push_refusal(alloc, refusal, told)?;
-    }
-    match detail_of(alloc, text, refusal, ops)? {
-        Some(detail) => push_detail(detail.as_str(), told),
-        None => Ok(()),
-    }
-}
-
-fn push_refusal(
-    alloc: Global,
-    refusal: ScriptError,
-    told: &mut Vec<u8>,
-) -> Result<(), OutOfMemory> {
-    let line = format!(in alloc; "{refusal}\n")?;
+) -> Result<(), OutOfMemory>
+    ensures told { OnOk result (IsRefusalTold with_refusal refusal told.old.items told.new.items) }
+    ensures err { OnErr result (told.new.items ≡ told.old.items) }
+{
+    let detail = detail_of(alloc, text, refusal, ops)?;
+    let line = refused_line(alloc, refusal, with_refusal, &detail)?;
     told.extend_from_slice(line.as_bytes())?;
     Ok(())
 }
 
-fn push_detail(detail: &str, told: &mut Vec<u8>) -> Result<(), OutOfMemory> {
-    told.extend_from_slice(b"  ")?;
-    told.extend_from_slice(detail.as_bytes())?;
-    told.extend_from_slice(b"\n")?;
-    Ok(())
+fn refused_line(
+    alloc: Global,
+    refusal: ScriptError,
+    with_refusal: bool,
+    detail: &Option<String>,
+) -> Result<String, OutOfMemory>
+    ensures { IfOk result (λ line. string_bytes line ≡ refusal_text with_refusal refusal ++ beside_text (option_map (λ told. string_bytes told) detail.now)) }
+{
+    match (with_refusal, detail) {
+        (true, Some(detail)) => Ok(format!(in alloc; "{refusal}\n  {detail}\n")?),
+        (true, None) => Ok(format!(in alloc; "{refusal}\n")?),
+        (false, Some(detail)) => Ok(format!(in alloc; "  {detail}\n")?),
+        (false, None) => Ok(String::new(alloc)),
+    }
 }
 
-fn copied(alloc: Global, text: &[u8]) -> Result<Vec<u8>, OutOfMemory> {
+fn copied(alloc: Global, text: &[u8]) -> Result<Vec<u8>, OutOfMemory>
+    ensures { IfOk result (λ copy. copy.items ≡ text.now) }
+{
     let mut copy = Vec::new(alloc);
     copy.extend_from_slice(text)?;
     Ok(copy)
 }
 
 // The text in which the line with this number, from 1 on, is this one.
-fn with_line(
-    alloc: Global,
-    text: &[u8],
-    number: u32,
-    other: &[u8],
-) -> Result<Vec<u8>, OutOfMemory> {
+fn with_line(alloc: Global, text: &[u8], number: u32, other: &[u8]) -> Result<Vec<u8>, OutOfMemory>
+    ensures { IfOk result (λ changed. changed.items ≡ with_line text.now number other.now) }
+{
     let mut changed = Vec::new(alloc);
-    let mut at: u32 = 0;
-    for line in text.split(|byte| *byte == b'\n') {
-        if at > 0 {
-            changed.push(b'\n')?;
-        }
-        at = at.saturating_add(1);
-        changed.extend_from_slice(if at == number { other } else { line })?;
+    let changes = number.saturating_sub(1) as usize;
+    for (place, line) in text.split(|byte| *byte == b'\n').enumerate() {
+        push_feed(place, &mut changed)?;
+        changed.extend_from_slice(chosen(place == changes, other, line))?;
     }
     Ok(changed)
+}
+
+// Adds what stands before the line with this place, from 0 on.
+fn push_feed(place: usize, changed: &mut Vec<u8>) -> Result<(), OutOfMemory>
+    ensures { OnOk result (changed.new.items ≡ changed.old.items ++ feed_before place) }
+{
+    if place > 0 {
+        changed.push(b'\n')?;
+    }
+    Ok(())
+}
+
+fn chosen<'t>(is_other: bool, other: &'t [u8], line: &'t [u8]) -> &'t [u8]
+    ensures { result.now ≡ cond is_other other.now line.now }
+{
+    if is_other { other } else { line }
 }
 
 // Adds what the line with this number, from 1 on, was to bind, unless no line could bind that there.

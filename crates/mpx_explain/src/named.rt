@@ -2,7 +2,7 @@
 ghost use Rattle.std.specs.Prelude.{◌≡◌, ◌++◌, ◌∷◌, [], IfOk, OnOk, map, take};
 ghost use Rattle.std.specs.List.{flat_map};
 ghost use Rattle.mpx_eval.specs.Found.{complaint_view};
-ghost use Rattle.mpx_explain.specs.Findings.{named_text, named_view, placed, placed_at};
+ghost use Rattle.mpx_explain.specs.Findings.{named_text, named_view, placed_call, placed_at};
 
 use crate::reasons::why_of;
 use join_core::OutOfMemory;
@@ -34,7 +34,7 @@ pub(crate) fn named_calls(
     calls: &[Complaint],
     waiting: Option<&[WaitingRank]>,
 ) -> Result<Vec<NamedCall>, OutOfMemory>
-    ensures { IfOk result (λ named. map named_view named.items ≡ map (placed text.now) (map complaint_view (take 100 calls.now))) }
+    ensures { IfOk result (λ named. map named_view named.items ≡ map (placed_call text.now) (map complaint_view (take 100 calls.now))) }
 {
     let mut named = Vec::new(alloc);
     match push_first(alloc, text, script, calls, waiting, &mut named) {
@@ -56,7 +56,7 @@ fn push_first(
     named: &mut Vec<NamedCall>,
 ) -> Result<(), OutOfMemory>
     requires { named.old.items ≡ [] }
-    ensures { OnOk result (map named_view named.new.items ≡ map (placed text.now) (map complaint_view (take 100 calls.now))) }
+    ensures { OnOk result (map named_view named.new.items ≡ map (placed_call text.now) (map complaint_view (take 100 calls.now))) }
 {
     let Some(first) = calls.first() else {
         return Ok(());

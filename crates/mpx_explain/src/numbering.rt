@@ -1,7 +1,7 @@
 //! The numbers of calls on `world`.
 ghost use Rattle.std.specs.Prelude.{◌≡◌, [], IfOk, length, map, slice_index_or};
 ghost use Rattle.mpx_eval.specs.Found.{complaint_view};
-ghost use Rattle.mpx_explain.specs.RunEnds.{is_of, marked_by, marks_of, with_mark};
+ghost use Rattle.mpx_explain.specs.RunEnds.{is_complaint_of, marked_by, marks_of, with_mark};
 
 use join_core::OutOfMemory;
 use mpx_eval::Complaint;
@@ -74,7 +74,7 @@ fn mark(rank: u8, start: &[u8], complaint: &Complaint, marks: &mut Vec<bool>)
 }
 
 fn is_of(rank: u8, start: &[u8], complaint: &Complaint) -> bool
-    ensures { result ≡ is_of rank start.now (complaint_view complaint.now) }
+    ensures { result ≡ is_complaint_of rank start.now (complaint_view complaint.now) }
 {
     complaint.rank == rank && complaint.text.as_bytes().starts_with(start)
 }

@@ -4,7 +4,7 @@ ghost use Rattle.std.specs.List.{All, flat_map};
 ghost use Rattle.mpx_num.specs.Text.{number_text};
 ghost use Rattle.mpx_num.specs.Types.{IsOutOfRange};
 ghost use Rattle.mpx_waiting.specs.ToldLines.{more_text};
-ghost use Rattle.mpx_explain.specs.Overflows.{AreOverflows, IsKnownAs, IsOverflow, IsPast, overflow_text, past_text, type_word, what_text};
+ghost use Rattle.mpx_explain.specs.Overflows.{AreOverflows, IsKnownAs, IsOverflow, IsPast, overflow_text, past_text, type_word, past_result_text};
 
 use crate::exact::{exact_of, posted_at, reduced, taken};
 use crate::past::{Candidate, Part, candidates_of, columns_of};
@@ -250,7 +250,7 @@ fn push_what(
     exact: Option<i128>,
     told: &mut Vec<u8>,
 ) -> Result<(), OutOfMemory>
-    ensures { OnOk result (told.new.items ≡ told.old.items ++ what_text ty exact) }
+    ensures { OnOk result (told.new.items ≡ told.old.items ++ past_result_text ty exact) }
 {
     match exact {
         Some(exact) => push_exact(alloc, ty, exact, told),
@@ -263,7 +263,7 @@ fn push_what(
 }
 
 fn push_exact(alloc: Global, ty: Ty, exact: i128, told: &mut Vec<u8>) -> Result<(), OutOfMemory>
-    ensures { OnOk result (told.new.items ≡ told.old.items ++ what_text ty (Some exact)) }
+    ensures { OnOk result (told.new.items ≡ told.old.items ++ past_result_text ty (Some exact)) }
 {
     push_past(alloc, ty, exact, told)?;
     push_given(alloc, into_range(ty, exact), told)

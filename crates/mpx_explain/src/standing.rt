@@ -1,6 +1,6 @@
 //! At which statement a rank waits at the end of a run, by how many lines it has.
 ghost use Rattle.std.specs.Prelude.{◌≡◌, IfOk, cond, false, slice_index_or};
-ghost use Rattle.mpx_explain.specs.RunEnds.{first_untold, lines_in, lines_of, refused_in, waits_at};
+ghost use Rattle.mpx_explain.specs.RunEnds.{first_untold, line_count, lines_of, refused_in, waiting_place};
 
 use crate::ended::EndedRun;
 use crate::numbering::marked;
@@ -22,7 +22,7 @@ pub(crate) fn refused_in(
 /// The place of the statement at which a rank waits, if it does.
 pub(crate) fn waits_at(run: &EndedRun<'_>, rank: u8, refused: &[bool]) -> Option<usize>
     requires { refused.now ≡ refused_in run.now rank }
-    ensures { result ≡ waits_at run.now rank }
+    ensures { result ≡ waiting_place run.now rank }
 {
     if !run.waiting.contains(&rank) {
         return None;
@@ -32,7 +32,7 @@ pub(crate) fn waits_at(run: &EndedRun<'_>, rank: u8, refused: &[bool]) -> Option
 
 // How many lines a rank has.
 fn lines_in(run: &EndedRun<'_>, rank: u8) -> usize
-    ensures { result ≡ lines_in run.now rank }
+    ensures { result ≡ line_count run.now rank }
 {
     match run.lines.get(usize::from(rank)) {
         Some(lines) => *lines,
