@@ -186,7 +186,7 @@ fn kept_steps(mut steps: Vec<Step>) -> KeptSteps
     }
 }
 
-// The order of any two names. Most have one step, to a child: these are compared where names are looked for.
+// The order of any two names. Most have no step, or one to a child: these are compared where names are looked for.
 #[inline(never)]
 fn order_of(mine: &[Step], theirs: &[Step]) -> Ordering
     ensures { result ≡ slice_cmp step_cmp mine.now theirs.now }
@@ -215,6 +215,9 @@ impl Ord for Name {
 
     fn cmp(&self, other: &Name) -> Ordering {
         match (&self.steps, &other.steps) {
+            (KeptSteps::None, KeptSteps::None) => Ordering::Equal,
+            (KeptSteps::None, KeptSteps::One([_step])) => Ordering::Less,
+            (KeptSteps::One([_step]), KeptSteps::None) => Ordering::Greater,
             (
                 KeptSteps::One([Step::Child { call, colour }]),
                 KeptSteps::One([Step::Child { call: k, colour: c }]),
