@@ -48,7 +48,7 @@ abbrev max_with : Max → ℕ → Max
 max_with m n = record { 0 = max m.0 n }
 
 -- a process and a number stand at the front
-abbrev ReadsRow : (bytes after : List ℕ) → (p n : ℕ) → Type 0
+abbrev pub ReadsRow : (bytes after : List ℕ) → (p n : ℕ) → Type 0
 ReadsRow bytes after p n = (both byte (λ q. number w32)).read bytes ≡ Ok ((p, n), after)
 
 -- the number at the place is raised to this one

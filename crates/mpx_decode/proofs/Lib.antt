@@ -3,7 +3,8 @@ pub mod Members
 pub mod Integers
 pub mod PostLimits
 pub mod RightRows
-mod Fours
+pub mod Fours
+pub mod ToldRows
 pub mod OneRow
 pub mod RaisedRows
 pub mod Taken

@@ -17,6 +17,7 @@ ghost use Rattle.mpx_decode.specs.Raising.{JoinsFront, RaisesRow, RaisesRows, St
 use crate::big_endian::read_u8;
 use crate::fields::read_some_names;
 use crate::join_rows::{FrontKey, WireJoin, raise_entry, raise_placed};
+use crate::told_rows::behind_told;
 use join_core::OutOfMemory;
 use join_nest::Keyed;
 use mpx_board::{Acks, VersionVector};
@@ -230,6 +231,9 @@ fn raise_some<'a>(
         if same <= most {
             return Ok((same, next + same, after));
         }
+    }
+    if let Some(after) = behind_told(entries.as_slice(), next, bytes) {
+        return Ok((1, next + 1, after));
     }
     let (at, after) = raise_row(version, beyond, entries, kept, next, bytes)?;
     Ok((1, at, after))

@@ -28,6 +28,7 @@ mod neighbours;
 mod posts;
 mod process_numbers;
 mod taking;
+mod told_rows;
 
 pub use codes::read_version;
 pub use contexts::read_parts;

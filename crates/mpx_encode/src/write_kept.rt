@@ -93,9 +93,10 @@ fn keep_piece(rows: &[(Name, VersionVector)], piece: &mut Rope) -> Result<(), Ou
     requires unknown { piece.old ≡ [] }
     ensures { IsPiece piece.new (seen view_of_numbers rows.now) }
 {
-    if room_after_entries(rows, MOST_BYTES).is_none() {
+    let Some(left) = room_after_entries(rows, MOST_BYTES) else {
         return Ok(());
-    }
+    };
+    piece.reserve(MOST_BYTES.saturating_sub(left))?;
     match write_entries(rows, piece) {
         Ok(()) => Ok(()),
         Err(e) => {

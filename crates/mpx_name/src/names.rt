@@ -2,12 +2,13 @@
 ghost use Rattle.std.specs.Prelude.{◌≡◌, ◌≢◌, ◌<◌, ◌-◌, ◌^◌, ◌↔◌, List, [], ◌∷◌, reverse, length, slice_get, option_copied, IfOk, IfSome, OnErr, OnOk, IsErrOf, IsOkUnless, refl};
 ghost use Rattle.std.specs.declared.cmp.Ordering.TheVariants.{Less};
 ghost use Rattle.std.specs.Cmp.{IsTotalOrder, partial_equiv_from_equiv, partial_order_from_total, eq_by_cmp_equiv};
+ghost use Rattle.std.specs.Cmp.Lexicographic.{slice_cmp};
 ghost use Rattle.std.specs.FinMap.{IsAntisymmetric};
 ghost use Rattle.std.specs.Ordering.{eq_by_cmp, as_partial_cmp};
 ghost use Rattle.join_core.specs.Joins.{never_between, never_joined};
 ghost use Rattle.mpx_name.specs.declared.steps.Step.{Step};
 ghost use Rattle.mpx_name.specs.declared.steps.Step.TheVariants.{Child, Gathering};
-ghost use Rattle.mpx_name.specs.Order.{name_cmp, name_total, name_exact, name_equality};
+ghost use Rattle.mpx_name.specs.Order.{name_cmp, name_total, name_exact, name_equality, step_cmp};
 ghost use Rattle.mpx_name.specs.Kept.{kept};
 ghost use Rattle.mpx_name.specs.Name.{IsStep, IsName, is_gathering, parent_of};
 
@@ -185,6 +186,14 @@ fn kept_steps(mut steps: Vec<Step>) -> KeptSteps
     }
 }
 
+// The order of any two names. Most have no step, or one to a child: these are compared where names are looked for.
+#[inline(never)]
+fn order_of(mine: &[Step], theirs: &[Step]) -> Ordering
+    ensures { result ≡ slice_cmp step_cmp mine.now theirs.now }
+{
+    mine.cmp(theirs)
+}
+
 fn copied(alloc: Global, steps: &[Step]) -> Result<Vec<Step>, OutOfMemory>
     ensures { IfOk result (λ made. made.items ≡ steps.now) }
 {
@@ -205,12 +214,16 @@ impl Ord for Name {
     ghost matches_eq = { λ a b. refl };
 
     fn cmp(&self, other: &Name) -> Ordering {
-        let mine = self.steps();
-        let theirs = other.steps();
-        if mine.len() == 1 && theirs.len() == 1 {
-            return mine[0].cmp(&theirs[0]);
+        match (&self.steps, &other.steps) {
+            (KeptSteps::None, KeptSteps::None) => Ordering::Equal,
+            (KeptSteps::None, KeptSteps::One([_step])) => Ordering::Less,
+            (KeptSteps::One([_step]), KeptSteps::None) => Ordering::Greater,
+            (
+                KeptSteps::One([Step::Child { call, colour }]),
+                KeptSteps::One([Step::Child { call: k, colour: c }]),
+            ) => call.cmp(k).then(colour.cmp(c)),
+            _ => order_of(self.steps(), other.steps()),
         }
-        mine.cmp(theirs)
     }
 }
 
