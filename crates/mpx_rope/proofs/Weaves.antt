@@ -165,11 +165,6 @@ module _ (from : ℕ) (own : List ℕ) where
   near_within [] p = omega arith
   near_within (s ∷ ss) p = front_within from own s ss p
 
-  -- the places behind what is near
-  near_placed : (ss : List (ℕ × List ℕ)) → ArePlaced from (from + length own) ss → ArePlaced (from + near_len from own ss) (from + length own) ss
-  near_placed [] p = omega arith
-  near_placed (s ∷ ss) p = (omega (arith, p.0), p.1)
-
   -- what is near stands before what lies beyond
   near_woven : (ss : List (ℕ × List ℕ)) → ArePlaced from (from + length own) ss → woven from own ss ≡ take (near_len from own ss) own ++ woven (from + near_len from own ss) (drop (near_len from own ss) own) ss
   near_woven [] p = sym (take-append-drop (length own) own)
@@ -198,12 +193,6 @@ module _ (end n : ℕ) (own : List ℕ) (ss : List (ℕ × List ℕ)) (inside : 
 
   moved : end - length (drop n own) ≡ from + n
   moved = omega (arith, length-drop n own, within, inside.0)
-
-  pub beyond_placed : (length (drop n own) ≤ end) × ArePlaced (end - length (drop n own)) end ss
-  beyond_placed =
-      let there : ArePlaced (from + n) (from + length own) ss = subst (λ k. ArePlaced (from + k) (from + length own) ss) (sym is) (near_placed from own ss placed) in
-      let whole : from + length own ≡ end = omega (arith, inside.0) in
-      (omega (arith, length-drop n own, inside.0), subst (λ (x : ℕ × ℕ). ArePlaced x.0 x.1 ss) (λ i. (sym moved i, whole i)) there)
 
   pub beyond_woven : woven from own ss ≡ take n own ++ woven (end - length (drop n own)) (drop n own) ss
   beyond_woven =
