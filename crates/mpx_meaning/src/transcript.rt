@@ -164,8 +164,7 @@ fn numbers_line(alloc: Global, numbers: &[i128]) -> Result<String, OutOfMemory>
 fn push_spaced_number(text: &mut String, number: i128) -> Result<(), OutOfMemory>
     ensures { OnOk result (string_bytes text.new ≡ string_bytes text.old ++ 32 ∷ number_text number) }
 {
-    text.push_str(" ")?;
-    push_number(text, number)?;
+    write!(text, " {number}")?;
     Ok(())
 }
 
