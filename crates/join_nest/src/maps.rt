@@ -10,6 +10,7 @@ ghost use Rattle.join_nest.specs.Placed.{with_values, with_values_under};
 ghost use Rattle.join_nest.specs.Prepared.{joined_there, put_over};
 ghost use Rattle.join_nest.specs.Seen.{keyed_view, seen};
 
+use crate::ends::lookup_from_ends;
 use crate::entries::{
     all_below, join_entries, lacking, lookup, merged, place_of_key, push_copies, put_entry,
     replace_entry, same_entries,
@@ -103,6 +104,14 @@ impl<K: Key, J: Exact> Keyed<K, J> {
         ensures { option_map J.view (option_copied result) ≡ get (⟦<Keyed<K, J> as Exact>⟧.view self.now) key.now }
     {
         lookup(&self.entries, key)
+    }
+
+    /// The value at the key, as [`Keyed::get`] answers. The last key and the first are looked at before the others: for a map in which most that
+    /// is asked for stands there, and whose keys are dear to compare.
+    pub fn get_from_ends(&self, key: &K) -> Option<&J>
+        ensures { option_map J.view (option_copied result) ≡ get (⟦<Keyed<K, J> as Exact>⟧.view self.now) key.now }
+    {
+        lookup_from_ends(&self.entries, key)
     }
 
     /// The entries in the rising order of their keys.

@@ -344,7 +344,7 @@ impl Board {
     pub(crate) fn lifted(&self, name: &Name) -> Option<&Lifted>
         ensures { option_map view_of_lifted (option_copied result) ≡ get (parts_of self.now).0 name.now }
     {
-        self.inside.first.get(name)
+        self.inside.first.get_from_ends(name)
     }
 
     // The entry of the context with this name, where it is live.

@@ -13,6 +13,9 @@ use mpx_post::PostError;
 use mpx_value::{FaultKind, Outcome};
 use std::alloc::Global;
 
+// So many bytes a number has room for from the first, with the space before it: most have fewer, and a line grows where that isn't so.
+const ROOM: usize = 8;
+
 /// The line of a transcript that tells an outcome: the numbers with one space between them, `empty` where there are
 /// none, `ok` where the call gives nothing, `none` where there is nothing to give, `comm SIZE RANK` of
 /// a new communicator, `null` where the rank gets none, or `fault NAME at RANK`.
@@ -149,7 +152,7 @@ fn numbers_line(alloc: Global, numbers: &[i128]) -> Result<String, OutOfMemory>
     let Some((first, rest)) = numbers.split_first() else {
         return Ok(String::from_str(alloc, "empty")?);
     };
-    let mut text = String::new(alloc);
+    let mut text = String::with_capacity(alloc, numbers.len().saturating_mul(ROOM))?;
     push_number(&mut text, *first)?;
     for number in rest {
         push_spaced_number(&mut text, *number)?;

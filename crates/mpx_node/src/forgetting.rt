@@ -2,6 +2,7 @@
 ghost use Rattle.std.specs.Prelude.{◌≡◌};
 
 use crate::node::Node;
+use crate::opened::opened_on;
 use mpx_name::Name;
 
 impl Node {
@@ -25,7 +26,7 @@ impl Node {
     pub fn forgotten(&self, name: &Name) -> u32
         ensures { result ≡ forgotten_on (node_of self.now) name.now }
     {
-        match self.opened.get(name) {
+        match opened_on(&self.opened, name) {
             None => 0,
             Some(opened) => opened.gone(),
         }

@@ -6,7 +6,7 @@ ghost use Rattle.mpx_board.specs.Looks.{look, parts_of};
 ghost use Rattle.mpx_node.specs.Keeping.{IsKept, IsKept-prop};
 
 use crate::finished::Finished;
-use crate::opened::Opened;
+use crate::opened::{Opened, opened_on};
 use crate::opening::{open, store_and_open};
 use crate::results::{children_on, finished, has_result, prepared_harvest};
 use crate::starting::{board_at_start, opened_at_start, prepared_gathering};
@@ -123,7 +123,7 @@ impl Node {
     pub fn refusal(&self, name: &Name, draft: &Draft, ops: &Ops) -> Option<PostError>
         ensures { result ≡ refusal_of (checked_on (⟦<Ops as Listing>⟧.operations ops.now) (node_of self.now) name.now draft.now) }
     {
-        let Some(opened) = self.opened.get(name) else {
+        let Some(opened) = opened_on(&self.opened, name) else {
             return Some(PostError::NotMember);
         };
         if opened.freed {
@@ -143,7 +143,7 @@ impl Node {
         ensures { Harvests (⟦<Ops as Listing>⟧.operations ops.now) (is_some ((node_of self.old).opened name.now)) name.now (next_result (⟦<Ops as Listing>⟧.operations ops.now) (node_of self.old) name.now)
             result (node_of self.old) (node_of self.new) }
     {
-        let Some(opened) = self.opened.get(name) else {
+        let Some(opened) = opened_on(&self.opened, name) else {
             return Ok(Harvest::NotOpened);
         };
         let call = opened.front();
@@ -175,7 +175,7 @@ impl Node {
     ) -> Result<Name, PostError>
         ensures { Opens parent.now (gathers_on (node_of self.old) parent.now tag ranks.now) result (node_of self.old) (node_of self.new) }
     {
-        let Some(opened) = self.opened.get(parent) else {
+        let Some(opened) = opened_on(&self.opened, parent) else {
             return Err(PostError::NotMember);
         };
         if opened.freed {
@@ -197,7 +197,7 @@ impl Node {
     pub fn result(&self, name: &Name, call: u32) -> Option<&Finished>
         ensures { option_copied result ≡ result_on (node_of self.now) name.now call }
     {
-        match self.opened.get(name) {
+        match opened_on(&self.opened, name) {
             None => None,
             Some(opened) => opened.result(call),
         }
@@ -207,7 +207,7 @@ impl Node {
     pub fn posted(&self, name: &Name) -> u32
         ensures { result ≡ posted_on (node_of self.now) name.now }
     {
-        match self.opened.get(name) {
+        match opened_on(&self.opened, name) {
             None => 0,
             Some(opened) => opened.posted,
         }
@@ -217,7 +217,7 @@ impl Node {
     pub fn front(&self, name: &Name) -> u32
         ensures { result ≡ front_on (node_of self.now) name.now }
     {
-        match self.opened.get(name) {
+        match opened_on(&self.opened, name) {
             None => 0,
             Some(opened) => opened.front(),
         }
@@ -227,7 +227,7 @@ impl Node {
     pub fn has_freed(&self, name: &Name) -> bool
         ensures { result ≡ freed_on (node_of self.now) name.now }
     {
-        match self.opened.get(name) {
+        match opened_on(&self.opened, name) {
             None => false,
             Some(opened) => opened.freed,
         }

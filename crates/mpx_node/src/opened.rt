@@ -1,10 +1,13 @@
 //! How far a process is on a context that it has opened.
 ghost use Rattle.std.specs.Prelude.{◌≡◌, ◌+◌, ◌-◌, drop, length, nat_le, slice_get, true, false};
 ghost use Rattle.std.specs.Option.{option_copied, option_map_or};
+ghost use Rattle.std.specs.BTreeMap.{get};
+ghost use Rattle.mpx_name.specs.Order.{name_cmp};
 
 use crate::finished::Finished;
+use mpx_name::Name;
 use std::alloc::Global;
-use std::collections::VecDeque;
+use std::collections::{BTreeMap, VecDeque};
 
 // What a process has done on a context that it has opened: how many calls it has posted, the results of those that it has
 // harvested, of which there are no more, and whether it has posted a free. That isn't looked up on the board, which tells
@@ -105,4 +108,22 @@ fn drop_first(results: &mut VecDeque<Finished>, more: u32)
     for _ in 0..more {
         results.pop_front();
     }
+}
+
+// What is opened with this name. The last name and the first are looked at before the others: the last is mostly the one that was
+// opened last, and the first is the world.
+pub fn opened_on<'a>(opened: &'a BTreeMap<Name, Opened>, name: &Name) -> Option<&'a Opened>
+    ensures { option_copied result ≡ get name_cmp opened.now name.now }
+{
+    if let Some((last, found)) = opened.last_key_value() {
+        if last == name {
+            return Some(found);
+        }
+    }
+    if let Some((first, found)) = opened.first_key_value() {
+        if first == name {
+            return Some(found);
+        }
+    }
+    opened.get(name)
 }

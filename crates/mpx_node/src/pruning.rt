@@ -5,6 +5,7 @@ ghost use Rattle.mpx_board.specs.Changes.{pruned, pruned_on};
 ghost use Rattle.mpx_board.specs.Looks.{look};
 
 use crate::node::Node;
+use crate::opened::opened_on;
 use mpx_board::{Board, PruneError};
 use mpx_name::Name;
 
@@ -38,7 +39,7 @@ impl Node {
     pub fn is_past_free(&self, name: &Name, number: u32) -> bool
         ensures { result ≡ is_past_free (results_on (node_of self.now) name.now) number }
     {
-        match self.opened.get(name) {
+        match opened_on(&self.opened, name) {
             None => false,
             Some(opened) => opened.is_past_free(number),
         }

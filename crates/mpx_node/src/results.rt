@@ -1,10 +1,10 @@
 //! What the board tells of a call: its result, and what it makes.
-ghost use Rattle.std.specs.Prelude.{◌≡◌, ◌<◌, ◌∷◌, [], IfOk, is_some};
+ghost use Rattle.std.specs.Prelude.{◌≡◌, ◌<◌, ◌∷◌, [], List, Some, true, IfOk, is_some};
+ghost use Rattle.mpx_num.specs.declared.own.Operation.{Operation};
 ghost use Rattle.mpx_board.specs.Boards.{Front, join, join_all, only, told};
 ghost use Rattle.mpx_board.specs.Looks.{look};
 ghost use Rattle.mpx_board.specs.Prepared.{IsReady};
 ghost use Rattle.mpx_post.specs.Drafts.{most_calls};
-ghost use Rattle.mpx_post.specs.Rows.{all_of};
 ghost use Rattle.mpx_node.specs.Nodes.{births_of, children_on, outcome_on, result_of};
 
 use crate::finished::Finished;
@@ -14,7 +14,7 @@ use mpx_board::{Board, Prepared};
 use mpx_group::Proc;
 use mpx_name::Name;
 use mpx_num::{Listing, Ops};
-use mpx_value::{Outcome, children, outcome};
+use mpx_value::{Outcome, children, makes_none, outcome};
 use std::alloc::Global;
 
 // Whether the board has the birth and the posts of all members to a call, of which the process is one. No operation is asked
@@ -27,18 +27,9 @@ pub fn has_result(board: &Board, name: &Name, me: Proc, call: u32) -> bool
         Some(birth) => {
             board.holds(name, call, me).is_some()
                 && birth.rank_of(me).is_some()
-                && have_posted(board, name, call, birth.members())
+                && board.has_row(name, call)
         }
     }
-}
-
-// Whether the board has the posts of all of these to a call.
-fn have_posted(board: &Board, name: &Name, call: u32, members: &[Proc]) -> bool
-    ensures { result ≡ is_some (all_of (λ p. told (((look board.now).contexts name.now).posts call p)) members.now) }
-{
-    members
-        .iter()
-        .all(|member| board.holds(name, call, *member).is_some())
 }
 
 // The result of a call on a context, where the board has the birth and the posts of all members.
@@ -92,6 +83,16 @@ fn outcome_on(
     Ok(Some(outcome(alloc, birth, &row, name, call, rank, ops)?))
 }
 
+// Whether the first member's post tells that the call makes no communicators.
+fn makes_none_on(board: &Board, name: &Name, call: u32, birth: &Birth) -> bool
+    ensures { result ≡ true → (ops : List Operation) → told ((look board.now).contexts name.now).birth ≡ Some birth.now → children_on ops (look board.now) name.now call ≡ [] }
+{
+    match board.holds(name, call, birth.members()[0]) {
+        None => false,
+        Some(first) => makes_none(first),
+    }
+}
+
 // The communicators that a call makes, where the board has the birth and the posts of all members: names and births.
 pub fn children_on(
     alloc: Global,
@@ -106,6 +107,9 @@ pub fn children_on(
     let Some(birth) = board.birth(name) else {
         return Ok(Vec::new(alloc));
     };
+    if makes_none_on(board, name, call, birth) {
+        return Ok(Vec::new(alloc));
+    }
     let Some(row) = board.row(alloc, name, call)? else {
         return Ok(Vec::new(alloc));
     };

@@ -1,10 +1,13 @@
 //! Which communicators a call makes.
-ghost use Rattle.std.specs.Prelude.{◌≡◌, ◌<◌, ◌≤◌, ◌^◌, ◌∷◌, IfOk, OnErr, Some, false, length};
+ghost use Rattle.std.specs.Prelude.{◌≡◌, ◌<◌, ◌≤◌, ◌^◌, ◌∷◌, [], ℕ, List, IfOk, OnErr, Some, false, true, length};
 ghost use Rattle.std.specs.List.{All};
 ghost use Rattle.mpx_group.specs.Group.{has_twice};
 ghost use Rattle.mpx_name.specs.declared.steps.Step.TheVariants.{Child};
 ghost use Rattle.mpx_post.specs.Agreement.{IsFine, first_of};
-ghost use Rattle.mpx_birth.specs.Births.{of_members};
+ghost use Rattle.mpx_birth.specs.Births.{BirthView, of_members};
+ghost use Rattle.mpx_name.specs.Name.{Name as NameView};
+ghost use Rattle.mpx_num.specs.declared.own.Operation.{Operation};
+ghost use Rattle.mpx_post.specs.Rows.{RowView};
 ghost use Rattle.mpx_post.specs.Drafts.{most_calls, most_steps};
 ghost use Rattle.mpx_graph.specs.Graphs.{adjacent, general};
 ghost use Rattle.mpx_value.specs.Children.{MakesSome, children, children_in, has_room as has_room_for, named_children, only_child, processes};
@@ -19,7 +22,7 @@ use mpx_kind::{Kind, NewCommunicator};
 use mpx_match::{Verdict, verdict};
 use mpx_name::{Name, NameError};
 use mpx_num::{Listing, Ops};
-use mpx_post::Row;
+use mpx_post::{Post, Row};
 use std::alloc::Global;
 
 // So many steps a name has at most.
@@ -55,6 +58,13 @@ pub fn children(
             }
         }
     }
+}
+
+/// Whether a call makes no communicators, whatever the other members post, where rank 0 posts this.
+pub fn makes_none(first: &Post) -> bool
+    ensures { result ≡ true → (ops : List Operation) (birth : BirthView) (row : RowView) (name : NameView) (call : ℕ) → first_of row ≡ first.now → children ops birth row name call ≡ [] }
+{
+    !first.kind().makes_communicators()
 }
 
 // Whether the name can have one step more.

@@ -13,7 +13,7 @@ mod outcomes;
 mod splits;
 mod values;
 
-pub use births::children;
+pub use births::{children, makes_none};
 pub use laws::{children_are_told_apart, children_are_within, new_communicators_are_children};
 pub use mpx_match::{Fault, FaultKind};
 pub use outcomes::Outcome;
