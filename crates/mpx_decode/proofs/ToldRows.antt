@@ -15,6 +15,7 @@ use Rattle.join_nest.specs.Seen.{keyed_view, seen}
 use Rattle.mpx_name.specs.Name.{Name}
 use Rattle.mpx_name.specs.Order.{name_cmp, name_exact, name_total}
 use Rattle.mpx_board.specs.Parts.{OfProcesses, numbers_joining}
+use Rattle.mpx_format.specs.Format.{Format}
 use Rattle.mpx_format.specs.Fields.{name, numbers, process, some_byte, some_calls}
 use Rattle.mpx_format.proofs.FieldLaws.{process_laws, some_byte_laws, some_calls_laws}
 use Rattle.mpx_format.proofs.FormatLaws.{both_laws}
@@ -79,14 +80,18 @@ told_numbers m es h is bytes rest after more are count r stands =
       joined = is ∙ g.joined ∙ ap (λ (o : OfProcesses ℕ). numbers_joining.join o g.value) (sym is);
     }
 
+-- a row that changes nothing at its key
+pub told_at : {K J V : Type 0} {R : K → K → Ordering} (o : IsTotalOrder R) (exact : IsAntisymmetric R) (view : J → V) (key : Format K) (value : Format V) (j : Joining V) (es : List (K × J)) → is_sorted R es ≡ true → (at : ℕ) → at < length es → (e : K × J) → e ≡ get_or es at e
+    → (bytes after rest : List ℕ) → key.read bytes ≡ Ok (e.0, after) → JoinsFront value j after rest (view e.1) (view e.1) → RaisesRow R view (row key value) j bytes rest es es
+told_at o exact view key value j es h at lt e is bytes after rest read g = record {
+  key = e.0;
+  value = g.value;
+  read = row_read key value bytes e.0 after read g.value rest g.read;
+  joined = joined_below o exact view es h at e lt is j g.value g.joined;
+}
+
 -- a row whose numbers change nothing at its name
 pub told_entry : {J : Type 0} (view : J → OfProcesses ℕ) (es : List (Name × J)) → is_sorted name_cmp es ≡ true → (at : ℕ) → at < length es → (e : Name × J) → e ≡ get_or es at e → (bytes after rest : List ℕ) → name.read bytes ≡ Ok (e.0, after)
     → StandsInFront (row name numbers) bytes → (StandsInFront numbers after → JoinsFront numbers numbers_joining after rest (view e.1) (view e.1)) → RaisesRow name_cmp view (row name numbers) numbers_joining bytes rest es es
 told_entry view es h at lt e is bytes after rest read stands told =
-    let g = told (value_stands name numbers bytes e.0 after read stands) in
-    record {
-      key = e.0;
-      value = g.value;
-      read = row_read name numbers bytes e.0 after read g.value rest g.read;
-      joined = joined_below name_total name_exact view es h at e lt is numbers_joining g.value g.joined;
-    }
+    told_at name_total name_exact view name numbers numbers_joining es h at lt e is bytes after rest read (told (value_stands name numbers bytes e.0 after read stands))

@@ -262,6 +262,16 @@ impl WireJoin for Lifted {
         }
     }
 
+    fn only_byte(&self, version: Version) -> Option<u8> {
+        match version {
+            Version::One => None,
+            Version::Two => match self {
+                Lift::Live(_) => None,
+                Lift::Dead => Some(1),
+            },
+        }
+    }
+
     ghost laws = { lifted_laws };
 
     ghost between_laws = { lifted_between_laws };

@@ -1,5 +1,5 @@
 //! Values joined as their bytes are read. The bytes are known to be spelled, so a refusal is want of memory.
-ghost use Rattle.std.specs.Prelude.{◌≡◌, ◌++◌, ◌<◌, ℕ, IfOk, List, IfSome, IsTrue, Ok, OnErr, length, ◌≤◌};
+ghost use Rattle.std.specs.Prelude.{◌≡◌, ◌++◌, ◌∷◌, ◌<◌, ℕ, IfOk, List, IfSome, IsTrue, Ok, OnErr, length, ◌≤◌};
 ghost use Rattle.std.specs.FinMap.{is_sorted};
 ghost use Rattle.join_core.specs.Joins.{BetweenLaws, JoinLaws, Joining};
 ghost use Rattle.join_nest.specs.Keyed.{keyed_joining};
@@ -58,6 +58,13 @@ pub trait WireJoin: Drop {
         ensures err { OnErr result (StopsBetween (wire version) between (bytes.now ++ beyond.old) (view self.old) (view self.new)) }
         ensures less { length beyond.new ≤ length beyond.old };
 
+    /// The byte that is all its spelling, where that is known: joined to this one, it changes nothing.
+    fn only_byte(&self, version: Version) -> Option<u8>
+        ensures { IfSome result (λ byte. (more : List ℕ) → JoinsFront (wire version) joining (byte ∷ more) more (view self.now) (view self.now)) }
+    {
+        None
+    }
+
     ghost laws: { JoinLaws joining };
 
     ghost between_laws: { BetweenLaws joining between };
@@ -108,11 +115,38 @@ pub fn raise_entries<'a, K: Key + FrontKey, J: WireJoin>(
     let mut next = 0usize;
     let mut rest = bytes;
     for _ in 0..count {
+        if let Some(after) = behind_same(version, entries.as_slice(), next, rest) {
+            next += 1;
+            rest = after;
+            continue;
+        }
         let (after, left) = raise_entry(version, beyond, entries, next, rest)?;
         next = after;
         rest = left;
     }
     Ok(rest)
+}
+
+// The bytes behind the entry at the front, where it has the key at this place, and its value there is spelled by a byte that stands behind.
+fn behind_same<'a, K: Key + FrontKey, J: WireJoin>(
+    version: Version,
+    entries: &[(K, J)],
+    at: usize,
+    bytes: &'a [u8],
+) -> Option<&'a [u8]>
+    requires rising { IsTrue (is_sorted K.cmp entries.now) }
+    ensures within { IfSome result (λ rest. at < length entries.now) }
+    ensures same { IfSome result (λ rest. (more : List ℕ)
+        → RaisesRow K.cmp J.view (row K.format (J.wire version)) J.joining (bytes.now ++ more) (rest.now ++ more) entries.now entries.now) }
+{
+    if entries.len() <= at {
+        return None;
+    }
+    let entry = &entries[at];
+    let byte = entry.1.only_byte(version)?;
+    let after = entry.0.behind(bytes)?;
+    let (first, rest) = after.split_first()?;
+    if *first == byte { Some(rest) } else { None }
 }
 
 // Joins the entry at the front, whose key stands at this place, or where else it may. Tells the place after it.

@@ -27,6 +27,11 @@ pub told_as : {E : Type 0} (answer : Result (Unit {0}) E) (old new xs ys : List 
 told_as (Ok u) old new xs ys is h = h ∙ ap (λ l. old ++ l) is
 told_as (Err e) old new xs ys is h = h
 
+-- and these behind what is spelled
+pub told_before : {E : Type 0} (answer : Result (Unit {0}) E) (old new xs ys more : List ℕ) → xs ≡ ys → OnOk answer (new ≡ old ++ (xs ++ more)) → OnOk answer (new ≡ (old ++ ys) ++ more)
+told_before (Ok u) old new xs ys more is h = h ∙ sym (append_assoc old xs more) ∙ ap (λ l. (old ++ l) ++ more) is
+told_before (Err e) old new xs ys more is h = h
+
 module _ {K V : Type 0} (R : K → K → Ordering) (count : Format ℕ) (key : Format K) (value : Format V) (says : V → Bool) (m : FinMap R V) (es : List (K × V)) where
   pub keyed_spelling : es ≡ entries m → (keyed R count key value says).spelling m ≡ count.spelling (length es) ++ entries_spelled key value es
   keyed_spelling is =

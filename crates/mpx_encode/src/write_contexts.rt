@@ -189,6 +189,14 @@ impl WriteValue for Lifted {
             Lift::Dead => write_u8(1, out),
         }
     }
+
+    #[tactic(auto, unfolding(mpx_format::specs::Contexts::lifted))]
+    fn only_byte(&self) -> Option<u8> {
+        match self {
+            Lift::Live(_) => None,
+            Lift::Dead => Some(1),
+        }
+    }
 }
 
 impl WriteValue for Acks {

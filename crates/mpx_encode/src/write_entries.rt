@@ -1,5 +1,5 @@
 //! Keys and values that are written, and lists of them.
-ghost use Rattle.std.specs.Prelude.{◌≡◌, ◌+◌, ◌++◌, ◌&&◌, OnOk, IfSome, true, Bool, length};
+ghost use Rattle.std.specs.Prelude.{◌≡◌, ◌+◌, ◌++◌, ◌∷◌, [], ◌&&◌, OnOk, IfSome, true, Bool, length};
 ghost use Rattle.std.specs.List.{flat_map, list_all};
 ghost use Rattle.join_nest.specs.Seen.{seen};
 ghost use Rattle.mpx_format.specs.Format.{Format};
@@ -7,6 +7,7 @@ ghost use Rattle.mpx_encode.specs.Room.{room_left};
 ghost use Rattle.mpx_encode.specs.Entries.{entry_spelled, entries_spelled, both_pass};
 
 use crate::room::room_left;
+use crate::write_numbers::write_u8;
 use join_core::OutOfMemory;
 use mpx_rope::Rope;
 
@@ -27,6 +28,15 @@ pub trait WriteKey: Ord + Drop {
     fn write(&self, out: &mut Rope) -> Result<(), OutOfMemory>
         requires { format.fits self.now ≡ true }
         ensures { OnOk result (out.new ≡ out.old ++ format.spelling self.now) };
+
+    /// Writes it at the end, and this byte behind it.
+    fn write_before(&self, byte: u8, out: &mut Rope) -> Result<(), OutOfMemory>
+        requires { format.fits self.now ≡ true }
+        ensures { OnOk result (out.new ≡ out.old ++ format.spelling self.now ++ byte ∷ []) }
+    {
+        self.write(out)?;
+        write_u8(byte, out)
+    }
 }
 
 /// A value that is written.
@@ -52,6 +62,13 @@ pub trait WriteValue: Drop {
     fn write(&self, out: &mut Rope) -> Result<(), OutOfMemory>
         requires { format.fits (seen self.now) ≡ true }
         ensures { OnOk result (out.new ≡ out.old ++ format.spelling (seen self.now)) };
+
+    /// The byte that spells it, where that is known to be all.
+    fn only_byte(&self) -> Option<u8>
+        ensures { IfSome result (λ byte. format.spelling (seen self.now) ≡ byte ∷ []) }
+    {
+        None
+    }
 }
 
 // What is left of so much room behind these, one after the other.
@@ -145,6 +162,11 @@ fn write_entry<K: WriteKey, J: WriteValue>(
     requires value { J.format.fits (J.seen entry.now.1) ≡ true }
     ensures { OnOk result (out.new ≡ out.old ++ entry_spelled K.format J.format (entry.now.0, J.seen entry.now.1)) }
 {
-    entry.0.write(out)?;
-    entry.1.write(out)
+    match entry.1.only_byte() {
+        Some(byte) => entry.0.write_before(byte, out),
+        None => {
+            entry.0.write(out)?;
+            entry.1.write(out)
+        }
+    }
 }

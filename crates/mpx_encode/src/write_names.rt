@@ -93,6 +93,17 @@ fn write_only(call: u32, colour: u32, out: &mut Rope) -> Result<(), OutOfMemory>
     Ok(())
 }
 
+// And this byte behind it.
+#[tactic(auto, unfolding(mpx_format::specs::Fields::steps, mpx_format::specs::Fields::step_count, mpx_format::specs::Fields::step, mpx_format::specs::Fields::child, mpx_format::specs::Fields::call, mpx_format::specs::Fields::colour))]
+fn write_only_before(call: u32, colour: u32, byte: u8, out: &mut Rope) -> Result<(), OutOfMemory>
+    ensures { OnOk result (out.new ≡ out.old ++ (steps_format.spelling (Child call colour ∷ []) ++ byte ∷ [])) }
+{
+    let a = call.to_be_bytes();
+    let b = colour.to_be_bytes();
+    out.extend_from_slice(&[1, 0, a[0], a[1], a[2], a[3], b[0], b[1], b[2], b[3], byte])?;
+    Ok(())
+}
+
 // Writes the name of these steps at the end.
 #[inline(never)]
 fn write_counted(steps: &[Step], out: &mut Rope) -> Result<(), OutOfMemory>
@@ -127,5 +138,16 @@ impl WriteKey for Name {
             }
         }
         write_counted(steps, out)
+    }
+
+    fn write_before(&self, byte: u8, out: &mut Rope) -> Result<(), OutOfMemory> {
+        let steps = self.steps();
+        if steps.len() == 1 {
+            if let Step::Child { call, colour } = &steps[0] {
+                return write_only_before(*call, *colour, byte, out);
+            }
+        }
+        self.write(out)?;
+        write_u8(byte, out)
     }
 }
