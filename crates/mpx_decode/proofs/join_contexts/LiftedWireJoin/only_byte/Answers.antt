@@ -1,7 +1,6 @@
 use Rattle.std.proofs.Common.{◌∷◌, refl, subst, sym}
 use Rattle.join_nest.specs.Lift.{dead}
 use Rattle.mpx_board.specs.Parts.{entry_joining, lifted_joining}
-use Rattle.mpx_format.specs.Contexts.{context}
 use Rattle.mpx_decode.specs.Raising.{JoinsFront}
 use Rattle.mpx_decode.proofs.JoinedParts.{dead_stays, two_form}
 use Rattle.mpx_decode.proofs.join_contexts.LiftedWireJoin.only_byte.Goals as goal
