@@ -41,7 +41,7 @@ module _ (ops : List Operation) (board : Look) (name : Name) (call : ℕ) (birth
   abbrev of_member : ℕ → Option Given
   of_member p = told ((board.contexts name).posts call p)
 
-  MakesNone : Type 0
+  abbrev MakesNone : Type 0
   MakesNone = (row : RowView) → first_of row ≡ first → children ops birth row name call ≡ []
 
   none_of_row : MakesNone → (p : ℕ) → 0 < length birth.members → of_member (slice_index_or birth.members 0 p) ≡ Some first → (r : Option RowView) → all_of of_member birth.members ≡ r → or_none (option_map (λ row. named_children name call (children ops birth row name call)) r) ≡ []
