@@ -143,7 +143,10 @@ fn is_seen(alloc: Global, board: &Board, name: &Name, step: BoardStep) -> Result
         BoardStep::HasFront(process, number) => Ok(board.front(name, proc(process)) == number),
         BoardStep::Holds(call, by) => Ok(board.holds(name, call, proc(by)).is_some()),
         BoardStep::Lacks(call, by) => Ok(board.holds(name, call, proc(by)).is_none()),
-        BoardStep::HasRow(told) => Ok(board.row(alloc, name, 0)?.is_some() == told),
+        BoardStep::HasRow(told) => {
+            let row = board.row(alloc, name, 0)?.is_some();
+            Ok((row == told) & (board.has_row(name, 0) == told))
+        }
         BoardStep::HasBirth(told) => Ok(board.birth(name).is_some() == told),
         BoardStep::HasDigest(told) => Ok(has_number(&digest_of(alloc, board)?, name, told)),
         BoardStep::HasCommon(processes, told) => {

@@ -74,7 +74,20 @@ fn keys_rise(map: &Keyed<u32, Max>) -> bool {
 
 // Whether the map of three entries has 4 at 5, and nothing at 3.
 fn has_three(map: &Keyed<u32, Max>) -> bool {
-    matches!(map.get(&5), Some(Max(4))) & map.get(&3).is_none() & (map.len() == 3) & keys_rise(map)
+    matches!(map.get(&5), Some(Max(4)))
+        & map.get(&3).is_none()
+        & (map.len() == 3)
+        & keys_rise(map)
+        & are_found_from_ends(map)
+}
+
+// Whether each key is found as by a search where the ends are looked at first, and no other.
+fn are_found_from_ends(map: &Keyed<u32, Max>) -> bool {
+    let mut found = map.get_from_ends(&3).is_none() & map.get_from_ends(&100).is_none();
+    for entry in map.entries() {
+        found &= matches!(map.get_from_ends(&entry.0), Some(Max(value)) if *value == (entry.1).0);
+    }
+    found
 }
 
 // Whether the join of both maps is the map of three entries, and what both lack of it.

@@ -12,7 +12,7 @@ use mpx_kind::Kind;
 use mpx_name::{Name, Step};
 use mpx_num::Ops;
 use mpx_post::Row;
-use mpx_value::{Fault, FaultKind, Outcome, children, outcome};
+use mpx_value::{Fault, FaultKind, Outcome, children, makes_none, outcome};
 use std::alloc::Global;
 use std::test::Fail;
 use test_drafts::contexts::{On, WORLD, name_of};
@@ -182,7 +182,8 @@ fn is_so(
     let made = children(alloc, birth, row, name, CALL, &ops)?;
     let makes = are_made(&made, name.depth(), case.3);
     drop(made);
-    Ok(gives && makes)
+    let tells = makes_none(row.post(0)) != matches!(row.kind(), Kind::NewCommunicator(_));
+    Ok(gives && makes && tells)
 }
 
 fn is_so_of(alloc: Global, birth: &Birth, name: &Name, case: &Case) -> Result<bool, Fail> {
