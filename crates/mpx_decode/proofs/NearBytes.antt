@@ -6,9 +6,6 @@ use Rattle.std.specs.Cmp.{IsTotalOrder}
 use Rattle.std.specs.FinMap.{entries, entries-from_sorted, entries_sorted, from_sorted, same_entries_map}
 use Rattle.join_core.specs.Joins.{Joining}
 use Rattle.join_nest.specs.Lift.{LiftView, dead, live}
-use Rattle.mpx_kind.specs.Kinds.{fields_of, is_had}
-use Rattle.mpx_num.specs.declared.types.Ty.{Ty}
-use Rattle.mpx_post.specs.Posts.{Given}
 use Rattle.mpx_format.specs.declared.versions.Version.{Version}
 use Rattle.mpx_format.specs.Contexts.{context, lift_form, of_live}
 use Rattle.mpx_format.specs.Posts.{counts_if}
@@ -16,15 +13,12 @@ use Rattle.mpx_num.proofs.Spellings.{IsBytes}
 use Rattle.mpx_format.specs.declared.defects.ReadError.{ReadError}
 use Rattle.mpx_format.specs.Format.{Fails, Format, Gives, not_canonical}
 use Rattle.mpx_format.specs.Rising.{always}
-use Rattle.mpx_format.proofs.CodeLaws.{kind_laws, mode_laws, operation_laws, when_laws}
 use Rattle.mpx_format.proofs.ContextLaws.{context_laws}
-use Rattle.mpx_format.proofs.FieldLaws.{process_laws}
 use Rattle.mpx_format.proofs.FormatLaws.{Exactly, IsBytes-after, both_laws, many_laws, only_laws, some_is, through_laws}
-use Rattle.mpx_format.proofs.PostLaws.{counts_laws, no_list_laws, type_for_laws}
+use Rattle.mpx_format.proofs.PostLaws.{counts_laws, no_list_laws}
 use Rattle.mpx_format.proofs.Rows.{rising_sorted}
 use Rattle.mpx_decode.specs.Near.{GivesNear}
 use Rattle.mpx_decode.specs.Raising.{RaisesRows, rows}
-use Rattle.mpx_decode.proofs.FrontPosts.{FieldsStand}
 
 module _ {V : Type 0} {f : Format V} (p : Exactly f) (near left : List ℕ) (v : V) (are : IsBytes near) (read : f.read near ≡ Ok (v, left)) where
   stands : near ≡ f.spelling v ++ left
@@ -102,45 +96,3 @@ live_forth dead a e = absurd cc
 
 pub live_laws : (version : Version) → Exactly (lift_form (context version) 0)
 live_laws version = through_laws live of_live (context_laws version) (λ a fits. refl) live_forth
-
--- the fields of a post are those of all bytes
-pub fields_on : (version : Version) (bytes rest more : List ℕ) (t : Option Ty) (g : Given) → IsBytes bytes → FieldsStand version bytes rest t g → FieldsStand version (bytes ++ more) (rest ++ more) t g
-fields_on version bytes rest more t g h0 s =
-    let l1 = kind_laws version in
-    let l2 = mode_laws s.k in
-    let l3 = when_laws (fields_of s.k).root process_laws in
-    let l4 = when_laws (fields_of s.k).op (operation_laws version) in
-    let l5 = when_laws (fields_of s.k).items (type_for_laws s.o) in
-    let l6 = counts_if_laws (is_had (fields_of s.k).scounts) in
-    let l7 = counts_if_laws (is_had (fields_of s.k).rcounts) in
-    let h1 = left_bytes l1 bytes s.b1 s.k h0 s.kind_read in
-    let h2 = left_bytes l2 s.b1 s.b2 s.m h1 s.mode_read in
-    let h3 = left_bytes l3 s.b2 s.b3 s.r h2 s.root_read in
-    let h4 = left_bytes l4 s.b3 s.b4 s.o h3 s.op_read in
-    let h5 = left_bytes l5 s.b4 s.b5 t h4 s.type_read in
-    let h6 = left_bytes l6 s.b5 s.b6 g.scounts h5 s.sent_read in
-    record {
-      k = s.k;
-      m = s.m;
-      r = s.r;
-      o = s.o;
-      b1 = s.b1 ++ more;
-      b2 = s.b2 ++ more;
-      b3 = s.b3 ++ more;
-      b4 = s.b4 ++ more;
-      b5 = s.b5 ++ more;
-      b6 = s.b6 ++ more;
-      kind_read = read_on l1 bytes s.b1 s.k h0 s.kind_read more;
-      mode_read = read_on l2 s.b1 s.b2 s.m h1 s.mode_read more;
-      root_read = read_on l3 s.b2 s.b3 s.r h2 s.root_read more;
-      op_read = read_on l4 s.b3 s.b4 s.o h3 s.op_read more;
-      type_read = read_on l5 s.b4 s.b5 t h4 s.type_read more;
-      sent_read = read_on l6 s.b5 s.b6 g.scounts h5 s.sent_read more;
-      got_read = read_on l7 s.b6 rest g.rcounts h6 s.got_read more;
-      makes = s.makes;
-      same_kind = s.same_kind;
-      same_mode = s.same_mode;
-      same_root = s.same_root;
-      same_op = s.same_op;
-      same_type = s.same_type;
-    }

@@ -1,2 +1,3 @@
+pub mod Fronts
 pub mod Near
 pub mod Raising

@@ -45,6 +45,7 @@ pub fn read_count(bytes: &[u8]) -> Result<(u16, &[u8]), ReadError>
     read_at_most(4096, bytes)
 }
 
+#[inline(never)]
 #[tactic(auto, unfolding(mpx_format::specs::Posts::counts))]
 fn read_some_counts(alloc: Global, bytes: &[u8]) -> Result<(Counts, &[u8]), ReadError>
     ensures { Gives (λ x. (x.0, x.1.now)) result (counts.read bytes.now) }
@@ -55,6 +56,7 @@ fn read_some_counts(alloc: Global, bytes: &[u8]) -> Result<(Counts, &[u8]), Read
 }
 
 // The counts, where the kind has them; else none.
+#[inline(always)]
 pub fn read_counts(had: bool, alloc: Global, bytes: &[u8]) -> Result<(Counts, &[u8]), ReadError>
     ensures read { Gives (λ x. (x.0, x.1.now)) result ((counts_if had).read bytes.now) }
     ensures none { IfOk result (λ x. NoneUnless had x.0) }

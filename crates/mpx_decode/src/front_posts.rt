@@ -1,24 +1,22 @@
 //! Posts that the taker has, compared with their bytes where these stand.
-ghost use Rattle.std.specs.Prelude.{◌≡◌, ◌++◌, [], true, IfNone, IfSome, Ok, length, ◌≤◌};
+ghost use Rattle.std.specs.Prelude.{◌≡◌, ◌++◌, ◌∷◌, [], IfNone, IfSome, Ok, length, ◌≤◌};
 ghost use Rattle.std.specs.Bool.{OnTrue};
-ghost use Rattle.std.specs.Option.{option_map};
 ghost use Rattle.join_core.specs.FlatSeen.{flat_view};
-ghost use Rattle.mpx_num.specs.ItemList.{ItemList};
-ghost use Rattle.mpx_post.specs.Equality.{same_operations};
+ghost use Rattle.mpx_num.specs.Codes.{code_of_operation, code_of_type};
 ghost use Rattle.mpx_post.specs.Posts.{NoneUnless};
+ghost use Rattle.mpx_format.specs.declared.versions.Version.TheVariants.{Two};
 ghost use Rattle.mpx_format.specs.Contexts.{posted};
 ghost use Rattle.mpx_format.specs.Format.{many_read};
 ghost use Rattle.mpx_format.specs.Posts.{count as count_format, counts_if, items as items_format, post as post_format};
+ghost use Rattle.mpx_decode.specs.Fronts.{head_spelled, spelled_if};
 
 use crate::big_endian::{read_u8, read_u16};
-use crate::codes::{read_kind, read_mode, read_op, read_root, read_type};
 use crate::counts::read_count;
 use crate::items::read_item_count;
 use join_core::Flat;
-use mpx_format::Version;
-use mpx_kind::{Kind, Makes, Mode};
+use mpx_format::{Version, code_of_mode};
 use mpx_num::{Op, Spelled, Ty, are_equal};
-use mpx_post::{Counts, Post, have_same_op};
+use mpx_post::{Counts, Making, Post};
 use mpx_rope::Beyond;
 
 // The bytes behind what is told, where it is a post and just its bytes stand at the front.
@@ -47,7 +45,8 @@ pub fn behind_told<'a>(
     }
 }
 
-// The bytes behind this post, where just its bytes stand at the front, and it makes no communicator.
+// The bytes behind this post, where just its bytes stand at the front, and it says nothing of a new communicator. Frames of
+// version 1, which lacks some kinds and operations, are always read.
 fn behind_post<'a>(
     version: Version,
     post: &Post,
@@ -58,61 +57,90 @@ fn behind_post<'a>(
     ensures none { IfNone result (beyond.new ≡ beyond.old) }
     ensures less { length beyond.new ≤ length beyond.old }
 {
-    let Ok((kind, rest)) = read_kind(version, bytes) else {
-        return None;
-    };
-    let Ok((mode, rest)) = read_mode(kind, rest) else {
-        return None;
-    };
-    let fields = kind.fields();
-    let sent = fields.scounts.is_had();
-    let got = fields.rcounts.is_had();
-    let front = has_front(post, kind, mode);
-    let plain = makes_nothing(fields.makes);
-    if !front || !plain {
-        return None;
+    match version {
+        Version::One => None,
+        Version::Two => behind_fields(post, beyond, bytes),
     }
-    let Ok((root, rest)) = read_root(fields.root, rest) else {
-        return None;
-    };
-    let Ok((op, rest)) = read_op(version, fields.op, rest) else {
-        return None;
-    };
-    let Ok((ty, rest)) = read_type(fields.items, op, rest) else {
-        return None;
-    };
-    let same = has_fields(post, root, op, ty);
-    if !same {
+}
+
+// The same of a frame of version 2.
+fn behind_fields<'a>(post: &Post, beyond: &mut Beyond<'a>, bytes: &'a [u8]) -> Option<&'a [u8]>
+    ensures some { IfSome result (λ rest. (post_format Two).read (bytes.now ++ beyond.old) ≡ Ok (post.now, rest.now ++ beyond.new)) }
+    ensures none { IfNone result (beyond.new ≡ beyond.old) }
+    ensures less { length beyond.new ≤ length beyond.old }
+{
+    if !makes_nothing(post.making()) {
         return None;
     }
     post.limits();
-    let first = behind_counts(sent, post.scounts(), rest)?;
-    let both = behind_counts(got, post.rcounts(), first)?;
+    let head = behind_head(post, bytes)?;
+    let fields = post.kind().fields();
+    let first = behind_counts(fields.scounts.is_had(), post.scounts(), head)?;
+    let both = behind_counts(fields.rcounts.is_had(), post.rcounts(), first)?;
     match post.items() {
         None => Some(both),
         Some(items) => behind_items(items, beyond, both),
     }
 }
 
-fn has_front(post: &Post, kind: Kind, mode: Mode) -> bool
-    ensures kind { OnTrue result (kind ≡ post.now.kind) }
-    ensures mode { OnTrue result (mode ≡ post.now.mode) }
+fn makes_nothing(making: &Making) -> bool
+    ensures { OnTrue result (making.now ≡ Making.Nothing) }
 {
-    kind == post.kind() && mode == post.mode()
+    matches!(making, Making::Nothing)
 }
 
-fn makes_nothing(makes: Makes) -> bool
-    ensures { OnTrue result (makes ≡ Makes.Nothing) }
+// The bytes behind its kind and mode, and its root, operation and type, where it has these.
+fn behind_head<'a>(post: &Post, bytes: &'a [u8]) -> Option<&'a [u8]>
+    ensures { IfSome result (λ rest. bytes.now ≡ head_spelled post.now ++ rest.now) }
 {
-    matches!(makes, Makes::Nothing)
+    let after_kind = behind_code(u16::from(post.kind().code()), bytes)?;
+    let after_mode = behind_code(u16::from(code_of_mode(post.mode())), after_kind)?;
+    let after_root = behind_root(post.root(), after_mode)?;
+    let after_operation = behind_operation(post.op(), after_root)?;
+    behind_type(post.ty(), after_operation)
 }
 
-fn has_fields(post: &Post, root: Option<u8>, op: Option<Op>, ty: Option<Ty>) -> bool
-    ensures root { OnTrue result (root ≡ post.now.root) }
-    ensures op { OnTrue result (same_operations op post.now.op ≡ true) }
-    ensures ty { OnTrue result (ty ≡ option_map (λ (items : ItemList). items.ty) post.now.items) }
+fn behind_root(root: Option<u8>, bytes: &[u8]) -> Option<&[u8]>
+    ensures { IfSome result (λ rest. bytes.now ≡ spelled_if (λ r. r) root ++ rest.now) }
 {
-    root == post.root() && have_same_op(op, post.op()) && ty == post.ty()
+    match root {
+        None => Some(bytes),
+        Some(root) => behind_code(u16::from(root), bytes),
+    }
+}
+
+fn behind_operation(op: Option<Op>, bytes: &[u8]) -> Option<&[u8]>
+    ensures { IfSome result (λ rest. bytes.now ≡ spelled_if code_of_operation op ++ rest.now) }
+{
+    match op {
+        None => Some(bytes),
+        Some(op) => behind_code(op.code(), bytes),
+    }
+}
+
+fn behind_type(ty: Option<Ty>, bytes: &[u8]) -> Option<&[u8]>
+    ensures { IfSome result (λ rest. bytes.now ≡ spelled_if code_of_type ty ++ rest.now) }
+{
+    match ty {
+        None => Some(bytes),
+        Some(ty) => behind_code(u16::from(ty.code()), bytes),
+    }
+}
+
+// The bytes behind the first, where it is this number.
+fn behind_code(code: u16, bytes: &[u8]) -> Option<&[u8]>
+    ensures { IfSome result (λ rest. bytes.now ≡ code ∷ rest.now) }
+{
+    match bytes {
+        [] => None,
+        [first, rest @ ..] => {
+            if u16::from(*first) == code {
+                Some(rest)
+            } else {
+                None
+            }
+        }
+    }
 }
 
 // The bytes behind these counts, where the kind has such.

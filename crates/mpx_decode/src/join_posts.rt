@@ -37,6 +37,7 @@ impl WireJoin for Flat<Post> {
 
     ghost wire = { posted };
 
+    #[inline(never)]
     fn read_new<'a>(
         version: Version,
         beyond: &mut Beyond<'a>,

@@ -7,9 +7,7 @@ use Rattle.std.specs.Option.{option_map}
 use Rattle.std.proofs.lemmas.Bool.{ltb-true}
 use Rattle.join_core.specs.laws.Cases.{first_true, second_true}
 use Rattle.mpx_num.specs.ItemList.{ItemList}
-use Rattle.mpx_num.specs.declared.types.Ty.{Ty}
 use Rattle.mpx_num.specs.declared.types.Ty.TheVariants.{I32}
-use Rattle.mpx_num.specs.declared.operations.Op.{Op}
 use Rattle.mpx_kind.specs.Kinds.{fields_of, is_had}
 use Rattle.mpx_birth.specs.declared.edges.Edge.{Edge}
 use Rattle.mpx_birth.specs.declared.edges.Neighbour.{Neighbour}
@@ -22,9 +20,8 @@ use Rattle.mpx_post.specs.Posts.{Given, makes_of}
 use Rattle.mpx_format.specs.declared.versions.Version.TheVariants.{Two}
 use Rattle.mpx_format.specs.Format.{Format, many_fit}
 use Rattle.mpx_format.specs.Fields.{process, member, colour}
-use Rattle.mpx_format.specs.Codes.{code_of_mode, kind, mode, operation, item_type, flag, when}
+use Rattle.mpx_format.specs.Codes.{code_of_mode, kind, mode, operation, flag, when}
 use Rattle.mpx_kind.specs.Codes.{code_of_kind}
-use Rattle.mpx_num.specs.Codes.{code_of_type}
 use Rattle.mpx_format.specs.Births.{weight, neighbour, neighbours}
 use Rattle.mpx_format.specs.Posts.{type_for, count, counts, counts_if, integer, items_for, choice, split, ranks, group, edge, edge_count, edges, few_neighbours, own, making_for, nums_of, post}
 use Rattle.mpx_encode.proofs.Rising.{many_alike}
@@ -39,11 +36,6 @@ when_none false f = refl
 pub when_some : {A : Type 0} (had : Bool) (f : Format A) (x : A) → is_some {T = A} (Some x) ≡ had → (when had f).spelling (Some x) ≡ f.spelling x
 when_some true f x e = refl
 when_some false f x e = absurd cc
-
-pub type_spelled : (op : Option Op) (ty : Ty) → (type_for op).spelling ty ≡ code_of_type ty ∷ []
-unfolding item_type
-type_spelled None ty = refl
-type_spelled (Some op) ty = refl
 
 -- COUNTS
 

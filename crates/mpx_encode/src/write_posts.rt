@@ -8,11 +8,12 @@ ghost use Rattle.mpx_format.specs.Fields.{process};
 ghost use Rattle.mpx_format.specs.Codes.{operation, when};
 ghost use Rattle.mpx_format.specs.Posts.{count as count_format, counts as counts_format, counts_if, items_spelled, post as post_format, type_spelled};
 
-use crate::write_codes::{code_of_mode, code_of_operation};
+use crate::write_codes::code_of_operation;
 use crate::write_items::{items_len, write_items};
 use crate::write_makings::{making_len, write_making};
 use crate::write_numbers::{write_u8, write_u16};
 use join_core::OutOfMemory;
+use mpx_format::code_of_mode;
 use mpx_post::{Counts, Post};
 use mpx_rope::Rope;
 
@@ -67,6 +68,7 @@ fn typed_len(given: &Post) -> usize
     }
 }
 
+#[inline(never)]
 fn write_each_count(counts: &[u16], out: &mut Rope) -> Result<(), OutOfMemory>
     ensures { OnOk result (out.new ≡ out.old ++ flat_map count_format.spelling counts.now) }
 {
@@ -77,6 +79,7 @@ fn write_each_count(counts: &[u16], out: &mut Rope) -> Result<(), OutOfMemory>
 }
 
 // Writes the counts at the end, where the kind has them.
+#[inline(always)]
 fn write_counts(had: bool, counts: &Counts, out: &mut Rope) -> Result<(), OutOfMemory>
     ensures { OnOk result (out.new ≡ out.old ++ (counts_if had).spelling counts.now) }
 {

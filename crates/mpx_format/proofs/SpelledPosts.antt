@@ -1,5 +1,5 @@
 -- Posts within the limits of their type have a spelling in version 2.
-use Rattle.std.proofs.Common.{◌≡◌, ℕ, ℤ, ◌+◌, ◌-◌, ◌*◌, ◌/◌, ◌^◌, ◌<◌, ◌≤◌, Bool, true, false, ltb, ◌&&◌, List, [], length, Option, Some, None, refl, ap, subst, ◌∙◌, arith}
+use Rattle.std.proofs.Common.{◌≡◌, ℕ, ℤ, ◌+◌, ◌-◌, ◌*◌, ◌/◌, ◌^◌, ◌<◌, ◌≤◌, Bool, true, false, ltb, ◌&&◌, List, [], ◌∷◌, length, Option, Some, None, refl, ap, subst, ◌∙◌, arith}
 use Rattle.std.specs.Prelude.{is_some, slice_index_or}
 use Rattle.std.specs.List.{All}
 use Rattle.std.specs.Option.{option_map, option_map_or}
@@ -8,6 +8,7 @@ use Rattle.mpx_group.proofs.Members.{length_distinct}
 use Rattle.mpx_num.specs.ItemList.{ItemList, AreItems}
 use Rattle.mpx_num.specs.Types.{IsInRange, item_len}
 use Rattle.mpx_num.specs.Operations.{fits}
+use Rattle.mpx_num.specs.Codes.{code_of_type}
 use Rattle.mpx_num.specs.declared.types.Ty.{Ty}
 use Rattle.mpx_num.specs.declared.types.Ty.TheVariants.{I8, I16, I32, I64, U8, U16, U32, U64, TwoInt}
 use Rattle.mpx_num.specs.declared.operations.Op.{Op}
@@ -35,11 +36,11 @@ use Rattle.mpx_format.proofs.CodeLaws.{each_kind}
 use Rattle.mpx_format.proofs.Integers.{integer_fits}
 use Rattle.mpx_format.proofs.Spelled.{each_fit, process_fits, distinct_fit, colour_fits, weight_fits}
 
-kind_fits : (k : Kind) → (kind Two).fits k ≡ true
+pub kind_fits : (k : Kind) → (kind Two).fits k ≡ true
 unfolding kind
 kind_fits = each_kind (kind Two).fits refl refl
 
-mode_fits : (k : Kind) (m : Mode) → may_be m k ≡ true → (mode k).fits m ≡ true
+pub mode_fits : (k : Kind) (m : Mode) → may_be m k ≡ true → (mode k).fits m ≡ true
 unfolding mode
 mode_fits k Blocking h = and_from _ _ refl h
 mode_fits k Nonblocking h = and_from _ _ refl h
@@ -75,19 +76,25 @@ type_fits U32 = refl
 type_fits U64 = refl
 type_fits TwoInt = refl
 
-root_fits : (had : Bool) (root : Option ℕ) → is_some root ≡ had → option_map_or (λ r. ltb r 64) root true ≡ true → (when had process).fits root ≡ true
+-- a type is spelled by its code, whatever operation stands beside it
+pub type_spelled : (op : Option Op) (ty : Ty) → (type_for op).spelling ty ≡ code_of_type ty ∷ []
+unfolding item_type
+type_spelled None ty = refl
+type_spelled (Some op) ty = refl
+
+pub root_fits : (had : Bool) (root : Option ℕ) → is_some root ≡ had → option_map_or (λ r. ltb r 64) root true ≡ true → (when had process).fits root ≡ true
 root_fits true None e below = absurd cc
 root_fits true (Some r) e below = process_fits r (ltb-true r 64 below)
 root_fits false None e below = refl
 root_fits false (Some r) e below = absurd cc
 
-had_operation_fits : (had : Bool) (o : Option Op) (ty : Ty) → is_some o ≡ had → option_map_or (λ op. fits op ty) o true ≡ true → (when had (operation Two)).fits o ≡ true
+pub had_operation_fits : (had : Bool) (o : Option Op) (ty : Ty) → is_some o ≡ had → option_map_or (λ op. fits op ty) o true ≡ true → (when had (operation Two)).fits o ≡ true
 had_operation_fits true None ty e h = absurd cc
 had_operation_fits true (Some op) ty e h = operation_fits op ty h
 had_operation_fits false None ty e h = refl
 had_operation_fits false (Some op) ty e h = absurd cc
 
-had_type_fits : (had : Bool) (o : Option Op) (i : Option ItemList) → is_some i ≡ had → option_map_or (λ op. fits op (option_map_or (λ (i : ItemList). i.ty) i I8)) o true ≡ true → (when had (type_for o)).fits (option_map (λ (i : ItemList). i.ty) i) ≡ true
+pub had_type_fits : (had : Bool) (o : Option Op) (i : Option ItemList) → is_some i ≡ had → option_map_or (λ op. fits op (option_map_or (λ (i : ItemList). i.ty) i I8)) o true ≡ true → (when had (type_for o)).fits (option_map (λ (i : ItemList). i.ty) i) ≡ true
 had_type_fits true o None e h = absurd cc
 had_type_fits true None (Some i) e h = type_fits i.ty
 had_type_fits true (Some op) (Some i) e h = and_from _ _ (type_fits i.ty) h

@@ -10,12 +10,14 @@
 //! they are spelled (`specs/Kept.antt`).
 #![tactic(auto)]
 
+mod codes;
 mod defects;
 mod kept;
 mod laws;
 mod rising;
 mod versions;
 
+pub use codes::code_of_mode;
 pub use defects::{Defect, ReadError, SHORT, WireError, not_canonical, out_of_limits, placed};
 pub use kept::{Kept, KeptAcks, PIECE_ROWS};
 pub use laws::one_spelling;

@@ -69,6 +69,8 @@ impl Kind {
     }
 }
 
+// Not inlined, nor are the two below: so each is one look into a table of whole rows.
+#[inline(never)]
 fn exchange_fields(exchange: Exchange) -> Fields
     ensures { result ≡ fields_of (Kind.Exchange exchange) }
 {
@@ -88,6 +90,7 @@ fn exchange_fields(exchange: Exchange) -> Fields
     }
 }
 
+#[inline(never)]
 fn reduction_fields(reduction: Reduction) -> Fields
     ensures { result ≡ fields_of (Kind.Reduction reduction) }
 {
@@ -117,6 +120,7 @@ fn said_of(new: NewCommunicator) -> Makes
     }
 }
 
+#[inline(never)]
 fn neighbourhood_fields(exchange: Neighbourhood) -> Fields
     ensures { result ≡ fields_of (Kind.Neighbourhood exchange) }
 {

@@ -1,4 +1,5 @@
 pub mod Least
+pub mod Alike
 pub mod Below
 pub mod Ends
 pub mod Decisions

@@ -1,3 +1,4 @@
+pub mod Alike
 pub mod FaultTexts
 pub mod Faults
 pub mod Questions

@@ -2,6 +2,7 @@
 ghost use Rattle.std.specs.Prelude.{◌≡◌, ◌≤◌, ◌*◌, ◌==◌, ◌&&◌, nat_lt, length};
 ghost use Rattle.std.specs.List.{list_all};
 ghost use Rattle.mpx_num.specs.Types.{item_len};
+ghost use Rattle.mpx_kind.specs.Kinds.{fields_of};
 ghost use Rattle.mpx_post.specs.Posts.{fits_root, fits_type, numbers_of, suits, type_of};
 ghost use Rattle.mpx_post.specs.Agreement.{blocks_of, fill, fits_counts, fits_edges, fits_group, is_fit, is_root, seat_of};
 ghost use Rattle.mpx_post.specs.Seats.{lacks_topology};
@@ -58,7 +59,7 @@ fn fits_counts(seat: &Seat, post: &Post) -> bool
     let fields = post.kind().fields();
     post.scounts().as_slice().len() == fields.scounts.of(seat)
         && post.rcounts().as_slice().len() == fields.rcounts.of(seat)
-        && are_filled(seat, post)
+        && are_filled(seat, fields.sent, post)
 }
 
 fn is_root(rank: u8, post: &Post) -> bool
@@ -107,14 +108,15 @@ fn type_of(post: &Post) -> Ty
     }
 }
 
-// As many items are given as the blocks have.
-fn are_filled(seat: &Seat, post: &Post) -> bool
+// As many items are given as the blocks have, into which the kind's items are cut so.
+fn are_filled(seat: &Seat, sent: Sent, post: &Post) -> bool
+    requires sent { sent ≡ (fields_of post.now.kind).sent }
     requires size { seat.now.size ≤ 64 }
     requires sources { seat.now.indegree ≤ most_neighbours }
     requires destinations { seat.now.outdegree ≤ most_neighbours }
     ensures { result ≡ fill (blocks_of seat.now post.now) post.now }
 {
-    match post.kind().fields().sent {
+    match sent {
         Sent::Any => true,
         Sent::Scounts(number) => gives(post, number.of(seat) * post.scounts().sum()),
         Sent::Rcounts(number) => gives(post, number.of(seat) * post.rcounts().sum()),

@@ -1,8 +1,9 @@
 //! The first fault of a row, or that it is fine.
-ghost use Rattle.std.specs.Prelude.{◌≡◌, ◌<◌, true, None, length};
+ghost use Rattle.std.specs.Prelude.{◌≡◌, ◌<◌, true, length};
 ghost use Rattle.mpx_post.specs.Agreement.{AllSuit, IsFineWith, post_at};
 ghost use Rattle.mpx_post.specs.Equality.{same_types as have_same_types};
-ghost use Rattle.mpx_match.specs.Questions.{differs_in, edges_differ, is_faulty as faulty, least_rank};
+ghost use Rattle.mpx_match.specs.Alike.{AreAlike, IsSettled, is_alike as is_alike_to, says_nothing};
+ghost use Rattle.mpx_match.specs.Questions.{differs_in, is_faulty as faulty, least_rank};
 ghost use Rattle.mpx_match.specs.Verdicts.{IsFirstFault, questions, told_as as told, verdict};
 
 use crate::amounts::amounts_differ;
@@ -12,7 +13,7 @@ use crate::fits::{fits, suits};
 use crate::groups::groups_differ;
 use mpx_birth::Birth;
 use mpx_num::{Listing, Ops};
-use mpx_post::{Post, Row, have_same_op};
+use mpx_post::{Making, Post, Row, have_same_op};
 
 // What is asked of each post of a row.
 #[derive(Clone, Copy)]
@@ -49,8 +50,9 @@ fn first_fault(birth: &Birth, row: &Row<'_>, ops: &Ops) -> Verdict
         RowQuestion::Agree(FaultKind::Edges),
         RowQuestion::Agree(FaultKind::Groups),
     ];
+    let alike = are_alike(row);
     for question in questions {
-        if let Some(rank) = least_rank(birth, row, question, ops) {
+        if let Some(rank) = least_rank(birth, row, alike, question, ops) {
             return Verdict::Fault(Fault {
                 what: told_as(question),
                 rank,
@@ -70,11 +72,18 @@ fn told_as(question: RowQuestion) -> FaultKind
     }
 }
 
-// The least rank of whose post the answer is yes.
-fn least_rank(birth: &Birth, row: &Row<'_>, question: RowQuestion, ops: &Ops) -> Option<u8>
+// The least rank of whose post the answer is yes. The posts may be known to be alike.
+fn least_rank(
+    birth: &Birth,
+    row: &Row<'_>,
+    alike: bool,
+    question: RowQuestion,
+    ops: &Ops,
+) -> Option<u8>
+    requires { alike ≡ true → AreAlike row.now }
     ensures { result ≡ least_rank (faulty (⟦<Ops as Listing>⟧.operations ops.now) birth.now.topology question row.now) row.now }
 {
-    if is_settled(row, question) {
+    if is_settled(row, alike, question) {
         return None;
     }
     for rank in 0..row.len() {
@@ -85,14 +94,56 @@ fn least_rank(birth: &Birth, row: &Row<'_>, question: RowQuestion, ops: &Ops) ->
     None
 }
 
-// Whether one look at each post tells that there is none.
-fn is_settled(row: &Row<'_>, question: RowQuestion) -> bool
-    ensures { result ≡ true → (question ≡ RowQuestion.Agree FaultKind.Edges) × (least_rank (edges_differ row.now) row.now ≡ None) }
+// Whether it is known beforehand that the answer is no for each post.
+fn is_settled(row: &Row<'_>, alike: bool, question: RowQuestion) -> bool
+    requires { alike ≡ true → AreAlike row.now }
+    ensures { result ≡ true → IsSettled question row.now }
 {
     match question {
-        RowQuestion::Agree(FaultKind::Edges) => names_no_neighbours(row),
-        _ => false,
+        RowQuestion::Fit => false,
+        RowQuestion::Agree(what) => all_agree(row, alike, what),
     }
+}
+
+// Whether it is known beforehand that no post differs in this.
+fn all_agree(row: &Row<'_>, alike: bool, what: FaultKind) -> bool
+    requires { alike ≡ true → AreAlike row.now }
+    ensures { result ≡ true → IsSettled (RowQuestion.Agree what) row.now }
+{
+    match what {
+        FaultKind::Amount => false,
+        FaultKind::Edges => alike || names_no_neighbours(row),
+        _ => alike,
+    }
+}
+
+// Whether each post has the first one's kind, mode, root, operation and type, and none says anything of a new communicator.
+fn are_alike(row: &Row<'_>) -> bool
+    ensures { result ≡ true → AreAlike row.now }
+{
+    for rank in 0..row.len() {
+        if !is_alike(row.post(rank), row.post(0)) {
+            return false;
+        }
+    }
+    true
+}
+
+fn is_alike(post: &Post, first: &Post) -> bool
+    ensures { result ≡ is_alike_to first.now post.now }
+{
+    post.kind() == first.kind()
+        && post.mode() == first.mode()
+        && post.root() == first.root()
+        && have_same_op(post.op(), first.op())
+        && same_types(post, first)
+        && says_nothing(post.making())
+}
+
+fn says_nothing(making: &Making) -> bool
+    ensures { result ≡ says_nothing making.now }
+{
+    matches!(making, Making::Nothing)
 }
 
 // The answer for the post of this rank.

@@ -24,11 +24,7 @@ pub fn has_result(board: &Board, name: &Name, me: Proc, call: u32) -> bool
 {
     match board.birth(name) {
         None => false,
-        Some(birth) => {
-            board.holds(name, call, me).is_some()
-                && birth.rank_of(me).is_some()
-                && board.has_row(name, call)
-        }
+        Some(birth) => birth.rank_of(me).is_some() && board.has_row(name, call),
     }
 }
 

@@ -131,7 +131,18 @@ impl Spelled {
         ensures value { result ≡ slice_index_or self.now.nums place (pos 0) }
         ensures in_range { IsInRange self.now.ty result }
     {
-        number_at(self.ty(), self.bytes(), place)
+        self.number_of(self.ty(), place)
+    }
+
+    // The number at this place, of items of this type.
+    #[inline(always)]
+    pub(crate) fn number_of(&self, ty: Ty, place: usize) -> i128
+        requires ty { self.now.ty ≡ ty }
+        requires place { place < length self.now.nums }
+        ensures value { result ≡ slice_index_or self.now.nums place (pos 0) }
+        ensures in_range { IsInRange ty result }
+    {
+        number_at(ty, self.bytes(), place)
     }
 
     /// Whether the items are equal in type and numbers.
@@ -225,6 +236,7 @@ fn spell_number(ty: Ty, number: i128, out: &mut Vec<u8>) -> Result<(), AllocErro
 }
 
 // The number of the type at this place.
+#[inline(always)]
 fn number_at(ty: Ty, bytes: &[u8], place: usize) -> i128
     requires { (place + 1) * number_len ty ≤ length bytes.now }
     ensures value { result ≡ number_in ty (take (number_len ty) (drop (place * number_len ty) bytes.now)) }

@@ -5,10 +5,12 @@ ghost use Rattle.mpx_post.specs.Drafts.{given_by, has_making, has_spelling, rece
 ghost use Rattle.mpx_post.specs.Posts.{most_counts};
 
 use crate::draft::{Draft, PostError};
+use crate::draft_refusals::has_wrong_op;
 use crate::graph_fields::{are_edges, edge_count};
 use crate::making_fields::are_ranks;
 use crate::post::Post;
 use join_core::OutOfMemory;
+use mpx_kind::{Fields, Makes};
 use mpx_num::may_stand;
 use std::alloc::Global;
 
@@ -24,8 +26,9 @@ impl Draft {
         ensures memory { OnErr result (has_spelling self ≡ true) }
     {
         let stands = may_stand(self.op, self.ty);
-        let wrong = self.has_wrong_root(64) | self.has_wrong_op(stands);
-        if wrong | !self.has_few_counts() | !self.has_making() {
+        let fields = self.call.kind().fields();
+        let wrong = self.has_wrong_root(&fields, 64) | has_wrong_op(&fields, stands);
+        if wrong | !self.has_few_counts(&fields) | !self.has_making(fields.makes) {
             return Ok(None);
         }
         match self.posted(alloc, None) {
@@ -38,20 +41,22 @@ impl Draft {
     }
 
     // Whether there are not too many counts.
-    fn has_few_counts(&self) -> bool
+    fn has_few_counts(&self, fields: &Fields) -> bool
+        requires fields { fields.now ≡ fields_of (kind_of self.now.call) }
         ensures { result ≡ (nat_le (length (sent_counts self.now)) most_counts && nat_le (length (received_counts self.now)) most_counts) }
     {
-        (self.sent_counts().len() <= 65_535) & (self.received_counts().len() <= 65_535)
+        let sent = self.sent_counts(fields).len();
+        let received = self.received_counts(fields).len();
+        (sent <= 65_535) & (received <= 65_535)
     }
 
     // Whether what it says of a new communicator is within its limits.
-    fn has_making(&self) -> bool
-        ensures { result ≡ has_making (fields_of (kind_of self.now.call)).makes self.now }
+    fn has_making(&self, makes: Makes) -> bool
+        ensures { result ≡ has_making makes self.now }
     {
-        let makes = self.call.kind().fields().makes;
-        are_ranks(64, self.ranks())
+        are_ranks(64, self.ranks(makes))
             && are_edges(makes, 64, &self.graph)
             && edge_count(makes, &self.graph) <= 512
-            && self.has_colour_and_key()
+            && self.has_colour_and_key(makes)
     }
 }

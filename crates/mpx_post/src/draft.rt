@@ -19,7 +19,7 @@ use crate::post_fields::{given_counts, given_items, given_op, given_root, spelle
 use join_core::OutOfMemory;
 use mpx_birth::Birth;
 use mpx_group::Proc;
-use mpx_kind::{Call, Seat};
+use mpx_kind::{Call, Fields, Seat};
 use mpx_name::Name;
 use mpx_num::{Listing, Numbers, Op, Ops, Ty, op_fits};
 use std::alloc::Global;
@@ -300,7 +300,7 @@ impl Draft {
         let op = given_op(fields.op, self.op);
         let ty = self.ty;
         // before the items are moved out of the draft
-        let rest = self.rest(alloc, refusal);
+        let rest = self.rest(alloc, &fields, refusal);
         match given_items(fields.items, ty, self.into_items()) {
             Ok(items) => match rest {
                 Ok((scounts, rcounts, making)) => match spelled(alloc, items) {
@@ -326,8 +326,10 @@ impl Draft {
     fn rest(
         &self,
         alloc: Global,
+        fields: &Fields,
         refusal: Option<PostError>,
     ) -> Result<(Counts, Counts, Making), PostError>
+        requires fields { fields.now ≡ fields_of (kind_of self.now.call) }
         requires sent { length (sent_counts self.now) ≤ most_counts }
         requires received { length (received_counts self.now) ≤ most_counts }
         requires making { refusal ≡ None → has_making (fields_of (kind_of self.now.call)).makes self.now ≡ true }
@@ -341,9 +343,8 @@ impl Draft {
             (unless (cond (list_all is_count (sent_counts self.now) && list_all is_count (received_counts self.now)) refusal (Some TooManyItems)) (given_by self.now))
             (Err e)) }
     {
-        let fields = self.call.kind().fields();
-        let sent = where_had(fields.scounts.is_had(), &self.scounts);
-        let received = where_had(fields.rcounts.is_had(), &self.rcounts);
+        let sent = self.sent_counts(fields);
+        let received = self.received_counts(fields);
         if !(are_counts(sent) & are_counts(received)) {
             return Err(PostError::TooManyItems);
         }
@@ -367,16 +368,18 @@ impl Draft {
         self.call.kind().fields().root & (self.root == i128::from(rank))
     }
 
-    pub(crate) fn sent_counts(&self) -> &[i128]
+    pub(crate) fn sent_counts(&self, fields: &Fields) -> &[i128]
+        requires fields { fields.now ≡ fields_of (kind_of self.now.call) }
         ensures { result.now ≡ sent_counts self.now }
     {
-        where_had(self.call.kind().fields().scounts.is_had(), &self.scounts)
+        where_had(fields.scounts.is_had(), &self.scounts)
     }
 
-    pub(crate) fn received_counts(&self) -> &[i128]
+    pub(crate) fn received_counts(&self, fields: &Fields) -> &[i128]
+        requires fields { fields.now ≡ fields_of (kind_of self.now.call) }
         ensures { result.now ≡ received_counts self.now }
     {
-        where_had(self.call.kind().fields().rcounts.is_had(), &self.rcounts)
+        where_had(fields.rcounts.is_had(), &self.rcounts)
     }
 }
 

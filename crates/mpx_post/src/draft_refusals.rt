@@ -1,6 +1,7 @@
 //! Why a draft is refused: what is asked of it, in the order in which it is told.
 ghost use Rattle.std.specs.Prelude.{◌≡◌, ◌≤◌, ◌&&◌, nat_le, Some, not, length};
-ghost use Rattle.mpx_post.specs.Drafts.{asked_first, first_that_holds, has_bad_group, has_colour_and_key, has_its_counts, is_misfilled, is_rank as is_rank_of, most_steps, numbers_refusal, place_refusals, ranks_in, received_counts, sent_counts, stray_refusals};
+ghost use Rattle.std.specs.List.{list_all};
+ghost use Rattle.mpx_post.specs.Drafts.{asked_first, first_that_holds, has_bad_group, has_colour_and_key, has_its_counts, is_count, is_misfilled, is_rank as is_rank_of, most_steps, numbers_refusal, place_refusals, ranks_in, received_counts, sent_counts, stray_refusals};
 ghost use Rattle.mpx_kind.specs.Kinds.{fields_of, kind_of, makes_communicators};
 ghost use Rattle.mpx_birth.specs.Topologies.{most_neighbours};
 
@@ -9,7 +10,7 @@ use crate::draft::{At, Draft, MOST_CALLS, PostError};
 use crate::graph_fields::{are_edges, edge_count};
 use crate::making_fields::{are_ranks, is_colour, is_key};
 use crate::post_fields::{are_all_of, is_misfill, is_rank, where_had};
-use mpx_kind::{Makes, Seat, Sent};
+use mpx_kind::{Fields, Makes, Seat, Sent};
 
 impl Draft {
     // Why it is refused where it lacks a topology.
@@ -22,7 +23,7 @@ impl Draft {
             return PostError::ItemOutOfRange;
         }
         let many = 4096 * self.ty.item_len() < numbers.len();
-        if many || !(are_counts(self.sent_counts()) & are_counts(self.received_counts())) {
+        if many || !self.are_counts(&fields) {
             return PostError::TooManyItems;
         }
         PostError::NoTopology
@@ -32,7 +33,8 @@ impl Draft {
     pub(crate) fn numbers_refusal(&self) -> Option<PostError>
         ensures { result ≡ numbers_refusal self.now }
     {
-        let numbers = where_had(self.call.kind().fields().items, &self.items);
+        let fields = self.call.kind().fields();
+        let numbers = where_had(fields.items, &self.items);
         let item_len = self.ty.item_len();
         if numbers.len() / item_len * item_len != numbers.len() {
             return Some(PostError::ItemsLength);
@@ -43,10 +45,18 @@ impl Draft {
         if 4096 * item_len < numbers.len() {
             return Some(PostError::TooManyItems);
         }
-        if !(are_counts(self.sent_counts()) & are_counts(self.received_counts())) {
+        if !self.are_counts(&fields) {
             return Some(PostError::TooManyItems);
         }
         None
+    }
+
+    // Whether its counts are counts.
+    fn are_counts(&self, fields: &Fields) -> bool
+        requires fields { fields.now ≡ fields_of (kind_of self.now.call) }
+        ensures { result ≡ (list_all is_count (sent_counts self.now) && list_all is_count (received_counts self.now)) }
+    {
+        are_counts(self.sent_counts(fields)) & are_counts(self.received_counts(fields))
     }
 
     // Why its root, its operation, which is for its type or not, or its counts refuse it.
@@ -56,16 +66,17 @@ impl Draft {
         requires destinations { seat.now.outdegree ≤ most_neighbours }
         ensures { result ≡ first_that_holds (asked_first for_type seat.now self.now (is_misfilled seat.now self.now)) }
     {
-        if self.has_wrong_root(seat.size) {
+        let fields = self.call.kind().fields();
+        if self.has_wrong_root(&fields, seat.size) {
             return Some(PostError::RootOutOfRange);
         }
-        if self.has_wrong_op(for_type) {
+        if has_wrong_op(&fields, for_type) {
             return Some(PostError::OpNotForType);
         }
-        if self.has_wrong_lengths(seat) {
+        if self.has_wrong_lengths(&fields, seat) {
             return Some(PostError::CountsLength);
         }
-        if self.is_misfilled(seat) {
+        if self.is_misfilled(&fields, seat) {
             return Some(PostError::ItemsLength);
         }
         None
@@ -82,45 +93,40 @@ impl Draft {
         if self.is_too_deep(at) {
             return Some(PostError::DepthUsedUp);
         }
-        if self.has_bad_group(size, at) {
+        let makes = self.call.kind().fields().makes;
+        if self.has_bad_group(makes, size, at) {
             return Some(PostError::BadGroup);
         }
-        let makes = self.call.kind().fields().makes;
         if !are_edges(makes, size, &self.graph) {
             return Some(PostError::BadEdge);
         }
         if 512 < edge_count(makes, &self.graph) {
             return Some(PostError::TooManyEdges);
         }
-        if !self.has_colour_and_key() {
+        if !self.has_colour_and_key(makes) {
             return Some(PostError::BadTag);
         }
         None
     }
 
-    pub(crate) fn has_wrong_root(&self, size: usize) -> bool
-        ensures { result ≡ ((fields_of (kind_of self.now.call)).root && not (is_rank_of size self.now.root)) }
+    pub(crate) fn has_wrong_root(&self, fields: &Fields, size: usize) -> bool
+        ensures { result ≡ (fields.now.root && not (is_rank_of size self.now.root)) }
     {
-        self.call.kind().fields().root & !is_rank(size, self.root)
+        fields.root & !is_rank(size, self.root)
     }
 
-    pub(crate) fn has_wrong_op(&self, for_type: bool) -> bool
-        ensures { result ≡ ((fields_of (kind_of self.now.call)).op && not for_type) }
-    {
-        self.call.kind().fields().op & !for_type
-    }
-
-    fn has_wrong_lengths(&self, seat: &Seat) -> bool
+    fn has_wrong_lengths(&self, fields: &Fields, seat: &Seat) -> bool
+        requires fields { fields.now ≡ fields_of (kind_of self.now.call) }
         ensures { result ≡ not (has_its_counts seat.now self.now) }
     {
-        let fields = self.call.kind().fields();
-        let sent = self.sent_counts().len() == fields.scounts.of(seat);
-        let received = self.received_counts().len() == fields.rcounts.of(seat);
+        let sent = self.sent_counts(fields).len() == fields.scounts.of(seat);
+        let received = self.received_counts(fields).len() == fields.rcounts.of(seat);
         !(sent & received)
     }
 
     // Whether there are more or fewer items than its counts tell.
-    fn is_misfilled(&self, seat: &Seat) -> bool
+    fn is_misfilled(&self, fields: &Fields, seat: &Seat) -> bool
+        requires fields { fields.now ≡ fields_of (kind_of self.now.call) }
         requires size { seat.now.size ≤ 64 }
         requires sources { seat.now.indegree ≤ most_neighbours }
         requires destinations { seat.now.outdegree ≤ most_neighbours }
@@ -128,15 +134,19 @@ impl Draft {
         requires received { length (received_counts self.now) ≤ most_neighbours }
         ensures { result ≡ is_misfilled seat.now self.now }
     {
-        let fields = self.call.kind().fields();
         let numbers = where_had(fields.items, &self.items).len();
         match fields.sent {
             Sent::Any => false,
             Sent::Scounts(number) => {
-                is_misfill(self.sent_counts(), number.of(seat), self.ty, numbers)
+                is_misfill(self.sent_counts(fields), number.of(seat), self.ty, numbers)
             }
             Sent::Rcounts(number) => {
-                is_misfill(self.received_counts(), number.of(seat), self.ty, numbers)
+                is_misfill(
+                    self.received_counts(fields),
+                    number.of(seat),
+                    self.ty,
+                    numbers,
+                )
             }
         }
     }
@@ -149,31 +159,39 @@ impl Draft {
     }
 
     // Whether the call isn't made on such a context, or the group has a rank out of range or twice.
-    fn has_bad_group(&self, size: usize, at: &At) -> bool
-        requires { size ≤ 64 }
+    fn has_bad_group(&self, makes: Makes, size: usize, at: &At) -> bool
+        requires makes { makes ≡ (fields_of (kind_of self.now.call)).makes }
+        requires size { size ≤ 64 }
         ensures { result ≡ has_bad_group size at.now self.now }
     {
         let misplaced = at.gathering != self.call.kind().is_gathered();
-        misplaced | !are_ranks(size, self.ranks())
+        misplaced | !are_ranks(size, self.ranks(makes))
     }
 
     // The ranks of the group, where the kind has one.
-    pub(crate) fn ranks(&self) -> &[i128]
-        ensures { result.now ≡ ranks_in (fields_of (kind_of self.now.call)).makes self.now }
+    pub(crate) fn ranks(&self, makes: Makes) -> &[i128]
+        ensures { result.now ≡ ranks_in makes self.now }
     {
-        match self.call.kind().fields().makes {
+        match makes {
             Makes::Group => self.group.as_slice(),
             _ => &[],
         }
     }
 
     // Whether the colour and the key are within their limits, where the kind has them.
-    pub(crate) fn has_colour_and_key(&self) -> bool
-        ensures { result ≡ has_colour_and_key (fields_of (kind_of self.now.call)).makes self.now }
+    pub(crate) fn has_colour_and_key(&self, makes: Makes) -> bool
+        ensures { result ≡ has_colour_and_key makes self.now }
     {
-        match self.call.kind().fields().makes {
+        match makes {
             Makes::Colour => is_colour(self.colour) & is_key(self.key),
             _ => true,
         }
     }
+}
+
+// Whether the kind has an operation, and that isn't for the type.
+pub(crate) fn has_wrong_op(fields: &Fields, for_type: bool) -> bool
+    ensures { result ≡ (fields.now.op && not for_type) }
+{
+    fields.op & !for_type
 }

@@ -1,7 +1,8 @@
 //! Which communicators a call makes.
-ghost use Rattle.std.specs.Prelude.{◌≡◌, ◌<◌, ◌≤◌, ◌^◌, ◌∷◌, [], ℕ, List, IfOk, OnErr, Some, false, true, length};
+ghost use Rattle.std.specs.Prelude.{◌≡◌, ◌<◌, ◌≤◌, ◌^◌, ◌∷◌, [], ℕ, List, IfOk, OnErr, Some, false, true, not, length};
 ghost use Rattle.std.specs.List.{All};
 ghost use Rattle.mpx_group.specs.Group.{has_twice};
+ghost use Rattle.mpx_kind.specs.Kinds.{makes_communicators};
 ghost use Rattle.mpx_name.specs.declared.steps.Step.TheVariants.{Child};
 ghost use Rattle.mpx_post.specs.Agreement.{IsFine, first_of};
 ghost use Rattle.mpx_birth.specs.Births.{BirthView, of_members};
@@ -60,9 +61,10 @@ pub fn children(
     }
 }
 
-/// Whether a call makes no communicators, whatever the other members post, where rank 0 posts this.
+/// Whether rank 0's post is of a kind that makes no communicators: then the call makes none, whatever the other members post.
 pub fn makes_none(first: &Post) -> bool
-    ensures { result ≡ true → (ops : List Operation) (birth : BirthView) (row : RowView) (name : NameView) (call : ℕ) → first_of row ≡ first.now → children ops birth row name call ≡ [] }
+    ensures kind { result ≡ not (makes_communicators first.now.kind) }
+    ensures none { result ≡ true → (ops : List Operation) (birth : BirthView) (row : RowView) (name : NameView) (call : ℕ) → first_of row ≡ first.now → children ops birth row name call ≡ [] }
 {
     !first.kind().makes_communicators()
 }

@@ -4,7 +4,8 @@ use Rattle.mpx_kind.specs.Kinds.{fields_of}
 use Rattle.mpx_num.specs.ItemList.{ItemList}
 use Rattle.mpx_format.specs.Codes.{when}
 use Rattle.mpx_format.specs.Posts.{type_for, items_for, nums_of}
-use Rattle.mpx_encode.proofs.Posts.{when_some, type_spelled}
+use Rattle.mpx_encode.proofs.Posts.{when_some}
+use Rattle.mpx_format.proofs.SpelledPosts.{type_spelled}
 use Rattle.mpx_encode.proofs.write_posts.typed_len.Goals as goal
 
 pub returns-in-Some-clause-value : goal.returns-in-Some-clause-value

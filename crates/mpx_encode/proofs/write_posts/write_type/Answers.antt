@@ -6,7 +6,8 @@ use Rattle.mpx_num.specs.ItemList.{ItemList}
 use Rattle.mpx_format.specs.Codes.{when}
 use Rattle.mpx_num.specs.Codes.{code_of_type}
 use Rattle.mpx_format.specs.Posts.{type_for}
-use Rattle.mpx_encode.proofs.Posts.{when_some, type_spelled}
+use Rattle.mpx_encode.proofs.Posts.{when_some}
+use Rattle.mpx_format.proofs.SpelledPosts.{type_spelled}
 use Rattle.mpx_encode.proofs.write_posts.write_type.Goals as goal
 
 pub returns-in-Some : goal.returns-in-Some

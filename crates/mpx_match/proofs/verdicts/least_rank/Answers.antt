@@ -12,7 +12,7 @@ pub returns : goal.returns
 returns g c = sym (least_rank-absent (is_faulty _ c.args.birth.now.topology c.args.question c.args.row.now) _ _ c.loop-rank.invariant (omega arith))
 
 pub returns-then-is_settled : goal.returns-then-is_settled
-returns-then-is_settled g c = let settled = c.is_settled.ensures c.if-is_settled.true in rw settled.0 (sym settled.1)
+returns-then-is_settled g c = sym (c.is_settled.ensures c.if-is_settled.true _ c.args.birth.now.topology)
 
 pub loop-rank-preserved : goal.loop-rank-preserved
 loop-rank-preserved g c =

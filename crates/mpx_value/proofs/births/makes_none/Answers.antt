@@ -29,8 +29,8 @@ is_false : (b : Bool) → not b ≡ true → b ≡ false
 is_false true e = cc e
 is_false false e = refl
 
-pub returns : goal.returns
+pub returns-clause-none : goal.returns-clause-none
 unfolding children
-returns c true_of ops birth row name call first =
+returns-clause-none c true_of ops birth row name call first =
     let kind : makes_communicators c.args.first.now.kind ≡ false = ap makes_communicators (sym c.kind.ensures) ∙ sym c.makes_communicators.ensures ∙ is_false c.makes_communicators.result true_of in
     none_left (has_room name) (verdict ops birth.topology row) _ (none_in _ birth row (ap (λ (p : Given). makes_communicators p.kind) first ∙ kind))
