@@ -1,7 +1,7 @@
 //! Rows of what is done to a board and then seen of it: calls that add to one, and prunes.
 use join_core::Exact;
 use mpx_birth::Birth;
-use mpx_board::{Acks, AddPostError, Board, KillError, PruneError};
+use mpx_board::{AddPostError, Board, Digest, KillError, PruneError};
 use mpx_delta::{common, deltas, digest_of};
 use mpx_name::Name;
 use std::alloc::Global;
@@ -99,7 +99,7 @@ fn prunes_in_vain(
 }
 
 // Whether this is the number of process 0 on the context.
-fn has_number(numbers: &Acks, name: &Name, told: Option<u32>) -> bool {
+fn has_number(numbers: &Digest, name: &Name, told: Option<u32>) -> bool {
     match numbers.get(name) {
         None => told.is_none(),
         Some(numbers) => match numbers.get(&proc(0)) {

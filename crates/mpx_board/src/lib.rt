@@ -25,7 +25,6 @@ pub use laws::{
     boards_are_joined_by_their_facts, boards_are_their_facts, boards_stay_tidy,
     dead_contexts_stay_dead, joining_boards_is_a_semilattice, joining_parts_is_a_semilattice,
 };
-pub use nested::{
-    Acks, CallPosts, Entry, Lifted, Parts, VersionVector, is_said, is_told, says_something,
-};
+pub use mpx_floor::VersionVector;
+pub use nested::{CallPosts, Digest, Entry, Lifted, Parts, is_said, is_told, says_something};
 pub use prepared::Prepared;

@@ -16,13 +16,11 @@ ghost use Rattle.mpx_board.specs.Views.{view_of_acks, view_of_call, view_of_call
 use join_core::{Exact, Flat, Max, Pair};
 use join_nest::{Keyed, Lift, Trunc};
 use mpx_birth::Birth;
+use mpx_floor::VersionVector;
 use mpx_group::Proc;
 use mpx_name::Name;
 use mpx_post::Post;
 use std::alloc::Global;
-
-/// A version vector: a number of calls for each process.
-pub type VersionVector = Keyed<Proc, Max>;
 
 /// The posts of one call, by process.
 pub type CallPosts = Keyed<Proc, Flat<Post>>;
@@ -35,10 +33,10 @@ pub type Entry = Pair<Flat<Birth>, Pair<VersionVector, Trunc<CallPosts>>>;
 pub type Lifted = Lift<Entry>;
 
 /// What one process says that it has: by context and member, how many calls it holds in order or has dropped.
-pub type Acks = Keyed<Name, VersionVector>;
+pub type Digest = Keyed<Name, VersionVector>;
 
 /// What stands inside a board: what is known of each context, and what each process says that it has.
-pub type Parts = Pair<Keyed<Name, Lifted>, Keyed<Proc, Acks>>;
+pub type Parts = Pair<Keyed<Name, Lifted>, Keyed<Proc, Digest>>;
 
 // Nothing about a context.
 pub fn new_entry(alloc: Global) -> Entry
@@ -62,16 +60,6 @@ pub fn known<T>(value: &Flat<T>) -> Option<&T>
         Flat::Unknown => None,
         Flat::Known(value) => Some(value),
         Flat::Clash => None,
-    }
-}
-
-// The number of the process: 0 where there is none.
-pub fn number_of(numbers: &VersionVector, process: Proc) -> u32
-    ensures { result ≡ or_zero (get (view_of_numbers numbers.now) process) }
-{
-    match numbers.get(&process) {
-        None => 0,
-        Some(number) => number.0,
     }
 }
 
@@ -182,7 +170,7 @@ impl Tidy for Flat<Post> {
     }
 }
 
-impl Tidy for Acks {
+impl Tidy for Digest {
     ghost Shown = { AcksView };
 
     ghost shown = { view_of_acks };

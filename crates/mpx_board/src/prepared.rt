@@ -9,7 +9,7 @@ ghost use Rattle.mpx_board.specs.Parts.{acks_joining, lifted_joining};
 ghost use Rattle.mpx_board.specs.Views.{view_of_all_acks, view_of_entries};
 
 use crate::board::Board;
-use crate::nested::{Acks, Lifted};
+use crate::nested::{Digest, Lifted};
 use join_core::OutOfMemory;
 use join_nest::Keyed;
 use mpx_group::Proc;
@@ -20,7 +20,7 @@ use std::alloc::Global;
 #[derive(Debug, Drop)]
 pub struct Prepared {
     contexts: Keyed<Name, Lifted>,
-    acks: Keyed<Proc, Acks>,
+    acks: Keyed<Proc, Digest>,
 }
 
 impl Board {
@@ -64,9 +64,9 @@ fn prepare_contexts(
 
 fn prepare_acks(
     alloc: Global,
-    acks: &mut Keyed<Proc, Acks>,
-    other: &Keyed<Proc, Acks>,
-) -> Result<Keyed<Proc, Acks>, OutOfMemory>
+    acks: &mut Keyed<Proc, Digest>,
+    other: &Keyed<Proc, Digest>,
+) -> Result<Keyed<Proc, Digest>, OutOfMemory>
     ensures same { view_of_all_acks acks.new ≡ view_of_all_acks acks.old }
     ensures made { IfOk result (λ made. (process : ℕ) → get (view_of_all_acks made) process
         ≡ joined_there acks_joining (get (view_of_all_acks other.now) process) (get (view_of_all_acks acks.old) process)) }
@@ -83,7 +83,7 @@ fn put_contexts(contexts: &mut Keyed<Name, Lifted>, made: Keyed<Name, Lifted>)
     contexts.put_prepared(made)
 }
 
-fn put_acks(acks: &mut Keyed<Proc, Acks>, made: Keyed<Proc, Acks>)
+fn put_acks(acks: &mut Keyed<Proc, Digest>, made: Keyed<Proc, Digest>)
     requires { HasRoom acks.old made }
     ensures { (process : ℕ) → get (view_of_all_acks acks.new) process
         ≡ put_over (get (view_of_all_acks made) process) (get (view_of_all_acks acks.old) process) }

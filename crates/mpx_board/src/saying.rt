@@ -9,7 +9,7 @@ ghost use Rattle.mpx_board.specs.Views.{view_of_acks};
 
 use crate::acks::{Raised, exchange_acks, one_ack, raised_by};
 use crate::board::Board;
-use crate::nested::Acks;
+use crate::nested::Digest;
 use join_core::OutOfMemory;
 use mpx_group::Proc;
 use mpx_name::Name;
@@ -44,7 +44,7 @@ impl Board {
         &mut self,
         alloc: Global,
         process: Proc,
-        said: &Acks,
+        said: &Digest,
     ) -> Result<(), OutOfMemory>
         requires { IsTrue (are_tidy_numbers (view_of_acks said.now)) }
         ensures ok { OnOk result (look self.new ≡ join (look self.old) (own_acks process (numbers_acked (view_of_acks said.now)))) }
@@ -56,7 +56,7 @@ impl Board {
     }
 
     /// Makes what stands once the process says all these calls too, of which no number is 0: what [`Board::store`] stores.
-    pub fn raised(&self, alloc: Global, process: Proc, said: &Acks) -> Result<Raised, OutOfMemory>
+    pub fn raised(&self, alloc: Global, process: Proc, said: &Digest) -> Result<Raised, OutOfMemory>
         requires { IsTrue (are_tidy_numbers (view_of_acks said.now)) }
         ensures { IfOk result (λ made. Raises made (look self.now) (join (look self.now) (own_acks process (numbers_acked (view_of_acks said.now))))) }
     {
@@ -77,7 +77,12 @@ impl Board {
 
     /// Says all these calls too, as [`Board::raise_acks`] does, and gives what takes that back: [`Board::exchange`] stores again
     /// what stood before. An `Err` changes nothing.
-    pub fn say(&mut self, alloc: Global, process: Proc, said: &Acks) -> Result<Raised, OutOfMemory>
+    pub fn say(
+        &mut self,
+        alloc: Global,
+        process: Proc,
+        said: &Digest,
+    ) -> Result<Raised, OutOfMemory>
         requires { IsTrue (are_tidy_numbers (view_of_acks said.now)) }
         ensures ok { OnOk result (look self.new ≡ join (look self.old) (own_acks process (numbers_acked (view_of_acks said.now)))) }
         ensures back { IfOk result (λ before. StoringLeads before (parts_of self.new) (parts_of self.old)) }

@@ -15,7 +15,7 @@ use crate::names::read_name;
 use crate::process_numbers::read_rows;
 use join_core::Max;
 use join_nest::Keyed;
-use mpx_board::{Acks, VersionVector};
+use mpx_board::{Digest, VersionVector};
 use mpx_format::{ReadError, Version};
 use mpx_group::Proc;
 use mpx_name::Name;
@@ -87,7 +87,7 @@ impl WireValue for VersionVector {
     }
 }
 
-impl WireValue for Acks {
+impl WireValue for Digest {
     ghost Seen = { FinMap name_cmp (FinMap nat_cmp ℕ) };
 
     ghost seen = { λ a. keyed_view name_cmp (λ m. keyed_view nat_cmp (λ n. n.0) m.entries.items) a.entries.items };
@@ -105,7 +105,7 @@ impl WireValue for Acks {
         version: Version,
         source: Source<'a>,
         bytes: &'a [u8],
-    ) -> Result<(Acks, &'a [u8]), ReadError> {
+    ) -> Result<(Digest, &'a [u8]), ReadError> {
         let (count, rest) = read_some_names(bytes)?;
         let (entries, rest) = read_entries(version, source, &None, count as usize, rest)?;
         Ok((Keyed::from_rising(entries), rest))
@@ -117,7 +117,7 @@ pub fn read_all_acks<'a>(
     version: Version,
     source: Source<'a>,
     bytes: &'a [u8],
-) -> Result<(Keyed<Proc, Acks>, &'a [u8]), ReadError>
+) -> Result<(Keyed<Proc, Digest>, &'a [u8]), ReadError>
     ensures gives { Gives (λ x. (view_of_all_acks x.0, x.1.now)) result (all_acks.read bytes.now) }
     ensures some { IfErr result (λ e. (rest : List ℕ) → byte.read bytes.now ≢ Ok (0, rest)) }
 {

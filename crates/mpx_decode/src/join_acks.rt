@@ -26,7 +26,7 @@ use crate::join_rows::{FrontKey, WireJoin, raise_map};
 use crate::process_numbers::front_row;
 use join_core::{Max, OutOfMemory};
 use join_nest::Keyed;
-use mpx_board::{Acks, VersionVector};
+use mpx_board::{Digest, VersionVector};
 use mpx_format::{ReadError, Version};
 use mpx_group::Proc;
 use mpx_name::{Name, Step};
@@ -252,7 +252,7 @@ impl WireJoin for VersionVector {
     ghost between_laws = { numbers_between_laws };
 }
 
-impl WireJoin for Acks {
+impl WireJoin for Digest {
     ghost View = { FinMap name_cmp (FinMap nat_cmp ℕ) };
 
     ghost view = { λ a. keyed_view name_cmp (λ m. keyed_view nat_cmp (λ n. n.0) m.entries.items) a.entries.items };
@@ -267,8 +267,8 @@ impl WireJoin for Acks {
         version: Version,
         beyond: &mut Beyond<'a>,
         bytes: &'a [u8],
-    ) -> Result<(Acks, &'a [u8]), ReadError> {
-        <Acks as WireValue>::read(version, Source::of(beyond.alloc()), bytes)
+    ) -> Result<(Digest, &'a [u8]), ReadError> {
+        <Digest as WireValue>::read(version, Source::of(beyond.alloc()), bytes)
     }
 
     fn raise<'a>(

@@ -20,7 +20,7 @@ use crate::join_rows::{FrontKey, WireJoin, raise_entry, raise_placed};
 use crate::told_rows::behind_told;
 use join_core::OutOfMemory;
 use join_nest::Keyed;
-use mpx_board::{Acks, VersionVector};
+use mpx_board::{Digest, VersionVector};
 use mpx_format::{Kept, KeptAcks, PIECE_ROWS, Version};
 use mpx_group::Proc;
 use mpx_name::Name;
@@ -31,7 +31,7 @@ use std::mem;
 pub fn raise_all_acks<'a>(
     version: Version,
     beyond: &mut Beyond<'a>,
-    all: &mut Keyed<Proc, Acks>,
+    all: &mut Keyed<Proc, Digest>,
     kept: &mut Kept,
     bytes: &'a [u8],
 ) -> Result<&'a [u8], OutOfMemory>
@@ -58,7 +58,7 @@ pub fn raise_all_acks<'a>(
 fn raise_processes<'a>(
     version: Version,
     beyond: &mut Beyond<'a>,
-    entries: &mut Vec<(Proc, Acks)>,
+    entries: &mut Vec<(Proc, Digest)>,
     kept: &mut Kept,
     count: usize,
     bytes: &'a [u8],
@@ -89,7 +89,7 @@ fn raise_processes<'a>(
 fn raise_process<'a>(
     version: Version,
     beyond: &mut Beyond<'a>,
-    entries: &mut Vec<(Proc, Acks)>,
+    entries: &mut Vec<(Proc, Digest)>,
     kept: &mut Kept,
     next: usize,
     bytes: &'a [u8],
@@ -119,7 +119,7 @@ fn raise_one<'a>(
     version: Version,
     beyond: &mut Beyond<'a>,
     process: Proc,
-    said: &mut Acks,
+    said: &mut Digest,
     kept: &mut Kept,
     bytes: &'a [u8],
 ) -> Result<&'a [u8], OutOfMemory>
@@ -142,7 +142,7 @@ fn raise_one<'a>(
 fn raise_beside<'a>(
     version: Version,
     beyond: &mut Beyond<'a>,
-    said: &mut Acks,
+    said: &mut Digest,
     kept: &mut KeptAcks,
     bytes: &'a [u8],
 ) -> Result<&'a [u8], OutOfMemory>

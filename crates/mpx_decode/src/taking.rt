@@ -12,7 +12,7 @@ use crate::join_contexts::raise_contexts;
 use crate::join_kept::raise_all_acks;
 use join_core::{OutOfMemory, Pair};
 use join_nest::Keyed;
-use mpx_board::{Acks, Board, Lifted};
+use mpx_board::{Board, Digest, Lifted};
 use mpx_format::{Kept, Version};
 use mpx_group::Proc;
 use mpx_name::Name;
@@ -71,7 +71,7 @@ fn take_both<'a>(
     version: Version,
     beyond: &mut Beyond<'a>,
     contexts: &mut Keyed<Name, Lifted>,
-    acks: &mut Keyed<Proc, Acks>,
+    acks: &mut Keyed<Proc, Digest>,
     kept: &mut Kept,
     bytes: &'a [u8],
 ) -> Result<&'a [u8], OutOfMemory>

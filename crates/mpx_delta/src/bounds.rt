@@ -4,7 +4,7 @@
 use join_core::Flat;
 use join_nest::Lift;
 use mpx_birth::Birth;
-use mpx_board::{Acks, CallPosts, Entry, Lifted, VersionVector};
+use mpx_board::{CallPosts, Digest, Entry, Lifted, VersionVector};
 use mpx_group::Proc;
 use mpx_name::{Name, Step};
 use mpx_post::Post;
@@ -46,7 +46,7 @@ pub fn room_after_contexts(mut room: usize, contexts: &[(Name, Lifted)]) -> usiz
 }
 
 // What is left of it behind what these processes acknowledge.
-pub fn room_after_acks(mut room: usize, processes: &[(Proc, Acks)]) -> usize {
+pub fn room_after_acks(mut room: usize, processes: &[(Proc, Digest)]) -> usize {
     for (_, acks) in processes {
         room = after(room, 1, ACKS);
         room = room_after_names(room, acks.entries());

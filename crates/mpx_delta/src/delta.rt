@@ -14,7 +14,7 @@ ghost use Rattle.mpx_delta.specs.Lean.{lean_call, lean_calls, lean_context, lean
 use crate::packing::parts;
 use join_core::{Exact, OutOfMemory, Pair};
 use join_nest::{Keyed, Lift, Trunc};
-use mpx_board::{Acks, Board, CallPosts, Entry, Lifted, VersionVector, is_said};
+use mpx_board::{Board, CallPosts, Digest, Entry, Lifted, VersionVector, is_said};
 use mpx_group::Proc;
 use mpx_name::Name;
 use std::alloc::Global;
@@ -25,7 +25,7 @@ use std::alloc::Global;
 pub fn delta_for(
     alloc: Global,
     board: &Board,
-    digest: &Acks,
+    digest: &Digest,
     limit: usize,
 ) -> Result<Vec<Board>, OutOfMemory>
     requires least { 524288 ≤ limit }
@@ -47,7 +47,7 @@ pub fn lean_board(
     alloc: Global,
     board: &Board,
     said: Board,
-    digest: &Acks,
+    digest: &Digest,
 ) -> Result<Board, OutOfMemory>
     ensures { IfOk result (λ made. look made ≡ without (numbers_acked (view_of_acks digest.now)) (record (look board.now) { acks = (look said).acks })) }
 {
@@ -68,7 +68,7 @@ pub fn lean_board(
 pub fn lean_contexts(
     alloc: Global,
     contexts: &Keyed<Name, Lifted>,
-    digest: &Acks,
+    digest: &Digest,
 ) -> Result<Keyed<Name, Lifted>, OutOfMemory>
     ensures { IfOk result (λ made. view_of_entries made ≡ keep (lean_context (view_of_acks digest.now)) (view_of_entries contexts.now)) }
 {
@@ -87,7 +87,7 @@ fn lean_lifted(
     alloc: Global,
     name: &Name,
     known: &Lifted,
-    digest: &Acks,
+    digest: &Digest,
 ) -> Result<Lifted, OutOfMemory>
     ensures { IfOk result (λ made. view_of_lifted made ≡ lean_lifted (numbers_acked (view_of_acks digest.now) name.now) (view_of_lifted known.now)) }
 {
@@ -102,7 +102,7 @@ fn lean_context(
     alloc: Global,
     name: &Name,
     entry: &Entry,
-    digest: &Acks,
+    digest: &Digest,
 ) -> Result<Entry, OutOfMemory>
     ensures { IfOk result (λ made. view_of_entry made ≡ lean_entry (numbers_acked (view_of_acks digest.now) name.now) (view_of_entry entry.now)) }
 {

@@ -15,7 +15,7 @@ use crate::bounds::{room_after_acks, room_after_contexts, room_after_names};
 use crate::pieces::one;
 use join_core::{Exact, Key, OutOfMemory, Pair};
 use join_nest::{Keyed, push_copy};
-use mpx_board::{Acks, Board, Lifted, VersionVector};
+use mpx_board::{Board, Digest, Lifted, VersionVector};
 use mpx_encode::frame_len;
 use mpx_group::Proc;
 use mpx_name::Name;
@@ -67,7 +67,7 @@ pub fn contexts_piece(
 }
 
 // What these processes acknowledge, where that is short.
-pub fn acks_piece(alloc: Global, processes: &[(Proc, Acks)]) -> Result<Option<Board>, OutOfMemory>
+pub fn acks_piece(alloc: Global, processes: &[(Proc, Digest)]) -> Result<Option<Board>, OutOfMemory>
     requires { IsEntryRun nat_cmp view_of_acks (λ e. is_tidy_acks e.1) processes.now }
     ensures { IfOk result (λ found. IfSome found (IsPiece (λ P. All (SaysAcks P) (seen view_of_acks processes.now)))) }
 {

@@ -17,7 +17,7 @@ use crate::places::{exchange_contexts, lean_places};
 use crate::posted::common_of_posts;
 use join_core::{OutOfMemory, Pair};
 use join_nest::Keyed;
-use mpx_board::{Acks, Board, Raised};
+use mpx_board::{Board, Digest, Raised};
 use mpx_digest::digest_beyond;
 use mpx_encode::{EncodeError, encode_over, encode_rope, keep};
 use mpx_format::Kept;
@@ -127,7 +127,7 @@ fn lean_frames(
 fn copied_frames(
     alloc: Global,
     board: &mut Board,
-    shared: &Acks,
+    shared: &Digest,
     limit: usize,
     spare: &mut Vec<Rope>,
     kept: &Kept,
@@ -147,7 +147,7 @@ fn copied_frames(
 }
 
 // The contexts of the board without the posts below these numbers, and nothing that anyone says.
-fn lean_of(alloc: Global, board: &Board, shared: &Acks) -> Result<Board, OutOfMemory>
+fn lean_of(alloc: Global, board: &Board, shared: &Digest) -> Result<Board, OutOfMemory>
     ensures { IfOk result (λ made. look_of ((parts_of made).0, (parts_of board.now).1) ≡ without (numbers_acked (view_of_acks shared.now)) (look board.now)) }
 {
     let first = lean_contexts(alloc, &board.pair().first, shared)?;

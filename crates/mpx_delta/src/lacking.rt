@@ -15,7 +15,7 @@ use crate::delta::lean_board;
 use crate::packing::parts;
 use crate::posted::common_of_posts;
 use join_core::OutOfMemory;
-use mpx_board::{Acks, Board, Raised};
+use mpx_board::{Board, Digest, Raised};
 use mpx_digest::digest_of;
 use mpx_encode::frame_len;
 use mpx_group::Proc;
@@ -85,7 +85,12 @@ pub fn deltas(
 }
 
 // What all processes say, where the process says what the digest says.
-fn raised_acks(alloc: Global, board: &Board, me: Proc, digest: &Acks) -> Result<Board, OutOfMemory>
+fn raised_acks(
+    alloc: Global,
+    board: &Board,
+    me: Proc,
+    digest: &Digest,
+) -> Result<Board, OutOfMemory>
     requires { IsTrue (are_tidy_numbers (view_of_acks digest.now)) }
     ensures { IfOk result (λ made. record (look board.now) { acks = (look made).acks } ≡ join (look board.now) (own_acks me (numbers_acked (view_of_acks digest.now)))) }
 {

@@ -12,7 +12,7 @@ ghost use Rattle.mpx_delta.specs.Least.{least, least_number, least_numbers};
 
 use join_core::{Exact, Join, Key, Max, OutOfMemory};
 use join_nest::Keyed;
-use mpx_board::{Acks, Board, VersionVector};
+use mpx_board::{Board, Digest, VersionVector};
 use mpx_digest::value_near;
 use mpx_group::Proc;
 use mpx_name::Name;
@@ -21,7 +21,7 @@ use std::cmp::Ordering;
 
 /// For each context and process the least number that one of the first `processes` processes acknowledges, 1 to 64 of them. An `Err`
 /// is want of memory.
-pub fn common(alloc: Global, board: &Board, processes: u8) -> Result<Acks, OutOfMemory>
+pub fn common(alloc: Global, board: &Board, processes: u8) -> Result<Digest, OutOfMemory>
     requires some { 0 < processes }
     requires few { processes ≤ 64 }
     ensures least { IfOk result (λ made. (name : NameView) (p : ℕ) → numbers_acked (view_of_acks made) name p ≡ common_on processes (look board.now) name p) }
@@ -38,7 +38,7 @@ pub fn common(alloc: Global, board: &Board, processes: u8) -> Result<Acks, OutOf
 }
 
 // What the process acknowledges.
-fn acks_of(alloc: Global, board: &Board, process: Proc) -> Result<Acks, OutOfMemory>
+fn acks_of(alloc: Global, board: &Board, process: Proc) -> Result<Digest, OutOfMemory>
     ensures numbers { IfOk result (λ made. (name : NameView) (p : ℕ) → numbers_acked (view_of_acks made) name p ≡ (look board.now).acks process name p) }
     ensures tidy { IfOk result (λ made. IsTrue (are_tidy_numbers (view_of_acks made))) }
 {
@@ -49,14 +49,19 @@ fn acks_of(alloc: Global, board: &Board, process: Proc) -> Result<Acks, OutOfMem
 }
 
 // The lesser of these numbers and those that the process acknowledges: mostly these, since the least is soon found.
-fn least_of(alloc: Global, board: &Board, process: Proc, numbers: Acks) -> Result<Acks, OutOfMemory>
+fn least_of(
+    alloc: Global,
+    board: &Board,
+    process: Proc,
+    numbers: Digest,
+) -> Result<Digest, OutOfMemory>
     requires { IsTrue (are_tidy_numbers (view_of_acks numbers)) }
     ensures least { IfOk result (λ made. (name : NameView) (p : ℕ) → numbers_acked (view_of_acks made) name p
         ≡ min (numbers_acked (view_of_acks numbers) name p) ((look board.now).acks process name p)) }
     ensures tidy { IfOk result (λ made. IsTrue (are_tidy_numbers (view_of_acks made))) }
 {
     match board.pair().second.get(&process) {
-        None => Ok(Acks::new(alloc)),
+        None => Ok(Digest::new(alloc)),
         Some(acks) => {
             if numbers.leq(acks) {
                 return Ok(numbers);
@@ -67,7 +72,7 @@ fn least_of(alloc: Global, board: &Board, process: Proc, numbers: Acks) -> Resul
 }
 
 // The lesser numbers of both, where both have one, in one walk of both.
-fn least(alloc: Global, numbers: &Acks, others: &Acks) -> Result<Acks, OutOfMemory>
+fn least(alloc: Global, numbers: &Digest, others: &Digest) -> Result<Digest, OutOfMemory>
     ensures { IfOk result (λ made. view_of_acks made ≡ least (view_of_acks numbers.now) (view_of_acks others.now)) }
 {
     let mut made = Vec::new(alloc);
@@ -88,7 +93,7 @@ fn least_on(
     alloc: Global,
     name: &Name,
     numbers: &VersionVector,
-    others: &Acks,
+    others: &Digest,
     at: usize,
 ) -> Result<VersionVector, OutOfMemory>
     ensures { IfOk result (λ made. view_of_numbers made ≡ least_numbers (view_of_numbers numbers.now) (get (view_of_acks others.now) name.now)) }

@@ -12,7 +12,7 @@ ghost use Rattle.mpx_delta.specs.Lean.{lean_context, lean_lifted, with_contexts}
 use crate::delta::lean_entry;
 use join_core::{OutOfMemory, Pair};
 use join_nest::{Changes, Keyed, Lift};
-use mpx_board::{Acks, Board, Lifted, is_said};
+use mpx_board::{Board, Digest, Lifted, is_said};
 use mpx_name::Name;
 use std::alloc::Global;
 use std::mem;
@@ -22,7 +22,7 @@ use std::mem;
 pub fn lean_places(
     alloc: Global,
     contexts: &Keyed<Name, Lifted>,
-    digest: &Acks,
+    digest: &Digest,
 ) -> Result<Option<Changes<Lifted>>, OutOfMemory>
     requires { are_tidy_entries (view_of_entries contexts.now) ≡ true }
     ensures { IfOk result (λ made. IfSome made (λ changes. with_values (view_of_entries contexts.now) (seen view_of_lifted changes.values.items)
@@ -47,7 +47,7 @@ fn leaner(
     alloc: Global,
     name: &Name,
     known: &Lifted,
-    digest: &Acks,
+    digest: &Digest,
 ) -> Result<Option<Lifted>, OutOfMemory>
     requires { is_tidy_lifted (view_of_lifted known.now) ≡ true }
     ensures none { IfOk result (λ made. IfNone made (lean_context (view_of_acks digest.now) name.now (view_of_lifted known.now) ≡ Some (view_of_lifted known.now))) }

@@ -10,7 +10,7 @@ ghost use Rattle.mpx_delta.specs.Posted.{above, least_above, least_posted, lesse
 use crate::least::place_from;
 use join_core::{Exact, Max, OutOfMemory};
 use join_nest::{Keyed, Lift};
-use mpx_board::{Acks, Board, Lifted, VersionVector};
+use mpx_board::{Board, Digest, Lifted, VersionVector};
 use mpx_digest::{number_near, value_near};
 use mpx_group::Proc;
 use mpx_name::Name;
@@ -23,7 +23,7 @@ pub fn common_of_posts(
     board: &Board,
     said: &Board,
     processes: u8,
-) -> Result<Acks, OutOfMemory>
+) -> Result<Digest, OutOfMemory>
     requires some { 0 < processes }
     requires few { processes ≤ 64 }
     ensures { IfOk result (λ made. without (numbers_acked (view_of_acks made)) (look board.now) ≡ without (common_on processes (look said.now)) (look board.now)) }
@@ -43,7 +43,7 @@ pub fn common_of_posts(
 // Those of one context, whose name is looked for at the place first: without calls, and of a dead one, there are none.
 fn least_posted(
     alloc: Global,
-    acks: &Keyed<Proc, Acks>,
+    acks: &Keyed<Proc, Digest>,
     name: &Name,
     known: &Lifted,
     processes: u8,
@@ -65,7 +65,7 @@ fn least_posted(
 // For each process the least number that one of so many acknowledges on the context, where it is above the call.
 fn least_above(
     alloc: Global,
-    acks: &Keyed<Proc, Acks>,
+    acks: &Keyed<Proc, Digest>,
     name: &Name,
     call: u32,
     processes: u8,
@@ -88,7 +88,7 @@ fn least_above(
 // Those of the first process.
 fn first_above(
     alloc: Global,
-    acks: &Keyed<Proc, Acks>,
+    acks: &Keyed<Proc, Digest>,
     name: &Name,
     call: u32,
     near: usize,
@@ -104,7 +104,7 @@ fn first_above(
 // The lesser ones of these and those of the process.
 fn lesser_on(
     alloc: Global,
-    acks: &Keyed<Proc, Acks>,
+    acks: &Keyed<Proc, Digest>,
     name: &Name,
     process: Proc,
     call: u32,
@@ -121,7 +121,7 @@ fn lesser_on(
 
 // What the process says of the context, whose name is looked for at the place first.
 fn said_on<'a>(
-    acks: &'a Keyed<Proc, Acks>,
+    acks: &'a Keyed<Proc, Digest>,
     name: &Name,
     process: Proc,
     near: usize,

@@ -16,7 +16,7 @@ use crate::entry_runs::{acks_piece, contexts_piece, names_piece};
 use crate::pieces::{dead_piece, has_head, head_piece, number_piece, post_piece};
 use join_core::OutOfMemory;
 use join_nest::{Lift, Trunc};
-use mpx_board::{Acks, Board, CallPosts, Entry, Lifted, VersionVector};
+use mpx_board::{Board, CallPosts, Digest, Entry, Lifted, VersionVector};
 use mpx_group::Proc;
 use mpx_name::Name;
 use std::alloc::Global;
@@ -165,7 +165,7 @@ fn add_names(
 fn add_acks(
     alloc: Global,
     made: &mut Vec<Board>,
-    processes: &[(Proc, Acks)],
+    processes: &[(Proc, Digest)],
 ) -> Result<(), OutOfMemory>
     requires { IsEntryRun nat_cmp view_of_acks (λ e. is_tidy_acks e.1) processes.now }
     ensures { OnOk result (AddsPieces (λ P. All (SaysAcks P) (seen view_of_acks processes.now)) made.old.items made.new.items) }

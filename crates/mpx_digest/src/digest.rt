@@ -16,14 +16,14 @@ use crate::quiet::says_all;
 use join_core::{Exact, Flat, Max, OutOfMemory};
 use join_nest::{Keyed, Lift, Trunc};
 use mpx_birth::Birth;
-use mpx_board::{Acks, Board, CallPosts, Entry, Lifted, VersionVector, is_told};
+use mpx_board::{Board, CallPosts, Digest, Entry, Lifted, VersionVector, is_told};
 use mpx_group::Proc;
 use mpx_name::Name;
 use std::alloc::Global;
 
 /// For each live context, and each process that is a member or has a post there, how many of its calls are told or dropped,
 /// in order up to the first gap. Dead contexts are left out. An `Err` is want of memory.
-pub fn digest_of(alloc: Global, board: &Board) -> Result<Acks, OutOfMemory>
+pub fn digest_of(alloc: Global, board: &Board) -> Result<Digest, OutOfMemory>
     ensures digest { IfOk result (λ made. IsDigest (numbers_acked (view_of_acks made)) (look board.now)) }
     ensures tidy { IfOk result (λ made. IsTrue (are_tidy_numbers (view_of_acks made))) }
 {
@@ -38,7 +38,7 @@ pub fn digest_of(alloc: Global, board: &Board) -> Result<Acks, OutOfMemory>
 }
 
 /// As [`digest_of`], without contexts that have no post held and of which the process says as much already. An `Err` is want of memory.
-pub fn digest_beyond(alloc: Global, board: &Board, me: Proc) -> Result<Acks, OutOfMemory>
+pub fn digest_beyond(alloc: Global, board: &Board, me: Proc) -> Result<Digest, OutOfMemory>
     ensures digest { IfOk result (λ made. IsDigestBeyond me (numbers_acked (view_of_acks made)) (look board.now)) }
     ensures tidy { IfOk result (λ made. IsTrue (are_tidy_numbers (view_of_acks made))) }
 {
@@ -49,7 +49,7 @@ pub fn digest_beyond(alloc: Global, board: &Board, me: Proc) -> Result<Acks, Out
 }
 
 // The digest, without quiet contexts of which these say as much.
-fn digest_above(alloc: Global, board: &Board, said: &Acks) -> Result<Acks, OutOfMemory>
+fn digest_above(alloc: Global, board: &Board, said: &Digest) -> Result<Digest, OutOfMemory>
     ensures { IfOk result (λ made. view_of_acks made ≡ digest_above (view_of_acks said.now) (parts_of board.now)) }
 {
     let mut made = Vec::new(alloc);
@@ -67,7 +67,7 @@ fn digest_above(alloc: Global, board: &Board, said: &Acks) -> Result<Acks, OutOf
 // The digest of one context, whose name is looked for at the place first: empty where these say as much.
 fn numbers_above(
     alloc: Global,
-    said: &Acks,
+    said: &Digest,
     near: usize,
     name: &Name,
     known: &Lifted,

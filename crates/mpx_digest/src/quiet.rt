@@ -11,13 +11,13 @@ ghost use Rattle.mpx_digest.specs.Digest.{number_at};
 use join_core::{Exact, Flat, Key};
 use join_nest::{Keyed, Lift};
 use mpx_birth::Birth;
-use mpx_board::{Acks, Lifted, VersionVector};
+use mpx_board::{Digest, Lifted, VersionVector};
 use mpx_group::Proc;
 use mpx_name::Name;
 use std::cmp::Ordering;
 
 // Whether these say as much of the context as its digest, where it has no post held. Its name is looked for at the place first.
-pub fn says_all(said: &Acks, near: usize, name: &Name, known: &Lifted) -> bool
+pub fn says_all(said: &Digest, near: usize, name: &Name, known: &Lifted) -> bool
     ensures { result ≡ says_all (view_of_acks said.now) name.now (view_of_lifted known.now) }
 {
     match known {
@@ -36,7 +36,7 @@ pub fn says_all(said: &Acks, near: usize, name: &Name, known: &Lifted) -> bool
 }
 
 // Whether these say of each member, where members are known, that so many of its calls are known.
-fn says_dropped(said: &Acks, near: usize, name: &Name, birth: &Flat<Birth>, dropped: u32) -> bool
+fn says_dropped(said: &Digest, near: usize, name: &Name, birth: &Flat<Birth>, dropped: u32) -> bool
     ensures { result ≡ says_dropped (get (view_of_acks said.now) name.now) dropped (told (flat_view (λ v. v) birth.now)) }
 {
     match birth {
@@ -48,7 +48,7 @@ fn says_dropped(said: &Acks, near: usize, name: &Name, birth: &Flat<Birth>, drop
     }
 }
 
-fn says_members(said: &Acks, near: usize, name: &Name, members: &[Proc], dropped: u32) -> bool
+fn says_members(said: &Digest, near: usize, name: &Name, members: &[Proc], dropped: u32) -> bool
     ensures { result ≡ says_members (get (view_of_acks said.now) name.now) dropped members.now }
 {
     match value_near(said, near, name) {

@@ -30,7 +30,7 @@ use crate::write_process_numbers::{room_after_fronts, write_fronts};
 use join_core::{Flat, OutOfMemory};
 use join_nest::{Lift, Trunc};
 use mpx_birth::Birth;
-use mpx_board::{Acks, CallPosts, Entry, Lifted, Parts};
+use mpx_board::{CallPosts, Digest, Entry, Lifted, Parts};
 use mpx_format::Kept;
 use mpx_group::Proc;
 use mpx_post::Post;
@@ -199,7 +199,7 @@ impl WriteValue for Lifted {
     }
 }
 
-impl WriteValue for Acks {
+impl WriteValue for Digest {
     ghost Seen = { AcksView };
 
     ghost seen = { view_of_acks };
@@ -234,7 +234,7 @@ pub fn room_after_frame(parts: &Parts, kept: Option<&Kept>, room: usize) -> Opti
 }
 
 // What is left of so much room behind a byte and then what all processes say.
-fn room_after_all_acks(all: &[(Proc, Acks)], kept: Option<&Kept>, room: usize) -> Option<usize>
+fn room_after_all_acks(all: &[(Proc, Digest)], kept: Option<&Kept>, room: usize) -> Option<usize>
     requires ready { list_all (λ e. is_tidy_acks e.1 && nat_le (len e.1) most_names) (seen view_of_acks all.now) ≡ true }
     requires kept { IfSome kept (λ k. AreEntriesKept k.now.of.items (seen view_of_acks all.now)) }
     ensures value { result ≡ room_left (1 + length (entries_spelled process acks_format (seen view_of_acks all.now))) room }

@@ -17,7 +17,7 @@ use crate::room::{MOST_BYTES, room_left};
 use crate::write_entries::{WriteKey, room_after_entries, write_entries};
 use crate::write_numbers::write_u16;
 use join_core::OutOfMemory;
-use mpx_board::{Acks, Board, VersionVector};
+use mpx_board::{Board, Digest, VersionVector};
 use mpx_format::{Kept, PIECE_ROWS};
 use mpx_group::Proc;
 use mpx_name::Name;
@@ -42,7 +42,12 @@ pub fn keep(alloc: Global, board: &Board, kept: &mut Kept) -> Result<(), OutOfMe
 }
 
 // Keeps what the process says.
-fn keep_acks(alloc: Global, process: Proc, acks: &Acks, kept: &mut Kept) -> Result<(), OutOfMemory>
+fn keep_acks(
+    alloc: Global,
+    process: Proc,
+    acks: &Digest,
+    kept: &mut Kept,
+) -> Result<(), OutOfMemory>
     requires tidy { is_tidy_acks (view_of_acks acks.now) ≡ true }
     requires kept { ArePieces (pieces_of kept.old.of.items process) (entries (view_of_acks acks.now)) }
     ensures kept { ArePieces (pieces_of kept.new.of.items process) (entries (view_of_acks acks.now)) }
@@ -108,7 +113,7 @@ fn keep_piece(rows: &[(Name, VersionVector)], piece: &mut Rope) -> Result<(), Ou
 
 // What is left of so much room behind a byte and then what all processes say, of which pieces may be kept.
 #[tactic(auto, using(crate::proofs::Rooms::rooms))]
-pub fn room_after_kept(all: &[(Proc, Acks)], kept: &Kept, room: usize) -> Option<usize>
+pub fn room_after_kept(all: &[(Proc, Digest)], kept: &Kept, room: usize) -> Option<usize>
     requires ready { list_all (λ e. is_tidy_acks e.1 && nat_le (len e.1) most_names) (seen view_of_acks all.now) ≡ true }
     requires kept { AreEntriesKept kept.now.of.items (seen view_of_acks all.now) }
     ensures value { result ≡ room_left (1 + length (entries_spelled process acks_format (seen view_of_acks all.now))) room }
@@ -119,7 +124,7 @@ pub fn room_after_kept(all: &[(Proc, Acks)], kept: &Kept, room: usize) -> Option
 }
 
 // The same without the byte.
-fn room_after_all(all: &[(Proc, Acks)], kept: &Kept, room: usize) -> Option<usize>
+fn room_after_all(all: &[(Proc, Digest)], kept: &Kept, room: usize) -> Option<usize>
     requires ready { list_all (λ e. is_tidy_acks e.1 && nat_le (len e.1) most_names) (seen view_of_acks all.now) ≡ true }
     requires kept { AreEntriesKept kept.now.of.items (seen view_of_acks all.now) }
     ensures value { result ≡ room_left (length (entries_spelled process acks_format (seen view_of_acks all.now))) room }
@@ -134,7 +139,7 @@ fn room_after_all(all: &[(Proc, Acks)], kept: &Kept, room: usize) -> Option<usiz
 
 // What is left of so much room behind a process and what it says.
 #[tactic(auto, using(crate::proofs::Rooms::rooms))]
-fn room_after_entry(entry: &(Proc, Acks), pieces: &[Rope], room: usize) -> Option<usize>
+fn room_after_entry(entry: &(Proc, Digest), pieces: &[Rope], room: usize) -> Option<usize>
     requires ready { (is_tidy_acks (view_of_acks entry.now.1) && nat_le (len (view_of_acks entry.now.1)) most_names) ≡ true }
     requires kept { ArePieces pieces.now (entries (view_of_acks entry.now.1)) }
     ensures value { result ≡ room_left (length (entry_spelled process acks_format (entry.now.0, view_of_acks entry.now.1))) room }
@@ -146,7 +151,7 @@ fn room_after_entry(entry: &(Proc, Acks), pieces: &[Rope], room: usize) -> Optio
 }
 
 // What is left of so much room behind what a process says.
-fn room_after_acks(acks: &Acks, pieces: &[Rope], room: usize) -> Option<usize>
+fn room_after_acks(acks: &Digest, pieces: &[Rope], room: usize) -> Option<usize>
     requires ready { (is_tidy_acks (view_of_acks acks.now) && nat_le (len (view_of_acks acks.now)) most_names) ≡ true }
     requires kept { ArePieces pieces.now (entries (view_of_acks acks.now)) }
     ensures value { result ≡ room_left (length (acks_format.spelling (view_of_acks acks.now))) room }
@@ -189,7 +194,7 @@ fn room_after_piece(rows: &[(Name, VersionVector)], piece: &Rope, room: usize) -
 }
 
 // Writes what all processes say, of which pieces may be kept, at the end.
-pub fn write_kept(all: &[(Proc, Acks)], kept: &Kept, out: &mut Rope) -> Result<(), OutOfMemory>
+pub fn write_kept(all: &[(Proc, Digest)], kept: &Kept, out: &mut Rope) -> Result<(), OutOfMemory>
     requires fits { both_pass process.fits acks_format.fits (seen view_of_acks all.now) ≡ true }
     requires kept { AreEntriesKept kept.now.of.items (seen view_of_acks all.now) }
     ensures { OnOk result (out.new ≡ out.old ++ entries_spelled process acks_format (seen view_of_acks all.now)) }
@@ -200,7 +205,7 @@ pub fn write_kept(all: &[(Proc, Acks)], kept: &Kept, out: &mut Rope) -> Result<(
     Ok(())
 }
 
-fn write_entry(entry: &(Proc, Acks), pieces: &[Rope], out: &mut Rope) -> Result<(), OutOfMemory>
+fn write_entry(entry: &(Proc, Digest), pieces: &[Rope], out: &mut Rope) -> Result<(), OutOfMemory>
     requires process { process.fits entry.now.0 ≡ true }
     requires acks { acks_format.fits (view_of_acks entry.now.1) ≡ true }
     requires kept { ArePieces pieces.now (entries (view_of_acks entry.now.1)) }
@@ -210,7 +215,7 @@ fn write_entry(entry: &(Proc, Acks), pieces: &[Rope], out: &mut Rope) -> Result<
     write_acks(&entry.1, pieces, out)
 }
 
-fn write_acks(acks: &Acks, pieces: &[Rope], out: &mut Rope) -> Result<(), OutOfMemory>
+fn write_acks(acks: &Digest, pieces: &[Rope], out: &mut Rope) -> Result<(), OutOfMemory>
     requires fits { acks_format.fits (view_of_acks acks.now) ≡ true }
     requires kept { ArePieces pieces.now (entries (view_of_acks acks.now)) }
     ensures { OnOk result (out.new ≡ out.old ++ acks_format.spelling (view_of_acks acks.now)) }

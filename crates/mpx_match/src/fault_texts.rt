@@ -3,7 +3,6 @@ ghost use Rattle.std.specs.Prelude.{◌≡◌, Some};
 ghost use Rattle.mpx_match.specs.FaultTexts.{difference, fault_text};
 
 use crate::faults::{Fault, FaultKind};
-use std::error::Error;
 use std::fmt;
 
 impl FaultKind {
@@ -44,5 +43,3 @@ impl fmt::Display for Fault {
         write!(f, "{what} at rank {rank}")
     }
 }
-
-impl Error for Fault {}

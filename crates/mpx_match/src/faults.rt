@@ -1,4 +1,6 @@
 //! What the verdict of a call's posts says: in what they differ, and at which rank.
+use thiserror::Error;
+
 /// In what the members' posts to a call differ, in the order in which it is told.
 #[derive(Clone, Copy, Debug, PartialEq, Eq)]
 pub enum FaultKind {
@@ -23,7 +25,7 @@ pub enum FaultKind {
 }
 
 /// A call whose posts don't fit together: every member is told the same.
-#[derive(Clone, Copy, Debug, PartialEq, Eq)]
+#[derive(Clone, Copy, Debug, PartialEq, Eq, Error)]
 pub struct Fault {
     /// In what they differ.
     pub what: FaultKind,

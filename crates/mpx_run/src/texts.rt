@@ -21,9 +21,10 @@ use std::fmt;
 use std::io::{ErrorKind, Read, Write};
 use std::sync::Wait;
 use std::thread::Threads;
+use thiserror::Error;
 
 /// Why a job has no end, or why its text could not be written whole. It prints as one line of text.
-#[derive(Debug, Drop)]
+#[derive(Debug, Drop, Error)]
 pub enum RunError {
     /// The script is refused.
     Script(ScriptError),
@@ -53,8 +54,6 @@ impl fmt::Display for RunError {
         }
     }
 }
-
-impl std::error::Error for RunError {}
 
 impl From<ReadScriptError> for RunError {
     ghost from_gives = { λ refused e. e ≡ script_told refused };

@@ -71,7 +71,7 @@ impl fmt::Display for ScriptFault {
 }
 
 /// The refusal of a script. It prints as `script line N: WHAT`.
-#[derive(Clone, Copy, PartialEq, Eq, Debug)]
+#[derive(Clone, Copy, PartialEq, Eq, Debug, Error)]
 pub struct ScriptError {
     /// The line, from 1 on.
     pub line: u32,
@@ -87,8 +87,6 @@ impl fmt::Display for ScriptError {
         write!(f, "script line {line}: {what}")
     }
 }
-
-impl std::error::Error for ScriptError {}
 
 /// Why [`read_script`](crate::read_script) gives no script.
 #[derive(Debug, Drop, Error)]

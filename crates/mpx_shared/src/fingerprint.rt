@@ -2,7 +2,7 @@
 //! give the same number, others may too. Nothing is proved of it.
 use join_core::Pair;
 use join_nest::Lift;
-use mpx_board::{Acks, Board, CallPosts, Entry, Lifted, VersionVector, is_told};
+use mpx_board::{Board, CallPosts, Digest, Entry, Lifted, VersionVector, is_told};
 use mpx_group::Proc;
 use mpx_name::{Name, Step};
 
@@ -19,7 +19,7 @@ pub(crate) fn fingerprint(board: &Board) -> u64 {
     all
 }
 
-fn of_acks(acks: &Acks) -> u64 {
+fn of_acks(acks: &Digest) -> u64 {
     let mut all = 1;
     for (name, numbers) in acks.entries() {
         all = follow(all, follow(of_name(name), of_numbers(numbers)));

@@ -29,6 +29,7 @@ use std::alloc::Global;
 use std::marker::Brand;
 use std::sync::Wait;
 use std::thread::Threads;
+use thiserror::Error;
 
 /// So many frames have room in the queue of a run.
 const ROOM: usize = 256;
@@ -49,11 +50,13 @@ pub struct ThreadRun {
 }
 
 /// Why a run in threads came to nothing.
-#[derive(Clone, Copy, Debug, Drop, PartialEq, Eq)]
+#[derive(Clone, Copy, Debug, Drop, PartialEq, Eq, Error)]
 pub enum ThreadsError {
-    /// Memory was wanting, or a thread.
+    /// There was no more memory, or the system refused a thread.
+    #[error("out of memory")]
     OutOfMemory,
     /// A gate gave up.
+    #[error("gate gave up")]
     GateGaveUp,
 }
 
