@@ -5,6 +5,7 @@
     bench/checks.py --only NAME..      these, and what builds the programs for them
     bench/checks.py --list             each check with its command, the tools that it needs, and its time limit
     bench/checks.py --gate [COMMAND]   the gate first: bench/gate.py, or this command in its place
+    bench/checks.py --minutes N        another limit for all checks together than 25 minutes, for a machine with other work
 
 Each check gets a line with its seconds. The output of a check follows only where it failed. A check that takes longer than its limit is ended and has
 failed. A check is skipped only where a tool is missing, and the line names the tool. The last line counts all, with the counts of the gate added in. The
@@ -25,8 +26,8 @@ import time
 TOP = pathlib.Path(__file__).resolve().parent.parent
 PROGRAMS = {"GOSSIPMPI": "out/look/gossipmpi", "WAITS": "out/look/waits"}
 COUNTS = re.compile(r"(?:\w+: )?(\d+) passed, (\d+) failed(?:, (\d+) skipped)?$")
-# Minutes that all checks together may take. The gate may need 135 of the 180 that a run of `.ci/run` has.
-MOST = 40
+# Minutes that all checks together may take. The gate needs up to 152 on two processors, and a run of `.ci/run` may have 180.
+MOST = 25
 # Seconds that a check has to end by itself after it was asked to.
 GRACE = 10
 PASSED, FAILED, SKIPPED = "passed", "FAILED", "skipped"
@@ -50,14 +51,14 @@ class Check:
 LOOK = ("bench/look",)
 CHROMIUM = "chromium|chromium-browser|google-chrome|google-chrome-stable"
 CHECKS = [
-    Check("bench/look", "bench/look all", minutes=20),
-    Check("bench/starve", "bench/starve --trials", ("cc",), minutes=30),
-    Check("record/test", "record/test", ("gcc", "addr2line"), LOOK, 15),
+    Check("bench/look", "bench/look all", minutes=15),
+    Check("bench/starve", "bench/starve --trials", ("cc",), minutes=20),
+    Check("record/test", "record/test", ("gcc", "addr2line"), LOOK),
     Check("record/planted", "record/planted", (), LOOK),
     Check("bench/waits.py", "bench/waits.py out/look/gossipmpi 100", (), LOOK),
     Check("picture/test", "picture/test out/look/gossipmpi", (), LOOK),
     Check("picture/look", "picture/look", (CHROMIUM,)),
-    Check("bench/rows.py", "bench/rows.py", minutes=15),
+    Check("bench/rows.py", "bench/rows.py"),
     Check("bench/pages", "bench/pages", ("git",), LOOK),
     Check("bench/messages.py", "bench/messages.py out/look/gossipmpi", (), LOOK),
     Check("bench/imports.py", "bench/imports.py"),
@@ -110,12 +111,12 @@ class Running:
 class Checks:
     """The checks that wait, those under way, and what came of the others."""
 
-    def __init__(self, checks):
+    def __init__(self, checks, minutes):
         self.waiting, self.running, self.came = list(checks), [], {}
-        self.began, self.lanes = time.monotonic(), len(os.sched_getaffinity(0))
+        self.began, self.minutes, self.lanes = time.monotonic(), minutes, len(os.sched_getaffinity(0))
 
     def left(self):
-        return 60 * MOST - (time.monotonic() - self.began)
+        return 60 * self.minutes - (time.monotonic() - self.began)
 
     def close(self, check, came, told, text=""):
         """Prints the line of a check that won't run any more, and the output of one that failed."""
@@ -133,7 +134,7 @@ class Checks:
         elif FAILED in before:
             self.close(check, FAILED, f"not run, since {check.after[before.index(FAILED)]} failed")
         elif self.left() <= 0:
-            self.close(check, FAILED, f"not run: the {MOST} minutes of all checks are over")
+            self.close(check, FAILED, f"not run: the {self.minutes:.0f} minutes of all checks are over")
         elif None in before or len(self.running) >= self.lanes:
             return False
         else:
@@ -186,6 +187,7 @@ def told(check):
 def main():
     parser = argparse.ArgumentParser(usage=__doc__, add_help=False)
     parser.add_argument("--gate", nargs="?", const="bench/gate.py")
+    parser.add_argument("--minutes", type=float, default=MOST)
     parser.add_argument("--list", action="store_true")
     parser.add_argument("--only", nargs="+", default=[])
     options = parser.parse_args()
@@ -199,7 +201,7 @@ def main():
         signal.signal(number, lambda number, _: sys.exit(128 + number))
     (TOP / "out").mkdir(exist_ok=True)
     of_gate = gate(options.gate) if options.gate else [0, 0, 0]
-    checks = Checks(chosen(options.only))
+    checks = Checks(chosen(options.only), options.minutes)
     checks.run()
     own = checks.counts()
     if options.gate:
