@@ -53,7 +53,7 @@ CHROMIUM = "chromium|chromium-browser|google-chrome|google-chrome-stable"
 CHECKS = [
     Check("bench/look", "bench/look all", minutes=15),
     Check("bench/starve", "bench/starve --trials", ("cc",), minutes=20),
-    Check("record/test", "record/test", ("gcc", "addr2line"), LOOK),
+    Check("record/test", "record/test", ("gcc",), LOOK),
     Check("record/planted", "record/planted", (), LOOK),
     Check("bench/waits.py", "bench/waits.py out/look/gossipmpi 100", (), LOOK),
     Check("picture/test", "picture/test out/look/gossipmpi", (), LOOK),
