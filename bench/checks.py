@@ -15,6 +15,7 @@ import dataclasses
 import os
 import pathlib
 import re
+import resource
 import shlex
 import shutil
 import signal
@@ -108,12 +109,19 @@ class Running:
         return self.output.read().decode(errors="replace").rstrip("\n")
 
 
+def used_seconds():
+    """The seconds of one processor of all that was started here and has ended."""
+    used = resource.getrusage(resource.RUSAGE_CHILDREN)
+    return used.ru_utime + used.ru_stime
+
+
 class Checks:
     """The checks that wait, those under way, and what came of the others."""
 
     def __init__(self, checks, minutes):
         self.waiting, self.running, self.came = list(checks), [], {}
         self.began, self.minutes, self.lanes = time.monotonic(), minutes, len(os.sched_getaffinity(0))
+        self.before = used_seconds()
 
     def left(self):
         return 60 * self.minutes - (time.monotonic() - self.began)
@@ -153,6 +161,10 @@ class Checks:
         finally:
             for one in self.running:
                 one.end()
+
+    def took(self):
+        """How long they took."""
+        return f"{(time.monotonic() - self.began) / 60:.1f} minutes on the clock, {(used_seconds() - self.before) / 60:.1f} of one processor"
 
     def counts(self):
         return [list(self.came.values()).count(came) for came in (PASSED, FAILED, SKIPPED)]
@@ -200,12 +212,12 @@ def main():
     for number in (signal.SIGTERM, signal.SIGHUP):
         signal.signal(number, lambda number, _: sys.exit(128 + number))
     (TOP / "out").mkdir(exist_ok=True)
+    # The checks come after the gate, not beside it: the toolchain plans the gate by the memory that is free when it begins.
     of_gate = gate(options.gate) if options.gate else [0, 0, 0]
     checks = Checks(chosen(options.only), options.minutes)
     checks.run()
     own = checks.counts()
-    if options.gate:
-        print(f"of these the gate {of_gate[0]} and {of_gate[1]}, the checks {own[0]} and {own[1]}, in {(time.monotonic() - checks.began) / 60:.1f} minutes:")
+    print(f"the checks: {checks.took()}; {own[0]} of them passed, {own[1]} failed, {own[2]} were skipped" + "; with the gate:" * bool(options.gate))
     passed, failed, skipped = map(sum, zip(of_gate, own))
     print(f"{passed} passed, {failed} failed, {skipped} skipped")
     return 1 if failed else 0
