@@ -48,8 +48,8 @@ fn calls(rt: HostRuntime) -> Result<(), Fail> {
     )?;
     call_shows(
         alloc,
-        CallError::GaveUp(request(alloc, &ops)?, 2),
-        "posted and not done, and rank 2 gave up",
+        CallError::GaveUp(request(alloc, &ops)?),
+        "posted and not done, and the host gave up",
     )
 }
 
