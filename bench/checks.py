@@ -5,7 +5,7 @@
     bench/checks.py --only NAME..      these, and what builds the programs for them
     bench/checks.py --list             each check with its command, the tools that it needs, and its time limit
     bench/checks.py --gate [COMMAND]   the gate first: bench/gate.py, or this command in its place
-    bench/checks.py --minutes N        another limit for all checks together than 25 minutes, for a machine with other work
+    bench/checks.py --minutes N        all checks together may take N minutes in place of 25, and each as many times as long: beside other work
 
 Each check gets a line with its seconds. The output of a check follows only where it failed. A check that takes longer than its limit is ended and has
 failed. A check is skipped only where a tool is missing, and the line names the tool. The last line counts all, with the counts of the gate added in. The
@@ -73,9 +73,9 @@ CHECKS = [
 class Running:
     """A check under way. Its output goes to a file."""
 
-    def __init__(self, check, left):
+    def __init__(self, check, limit):
         self.check, self.began, self.output = check, time.monotonic(), tempfile.TemporaryFile()
-        self.limit, self.why = min(60 * check.minutes, left), ""
+        self.limit, self.why = limit, ""
         said = dict(os.environ, PYTHONDONTWRITEBYTECODE="1", **{name: str(TOP / place) for name, place in PROGRAMS.items()})
         self.process = subprocess.Popen(shlex.split(check.command), cwd=TOP, env=said, stdin=subprocess.DEVNULL, stdout=self.output, stderr=subprocess.STDOUT, start_new_session=True)
 
@@ -146,7 +146,7 @@ class Checks:
         elif None in before or len(self.running) >= self.lanes:
             return False
         else:
-            self.running.append(Running(check, self.left()))
+            self.running.append(Running(check, min(60 * check.minutes * self.minutes / MOST, self.left())))
         return True
 
     def run(self):
