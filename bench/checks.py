@@ -57,7 +57,7 @@ CHECKS = [
     Check("record/test", "record/test", ("gcc",), LOOK),
     Check("record/planted", "record/planted", (), LOOK),
     Check("bench/waits.py", "bench/waits.py out/look/gossipmpi 100", (), LOOK),
-    Check("picture/test", "picture/test out/look/gossipmpi", (), LOOK),
+    Check("picture/test", "picture/test out/look/gossipmpi", ("node",), LOOK),
     Check("picture/look", "picture/look", (CHROMIUM,)),
     Check("bench/rows.py", "bench/rows.py"),
     Check("bench/pages", "bench/pages", ("git",), LOOK),
