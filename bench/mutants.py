@@ -61,7 +61,7 @@ def table(heads, lines):
 
 def gate(rows):
     """What refuses each mutant of the gate."""
-    return table(("Mutant of the gate", "Refused by", "Read"), ((called(row), row.clause or row.note, row.tried or "no") for row in rows if row.edit == "gate"))
+    return table(("Mutant of the gate", "Refused by", "Read"), ((called(row), row.clause, row.tried.split()[0]) for row in rows if row.edit == "gate"))
 
 
 def states(rows):
