@@ -7,7 +7,7 @@ A row has these fields:
     edit          gate (crates/CRATE/must-fail), kept (bench/wrong/CRATE), none
     state         one of STATES
     worst         of one that is let through: its place among what a user may see, 1 the worst; or one of HARMLESS, where no promise breaks
-    does          what it does, in at most 15 words; where this is empty, the name says it
+    does          what it does, in at most 15 words
     clause        what refuses it; of one that is let through, why no clause does: `none can: ..` or `open: ..`
     seen          the rows, tests or runs that see it
     tried         when it was tried last, and how; `by reading`, `inferred`
@@ -18,6 +18,8 @@ import collections
 import csv
 import pathlib
 import re
+import signal
+import sys
 
 ROOT = pathlib.Path(__file__).resolve().parent.parent
 TEXTS = ROOT / "bench" / "wrong"
@@ -47,7 +49,7 @@ MOST_WORDS = 2500
 
 def read():
     with open(ROWS, newline="", encoding="utf-8") as rows:
-        return [Mutant(**row) for row in csv.DictReader(rows)]
+        return [Mutant(*(row.get(field) or "" for field in FIELDS)) for row in csv.DictReader(rows)]
 
 
 def called(row):
@@ -92,7 +94,7 @@ PAGES = (TEXTS / "README.md", TEXTS / "LET_THROUGH.md")
 
 def made(page, rows):
     """The page with its tables as the rows have them."""
-    return MADE.sub(lambda part: part[1] + PARTS[part[2]](rows) + "\n", page.read_text(encoding="utf-8"))
+    return MADE.sub(lambda part: part[1] + PARTS[part[2]](rows) + "\n" if part[2] in PARTS else part[0], page.read_text(encoding="utf-8"))
 
 
 def write():
@@ -113,9 +115,9 @@ def wrong_row(row, edits):
         yield f"its edit isn't {row.edit or 'said'}"
     if row.state not in STATES:
         yield f"{row.state} is no state"
-    if len(row.does.split()) > 15:
-        yield f"what it does has {len(row.does.split())} words, and at most 15 are wanted"
-    if row.state == "let through" and not (row.does and row.clause and (row.worst.isdigit() and row.seen or row.worst in HARMLESS)):
+    if not 0 < len(row.does.split()) <= 15:
+        yield f"what it does has {len(row.does.split())} words; one to 15 are wanted"
+    if row.state == "let through" and not (row.clause and (row.worst.isdigit() and row.seen or row.worst in HARMLESS)):
         yield "it is let through, and a field of it is empty"
     if row.worst.isdigit() and not row.clause.startswith(("none can: ", "open: ")):
         yield "its clause says neither `none can` nor `open`"
@@ -131,10 +133,19 @@ def faults():
     for crate, name in sorted(set(edits) | set(names)):
         if names[crate, name] != 1:
             yield f"bench/wrong/mutants.csv: {crate}/{name} has {names[crate, name]} rows"
-    for page in PAGES:
-        if set(PARTS) - {part for one in PAGES for _, part in MADE.findall(one.read_text(encoding="utf-8"))} or made(page, rows) != page.read_text(encoding="utf-8"):
+    yield from wrong_pages(rows)
+
+
+def wrong_pages(rows):
+    """What is wrong with the pages."""
+    texts = {page: page.read_text(encoding="utf-8") for page in PAGES}
+    printed = {part for text in texts.values() for _, part in MADE.findall(text)}
+    for part in sorted(set(PARTS) ^ printed):
+        yield f"bench/wrong: `made: {part}` " + ("has no place on a page" if part in PARTS else "is nothing that can be made")
+    for page, text in texts.items():
+        if made(page, rows) != text:
             yield f"{page.relative_to(ROOT)} isn't what bench/wrong.py --pages makes"
-    words = sum(len(page.read_text(encoding="utf-8").split()) for page in PAGES)
+    words = sum(len(text.split()) for text in texts.values())
     if words > MOST_WORDS:
         yield f"bench/wrong has pages of {words} words, and at most {MOST_WORDS} are wanted"
 
@@ -144,12 +155,22 @@ def tokens():
     return sorted({token for row in read() for field in (row.name, row.does, row.clause, row.seen, row.note) for token in re.findall(r"`([^`\n]+)`", field)})
 
 
+def answers_to(row):
+    """The words by which `--list` finds it."""
+    return {row.crate, row.name, f"{row.crate}/{row.name}", row.edit, row.state}
+
+
 def listed(words):
-    """Prints the rows whose crate, name, edit or state is one of these words; all rows without words."""
-    for row in read():
-        if not words or {row.crate, row.name, f"{row.crate}/{row.name}", row.edit, row.state} & set(words):
+    """Prints the rows that answer to one of these words; all rows without words."""
+    signal.signal(signal.SIGPIPE, signal.SIG_DFL)
+    rows = read()
+    unknown = sorted(set(words).difference(*map(answers_to, rows)))
+    for word in unknown:
+        print(f"wrong.py: no mutant has the crate, name, edit or state {word}", file=sys.stderr)
+    for row in rows:
+        if not words or answers_to(row) & set(words):
             print(f"{row.crate}/{row.name}" if row.edit != "none" else f"{row.crate}: {row.name}")
             for field in FIELDS[2:]:
                 if getattr(row, field):
                     print(f"    {field:8} {getattr(row, field)}")
-    return 0
+    return 1 if unknown else 0
