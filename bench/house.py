@@ -6,12 +6,11 @@
     bench/house.py --crates   the crates by rooms, each with what it says of itself
     bench/house.py --seen     runs one allreduce of one and of three ranks by out/look/gossipmpi under valgrind, and says which crates' code it entered
 
-It checks that each crate stands in a room, and on crates above it in crates.txt alone; that the crates and functions of the way below are there; and
+It checks that each crate stands in a room, and on crates above it in crates.txt alone; that the crates of the way below are there; and
 that the picture and the table are what it would write. Where a crate comes or goes, --write is enough.
 
 Of the way, which crates are entered is what --seen says (29 November 2026, 50ce7a5e): the program of bench/look keeps each function apart. Of join_core a
-run without a frame enters only what drops its values. That each step back is a call is seen too; that there are no others was read in the sources, call
-by call of those that are seen between crates."""
+run without a frame enters only what drops its values."""
 import html
 import pathlib
 import re
@@ -28,22 +27,6 @@ BEGIN, END = "<!-- bench/house.py writes this table -->\n", "<!-- until here -->
 ENTERED = """gossipmpi mpx_shell mpx_words mpx_affine mpx_num mpx_program mpx_run mpx_script mpx_statement mpx_kind mpx_post mpx_sim mpx_node
 mpx_board mpx_birth mpx_name mpx_group mpx_format join_nest join_core mpx_rank mpx_value mpx_match mpx_fold mpx_meaning""".split()
 FRAMED = "mpx_delta mpx_digest mpx_encode mpx_rope mpx_wire mpx_decode".split()
-# The steps back of the way that begins with `exit_code`: from, to, and the function that is called. Each hands on words, a script, a statement, a draft, a post, a row, a result or a text into a crate
-# that control had left. Passed over, of what is seen: look-ups, copies, what a call makes, frames, messages, who looks on, and what is made before the
-# first turn; of crates of room 2 all but `apply`.
-BACK = [
-    ("mpx_program", "mpx_run", "print_job"),
-    ("mpx_rank", "mpx_sim", "post"),
-    ("mpx_sim", "mpx_statement", "draft"),
-    ("mpx_node", "mpx_post", "check_call"),
-    ("mpx_sim", "mpx_node", "harvest_to"),
-    ("mpx_node", "mpx_board", "row"),
-    ("mpx_fold", "mpx_num", "apply"),
-    ("mpx_sim", "mpx_rank", "go_on"),
-    ("mpx_rank", "mpx_sim", "hear"),
-    ("mpx_sim", "mpx_node", "result"),
-    ("mpx_program", "mpx_run", "write_printed"),
-]
 
 
 def rooms(text):
@@ -83,10 +66,9 @@ def first_line(crate):
 
 
 def table(found):
-    """The rooms with their crates, and the steps back."""
+    """The rooms with their crates."""
     rows = [f"| {at} {name}: {what} | {' '.join(f'[{crate}](../crates/{crate}/README.md)' for crate in crates)} |" for at, (name, what, crates) in enumerate(found, 1)]
-    steps = [f"| {at} | `{start}` | `{goal}`, `{name}` |" for at, (start, goal, name) in enumerate(BACK, 1)]
-    return "\n".join(["| Room | Crates |", "|---|---|", *rows, "", "| Step back | From | Into, by |", "|---|---|---|", *steps]) + "\n"
+    return "\n".join(["| Room | Crates |", "|---|---|", *rows]) + "\n"
 
 
 WIDE, TALL, LEFT, LETTER = 1180, 60, 190, 7.4
@@ -108,24 +90,6 @@ def boxes(found):
     return places, list(reversed(tops)), y
 
 
-def arrow(number, start, goal, gaps):
-    """A step back: a bent line from one box to the other, with its number where the line crosses a gap between rooms."""
-    (x1, y1, w1), (x2, y2, w2) = start, goal
-    x1, x2 = x1 + w1 / 2 + (number % 5 - 2) * 6, x2 + w2 / 2 + (number % 5 - 2) * 6
-    flat = y1 == y2
-    y1, y2 = (y1, y2) if flat else (y1 + 30, y2) if y2 > y1 else (y1, y2 + 30)
-    long = ((x2 - x1) ** 2 + (y2 - y1) ** 2) ** 0.5
-    bend = 22 if flat else 14 + 12 * (number % 4)
-    xm, ym = (x1 + x2) / 2 + bend * abs(y2 - y1) / long, (y1 + y2) / 2 - bend * abs(x2 - x1) / long * (1 if flat or x1 < x2 else -0.4)
-    at = lambda a, m, b, s: (1 - s) ** 2 * a + 2 * s * (1 - s) * m + s * s * b
-    s = min((it / 40 for it in range(8, 33)), key=lambda s: min(abs(at(y1, ym, y2, s) - gap) for gap in gaps) + 40 * abs(s - 0.5 - (number * 7 % 5 - 2) * 0.12))
-    xt, yt = at(x1, xm, x2, s), at(y1, ym, y2, s)
-    return [
-        f'<path d="M{x1:.0f} {y1} Q{xm:.0f} {ym:.0f} {x2:.0f} {y2}" fill="none" stroke="#c0392b" stroke-width="1.3" marker-end="url(#tip)"/>',
-        f'<circle cx="{xt:.0f}" cy="{yt:.0f}" r="7.5" fill="white" stroke="#c0392b"/><text x="{xt:.0f}" y="{yt + 3.5:.0f}" font-size="9" text-anchor="middle" fill="#c0392b">{number}</text>',
-    ]
-
-
 def picture(found):
     places, tops, end = boxes(found)
     deep = levels(found)
@@ -139,9 +103,6 @@ def picture(found):
         fill, edge, ink = ("#2f5d8a", "#2f5d8a", "white") if crate in ENTERED else ("#cfe0f0", "#2f5d8a", "#12283d") if crate in FRAMED else ("white", "#a8a69a", "#3a3932")
         out.append(f'<g><title>{html.escape(f"{crate}: {first_line(crate)}")}</title><rect x="{x:.0f}" y="{y}" width="{width:.0f}" height="30" rx="5" fill="{fill}" stroke="{edge}"/>')
         out.append(f'<text x="{x + 8:.0f}" y="{y + 20}" fill="{ink}">{crate.replace("mpx_", "")}</text><text x="{x + width - 5:.0f}" y="{y + 11}" font-size="8" text-anchor="end" fill="{ink}">{deep[crate]}</text></g>')
-    for number, (start, goal, _) in enumerate(BACK, 1):
-        out += arrow(number, places[start], places[goal], [low for _, low in tops])
-    out.insert(3, '<defs><marker id="tip" viewBox="0 0 8 8" refX="7" refY="4" markerWidth="7" markerHeight="7" orient="auto"><path d="M0 0 L8 4 L0 8 z" fill="#c0392b"/></marker></defs>')
     told = [
         ("#2f5d8a", f"{len(ENTERED)} crates that a run of one allreduce enters"),
         ("#cfe0f0", f"{len(FRAMED)} more where a frame carries its posts, {len(ENTERED) + len(FRAMED)} in all"),
@@ -149,26 +110,21 @@ def picture(found):
     ]
     for at, (fill, words) in enumerate(told):
         out.append(f'<rect x="20" y="{end + 8 + 24 * at}" width="22" height="14" rx="3" fill="{fill}" stroke="#2f5d8a"/><text x="52" y="{end + 20 + 24 * at}">{words}</text>')
-    out.append(f'<text x="600" y="{end + 20}" fill="#c0392b">{len(BACK)} steps back into a crate that control had left</text></svg>')
+    out.append('</svg>')
     return "\n".join(out) + "\n"
 
 
 def seen(program, ranks):
-    """The crates whose functions a run of one allreduce enters, and which function calls which."""
+    """The crates whose functions a run of one allreduce enters."""
     script = f"ranks {ranks}\n*: allreduce world sum i64 1\n"
     with tempfile.TemporaryDirectory() as room:
         words = ["valgrind", "--tool=callgrind", f"--callgrind-out-file={room}/out", str(program), "run", "--workers", "1"]
         subprocess.run(words, input=script, stdout=subprocess.DEVNULL, stderr=subprocess.DEVNULL, universal_newlines=True, check=True)
         text = (pathlib.Path(room) / "out").read_text()
-    names, calls, caller = {}, set(), ""
-    for kind, number, name in re.findall(r"^(c?fn)=\((\d+)\)(?: (.*))?$", text, re.M):
+    names = {}
+    for number, name in re.findall(r"^c?fn=\((\d+)\)(?: (.*))?$", text, re.M):
         names[number] = name or names[number]
-        if kind == "fn":
-            caller = names[number]
-        else:
-            calls.add((caller, names[number]))
-    entered = {crate for name in names.values() for crate in re.findall(r"^(\w+)::", name) + re.findall(r"^\w+::(\w+)\+\+\w+\+\+.*Destruct", name)}
-    return entered, calls
+    return {crate for name in names.values() for crate in re.findall(r"^(\w+)::", name) + re.findall(r"^\w+::(\w+)\+\+\w+\+\+.*Destruct", name)}
 
 
 def differs():
@@ -179,22 +135,15 @@ def differs():
         return
     crates = {crate for _, _, ours in rooms((ROOT / "crates.txt").read_text())[0] for crate in ours}
     for ranks, told in ((1, {*ENTERED}), (3, {*ENTERED, *FRAMED})):
-        entered, calls = seen(program, ranks)
-        entered &= crates
+        entered = seen(program, ranks) & crates
         yield from (f"{crate} is entered by {ranks} ranks, and isn't told" for crate in sorted(entered - told))
         yield from (f"{crate} is told, and isn't entered by {ranks} ranks" for crate in sorted(told - entered))
-    for start, goal, name in BACK:
-        if not any(above.startswith(f"{start}::") and re.match(rf"{goal}::.*\b{name}\b", below) for above, below in calls):
-            yield f"{start} doesn't call {name} of {goal}"
 
 
 def main(words):
     found, faults = rooms((ROOT / "crates.txt").read_text())
     crates = {crate for _, _, crates in found for crate in crates}
     faults += [f"{crate} is on the way, and isn't in crates.txt" for crate in [*ENTERED, *FRAMED] if crate not in crates]
-    for start, goal, name in BACK:
-        sources = (file.read_text() for file in (ROOT / "crates" / goal / "src").rglob("*.rt"))
-        faults += [] if any(f"fn {name}" in text for text in sources) else [f"{goal} has no function {name}, to which {start} goes back"]
     if words == ["--crates"]:
         print("\n".join(f"{crate:18} {first_line(crate)}" for _, _, crates in found for crate in crates))
         return 0
