@@ -146,7 +146,7 @@ static void note_overlaps(int id, const Arguments *a, const Parts *parts)
 
 static void note_use(int id, const Parts *parts)
 {
-    const Call *user = user_of(&parts->in, &parts->out);
+    const Call *user = user_of(parts);
     if (!user) return;
     put_text("slip"); put_number(id); put_text(" in_use"); put_number(user->id); end_line();
 }
@@ -187,6 +187,7 @@ static int write_in_full(Call *call, const Arguments *a, const Communicator *com
 /* Whether nothing but the program may change what is sent. */
 static int is_sent_alone(const Arguments *a, const Parts *parts, const Blocks *out)
 {
+    if (parts->only_reads) return parts->in.number;
     if (a->kind == BCAST || a->send == MPI_IN_PLACE || a->receive == MPI_IN_PLACE || a->send == a->receive) return 0;
     return parts->in.number && !do_overlap(&parts->in, out);
 }
@@ -208,6 +209,7 @@ static void begin_known(Call *call, const Arguments *a, const Communicator *comm
     if (reason) write_left(call, a, communicator, &parts, nonblocking, site, reason);
     else {
         call->fixed = parts.fixed;
+        call->only_reads = parts.only_reads;
         call->out = parts.out;
         memset(&parts.out, 0, sizeof parts.out);
         if (nonblocking && is_sent_alone(a, &parts, &call->out)) {
@@ -257,7 +259,7 @@ static void put_made(const Call *call)
 
 void put_result(int id, Call *call, int error)
 {
-    if (call->in.number && hash_of(&call->in) != call->hash) { begin_plain("slip", call->id); put_text(" changed"); end_line(); }
+    if (call->in.number && !call->is_unsure && hash_of(&call->in) != call->hash) { begin_plain("slip", call->id); put_text(" changed"); end_line(); }
     begin_plain("gave", id);
     if (error) put_error(error);
     else if (call->made) put_made(call);

@@ -168,6 +168,7 @@ typedef struct {
     int sends, receives;                /* whether what is told of sending, of receiving counts here */
     Counts given, awaited;
     Blocks in, out;
+    int only_reads;                     /* whether nothing is written where `out` lies: at the root of a bcast, or of a scatter in place */
     const char *fixed;                  /* the result, where no buffer tells it */
 } Parts;
 const char *kind_word(Kind kind);
@@ -189,6 +190,7 @@ typedef struct Call {
     const char *fixed;
     Blocks in, out;
     uint64_t hash;                      /* of what a nonblocking call sends */
+    int only_reads, is_unsure;          /* unsure: another open call has its handle, and a wait may have been for that one */
     MPI_Comm *made;                     /* of MPI_Comm_idup */
     char made_name[16];
     MPI_Request handle, *at;
@@ -212,7 +214,7 @@ void end_unseen(int id);
 
 /* ---- requests.c ---- */
 void start_call(Call *call, int error, MPI_Request *request);
-const Call *user_of(const Blocks *in, const Blocks *out);       /* an unfinished call whose buffers these are */
+const Call *user_of(const Parts *parts);        /* an unfinished call whose buffers these are */
 
 #pragma GCC visibility pop
 #endif

@@ -18,6 +18,11 @@ KINDS = collections.OrderedDict((
     ('idup', ('an idup for which ranks wait later than others call on', 'others wait for it in scripts')),
 ))
 NO_KIND = 'of no kind'
+# What MPI forbids, and the recorder sees: each is the program's error unless it is accepted.
+IN_USE_KIND, OVERLAPS, UNCOMPLETED, ROOTS, FREED, UNFREED = FORBIDDEN_NAMES = ('in_use', 'overlaps', 'uncompleted', 'roots', 'freed', 'unfreed')
+FORBIDDEN = collections.OrderedDict(zip(FORBIDDEN_NAMES, (
+    'buffers used while a call has them', 'buffers that overlap', 'requests never completed', 'a root that isn\'t a rank',
+    'communicators used after their free', 'communicators that only some ranks free')))
 
 
 def kind_of(title):
@@ -41,9 +46,11 @@ def read_least(word):
 def read_kinds(word):
     kinds = word.split(',')
     for kind in kinds:
-        if kind not in KINDS:
+        if kind not in KINDS and kind not in FORBIDDEN:
             raise argparse.ArgumentTypeError('there is no kind %r; the kinds are:\n%s' % (kind, told_kinds()))
     return kinds
 
 
-def told_kinds(): return '\n'.join('  %-18s  %s' % (kind, what) for kind, (what, _) in KINDS.items())
+def told_kinds():
+    left = ['  %-18s  %s' % (kind, what) for kind, (what, _) in KINDS.items()]
+    return '\n'.join(left + ['of what MPI forbids:'] + ['  %-18s  %s' % entry for entry in FORBIDDEN.items()])

@@ -2,8 +2,9 @@
 import collections, re, struct, sys
 
 from . import folds, grids, own, types
+from .asked import ROOTS
 from .parts import AS_BYTES, FOLDS, MAKERS, WIDTH
-from .slips import Slips, ranks_of
+from .slips import Slips, ranks_of, root_of
 
 ITEMS, EDGES, RANKS, DEPTH = 4096, 512, 64, 8           # gossipmpi's limits
 REASONS = dict(kind='scripts have no such call', root='its root is out of range', topology='its communicator has no neighbours',
@@ -142,6 +143,8 @@ class Choice:
         if not self.find_misplaced(key, row): self.compare_left(key, row)
         if part.tag == 'begun': return 'not finished'
         reason = part.words[-1]
+        for other in row.values():
+            if other.tag == 'left' and other.words[-1] == 'root': self.slips.group(other, root_of(other, len(self.calls.members[key[0]])), ROOTS)
         return 'a reduction of ' + part.type if reason == 'type' and part.type != '-' else REASONS.get(reason, reason)
 
     def find_misplaced(self, key, row):

@@ -23,7 +23,7 @@ def case(name, kind='', message='', text=''):
 
 
 def as_junit(outcome, told, status):
-    """A case for each difference, one for ranks that wait, one for each kind of calls that are left out, and one for the whole."""
+    """A case for each difference, one for ranks that wait, one for each kind of calls that are left out, and one for the whole; notes are output."""
     cases = [case(title, 'failure', lines[0].strip() if lines else title, '\n'.join(lines)) for title, lines in told]
     if outcome.waiting: cases.append(case('the run was ended early' if outcome.ended else 'the run was ended from outside' if outcome.is_outside else 'ranks wait', 'failure', outcome.waiting[0], '\n'.join(outcome.waiting)))
     cases += [case('left out: ' + what, 'skipped', '%d calls%s' % (number, ', as accepted' * (what in outcome.accepted_titles)))
@@ -32,8 +32,10 @@ def as_junit(outcome, told, status):
     failures = sum('<failure' in line for line in cases)
     is_green = status == 0 or failures
     cases.append(case('how much was checked', *(() if is_green else ('failure', outcome.summary(), outcome.summary()))))
-    return '<?xml version="1.0" encoding="UTF-8"?>\n<testsuite name="record" tests="%d" failures="%d" skipped="%d">\n%s\n</testsuite>\n' % (
-        len(cases), sum('<failure' in line for line in cases), sum('<skipped' in line for line in cases), '\n'.join(cases))
+    notes = ''.join('note: %s\n' % escape(note) for note in outcome.notes)
+    return '<?xml version="1.0" encoding="UTF-8"?>\n<testsuite name="record" tests="%d" failures="%d" skipped="%d">\n%s\n%s</testsuite>\n' % (
+        len(cases), sum('<failure' in line for line in cases), sum('<skipped' in line for line in cases), '\n'.join(cases),
+        '  <system-out>%s</system-out>\n' % notes if notes else '')
 
 
 def unreadable_as_json(message, status): return json.dumps(dict(status=status, error=message)) + '\n'

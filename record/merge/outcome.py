@@ -1,7 +1,7 @@
 """What is said of the whole run: how much was checked, what was left out, and the status."""
 import collections
 
-from .asked import Asked, KINDS, NO_KIND, kind_of
+from .asked import Asked, FREED, KINDS, NO_KIND, kind_of
 from .floats import UNJUDGED
 
 NO_DIFFERENCE, DIFFERENCES, UNREADABLE, WAITS, LITTLE, ENDED, FEWER = range(7)         # the statuses
@@ -28,17 +28,28 @@ class Outcome:
         self.waiting, self.ended, self.is_outside = waiting.lines, bool(waiting.causes), waiting.is_outside
         self.reports = comparison.reports
         comparison.slips.finish(choice.taken, {key for key, _, _ in self.reports})
-        self.notes = record.notes + comparison.slips.notes
+        self.notes, self.forbidden, self.slipped = record.notes + comparison.slips.notes, [], set()
+        for slip in comparison.slips.errors:
+            first = {part.rank: part for part in reversed(slip.parts)}
+            self.forbid(slip.kind, slip.title, comparison.part_lines([(first[rank], []) for rank in sorted(first)]), {part.key for part in slip.parts})
+        behind_free = comparison.behind_free(calls)
+        for title, lines in behind_free: self.forbid(FREED, title, lines, ())
         self.left = collections.Counter({what: number for what, number in choice.left.items() if number})
         for what, number in calls.unnamed.items(): self.left[what] += number
         own = {key for key, row in calls.rows.items() if all(part.place == 'self' for part in row.values())}
-        self.refused, self.behind_free = len(comparison.refusals(calls)), len(comparison.behind_free(calls))
+        self.refused, self.behind_free = len(comparison.refusals(calls)), len(behind_free)
         self.calls = len(calls.rows) - len(own) + sum(calls.unnamed.values()) + self.refused + self.behind_free
         self.checked = len((comparison.checked | choice.faults) - choice.held - own)    # the making of MPI_COMM_SELF is the recorder's
         self.folded, self.unseen = choice.folded, sum(calls.unseen.values())
         self.bounded, self.held, self.unjudged = choice.bounded, len(choice.held), choice.unjudged
         self.compared_parts = len((choice.taken | choice.held | choice.faults) - own) if not asked.has_values else 0
         self.accepted = self.count_accepted(calls, choice, comparison.checked | choice.faults | choice.held | own)
+
+    def forbid(self, kind, title, lines, keys):
+        """What MPI forbids: the program's error, or a note where it is accepted."""
+        if kind in self.asked.kinds: self.notes.append('as accepted (%s): %s' % (kind, title)); return
+        self.forbidden.append((title, lines))
+        self.slipped.update(keys)
 
     def count_accepted(self, calls, choice, others):
         """How many calls are left out of which that is accepted. What was checked in part is none of them."""
@@ -49,7 +60,7 @@ class Outcome:
     def status(self):
         if self.ended or self.is_outside: return ENDED
         if self.waiting: return WAITS
-        if self.reports or self.refused or self.behind_free: return DIFFERENCES
+        if self.reports or self.refused or self.forbidden: return DIFFERENCES
         if self.is_fewer(): return FEWER
         if self.is_little() or self.asked.is_strict and self.done() < self.wanted(): return LITTLE
         return NO_DIFFERENCE
@@ -68,10 +79,11 @@ class Outcome:
 
     def verdict(self):
         words, keys, own = [], {key for key, _, _ in self.reports}, {key for key, title, _ in self.reports if is_own(title)}
+        own |= self.slipped
         if keys - own: words.append(counted(len(keys - own), 'call') + (' differs' if len(keys - own) == 1 else ' differ'))
         if own: words.append(counted(len(own), 'call') + (' is' if len(own) == 1 else ' are') + ' the program\'s own error')
         if self.refused: words.append(counted(self.refused, 'call') + (' was' if self.refused == 1 else ' were') + ' refused')
-        if self.behind_free: words.append(counted(self.behind_free, 'call') + ' behind the free of a communicator')
+        if self.behind_free and FREED not in self.asked.kinds: words.append(counted(self.behind_free, 'call') + ' after the free of a communicator')
         if self.ended: words.append('the run was ended early')
         elif self.is_outside: words.append('the run was ended from outside')
         elif self.waiting: words.append('ranks wait')
