@@ -14,6 +14,11 @@ def is_plain(row): return all(part.type in WIDTH and part.operation != 'user' fo
 def tellers(calls, part): return calls.waits[part.rank, part.name] if part.nonblocking else [part]
 
 
+def words_of(calls, part):
+    """What this MPI told of its result, or None."""
+    return next((teller.result for teller in tellers(calls, part) if teller.result), None)
+
+
 def result_of(calls, part):
     """A list of numbers, or None where this MPI told none."""
     for teller in tellers(calls, part):
