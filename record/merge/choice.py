@@ -80,6 +80,7 @@ class Choice:
         if len(kinds) > 1 and any(kind in AS_BYTES for kind in kinds):
             self.tell_fault(key, 'doesn\'t fit together: its parts differ in the kind')
             return 'its parts differ in the kind'
+        self.compare_totals(key, row)
         if 'idup' in kinds and self.without_idup: return 'others wait for it in scripts, which have no such call'
         if kinds & set(FOLDS) and not folds.is_plain(row):
             reason = self.reason_of_fold(key, row)
@@ -180,8 +181,11 @@ class Choice:
             if part.operation in folds.EXACT: folds.take_exact(calls, row)
             else: folds.take_ranked(calls, row, '2int')
             return None
-        if part.type in folds.SUMS.get(part.operation, ()) and set(row) == calls.members[key[0]]: return self.hold(key, row, part)
-        return '%s of %s' % (part.operation, folds.basics_of(part))
+        if part.type == 'logical': return folds.take_logical(calls, row)
+        named = '%s of %s' % (part.operation, folds.basics_of(part))
+        if part.type not in folds.SUMS.get(part.operation, ()): return named + ', which neither scripts nor the tool\'s own arithmetic have'
+        if set(row) == calls.members[key[0]]: return self.hold(key, row, part)
+        return named + ', to which not all ranks came'
 
     def reason_of_own(self, key, row, part):
         """By an operation of the program's own: its fold, where the recorder made one."""
@@ -225,7 +229,6 @@ class Choice:
 
     def reason_of_length(self, key, row):
         """A call on more items than one of a script has is cut into blocks."""
-        self.compare_totals(key, row)
         if max(part.greatest() for part in row.values()) <= blocks.ITEMS: return None
         if len({part.kind for part in row.values()}) > 1: return 'more than 4,096 items'
         cut = blocks.plan(row, lambda part: folds.words_of(self.calls, part), len(self.calls.members[key[0]]))

@@ -103,6 +103,14 @@ def take_exact(calls, row):
     take_as(calls, row, 'i32' if form == 'f32' else 'i64', lambda numbers, _: [floats.key_of(bits, form) for bits in numbers], spelled)
 
 
+def take_logical(calls, row):
+    """Fortran's LOGICAL where it is 0 or 1; other forms of true are a compiler's own."""
+    numbers = [number for part in row.values() for number in [int(word) for word in part.items.split()] + (result_of(calls, part) or [])]
+    if not set(numbers) <= {0, 1}: return 'a LOGICAL that is neither 0 nor 1'
+    take_as(calls, row, 'i32', lambda numbers, _: numbers, None)
+    return None
+
+
 def take_ranked(calls, row, type_word):
     """`maxloc` and `minloc`, whose values and indices are ranked apart; an index that is an int stays."""
     form = next(iter(row.values())).type
