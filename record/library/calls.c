@@ -159,7 +159,7 @@ static void note_own_amounts(int id, const Arguments *a, const Parts *parts)
     if (!tells_twice || !parts->sends || !parts->receives) return;
     Type given = moved_as(a->send_type), awaited = moved_as(a->receive_type);
     long out = a->send_count * size_of(a->send_type), in = a->receive_count * size_of(a->receive_type);
-    if (out == in && (given == awaited || given == RAW || awaited == RAW)) return;
+    if (out == in && (given == awaited || given > U64 || awaited > U64)) return;        /* other types are compared by their lines `types` */
     put_text("note call"); put_number(id); put_text(": sends");
     if (out == in) {
         put_word(type_word(given)); put_text(", awaits"); put_word(type_word(awaited));

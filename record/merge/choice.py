@@ -101,7 +101,7 @@ class Choice:
         """Parts whose basic types don't match; of those that are no part of a script also their amounts."""
         named = {part.type for part in row.values() if part.type}
         is_fold = row[min(row)].kind in FOLDS
-        if all(part.sent is None for part in row.values()) and (is_fold or len(named) < 2 or named <= set(WIDTH)): return
+        if all(part.sent is None for part in row.values()) and (is_fold or len(named) < 2 or named <= set(WIDTH) - {'2int'}): return
         found = self.mismatch(key)
         if found is None: return
         is_left = any(part.tag != 'call' for part in row.values())

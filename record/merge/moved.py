@@ -66,7 +66,7 @@ def make_one_type(calls, row):
     """Gives all parts of an exchange one type of a script."""
     named = {part.type for part in row.values() if part.type and not is_empty(part)}
     one = named.pop() if len(named) == 1 else None
-    if not named and one in WIDTH or named and named <= set(WIDTH):
+    if not named and one in WIDTH or named and named <= set(WIDTH) - {'2int'}:
         for part in row.values(): part.type = part.type if part.type in WIDTH else part.type and (one or 'u8')
     elif one in BITS:
         for part in row.values():
