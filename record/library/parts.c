@@ -29,7 +29,7 @@ void find_sides(const Arguments *a, int is_root, Parts *parts)
 
 /* ---- counts, in items, or of what has no name here in bytes ---- */
 
-static long scaled(long count, Type as, MPI_Datatype type) { return as == RAW ? count * size_of(type) : count; }
+static long scaled(long count, Type as, MPI_Datatype type) { return count * items_each(type, as); }
 
 static Counts one_count(long count, Type as, MPI_Datatype type)
 {
@@ -84,6 +84,7 @@ static void find_scatter(const Arguments *a, int size, int rank, Type as, Parts 
         return;
     }
     long count = has_counts ? number_at(a->send_counts, rank) : a->send_count;
+    parts->only_reads = 1;
     parts->awaited = one_count(count, as, a->send_type);
     parts->out = sent(a, count, has_counts ? number_at(a->send_places, rank) : rank * count);
 }
@@ -181,6 +182,7 @@ void find_parts(const Arguments *a, const Communicator *communicator, Type as, P
     case BCAST:
         parts->awaited = one_count(a->receive_count, as, a->receive_type);
         if (a->root == rank) parts->in = received(a, a->receive_count, 0);
+        parts->only_reads = a->root == rank;
         parts->out = received(a, a->receive_count, 0);
         break;
     case GATHER: case GATHERV: find_gather(a, size, rank, as, parts); break;

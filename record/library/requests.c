@@ -21,24 +21,37 @@ void start_call(Call *call, int error, MPI_Request *request)
     unlock_record();
 }
 
-/* An unfinished call into whose result this one reaches, or whose buffers get this one's result. */
-const Call *user_of(const Blocks *in, const Blocks *out)
+/* An unfinished call into whose result this one reaches, or whose buffers get this one's result. What both only read they may share. */
+const Call *user_of(const Parts *parts)
 {
-    for (Call *call = open_calls; call; call = call->next)
-        if (do_overlap(in, &call->out) || do_overlap(out, &call->out) || do_overlap(out, &call->in)) return call;
+    const Blocks *in = &parts->in, *out = &parts->out;
+    for (Call *call = open_calls; call; call = call->next) {
+        if (call->is_unsure) continue;
+        if (!call->only_reads && (do_overlap(in, &call->out) || do_overlap(out, &call->out))) return call;
+        if (!parts->only_reads && (do_overlap(out, &call->in) || do_overlap(out, &call->out))) return call;
+    }
     return 0;
+}
+
+/* Of several with one handle, none of which was begun at this address, any may be meant. */
+static void be_unsure(MPI_Request handle, int number)
+{
+    for (Call *call = open_calls; call && number > 1; call = call->next) if (call->handle == handle) call->is_unsure = 1;
 }
 
 static Call *take_call(MPI_Request *at)
 {
     Call **best = 0;
+    int alike = 0, is_there = 0;
     if (*at == MPI_REQUEST_NULL) return 0;
-    for (Call **each = &open_calls; *each; each = &(*each)->next) {
+    for (Call **each = &open_calls; *each && !is_there; each = &(*each)->next) {
         if ((*each)->handle != *at) continue;
-        if (!best || (*each)->at == at) best = each;
-        if ((*each)->at == at) break;
+        alike++;
+        is_there = (*each)->at == at;
+        if (!best || is_there) best = each;
     }
     if (!best) return 0;
+    if (!is_there) be_unsure(*at, alike);
     Call *taken = *best;
     *best = taken->next;
     for (end_of_open = &open_calls; *end_of_open; end_of_open = &(*end_of_open)->next);
@@ -204,4 +217,13 @@ int MPI_Testsome(int number, MPI_Request requests[], int *done, int places[], MP
     return error;
 }
 
-ALSO(Wait) ALSO(Waitall) ALSO(Waitany) ALSO(Waitsome) ALSO(Test) ALSO(Testall) ALSO(Testany) ALSO(Testsome)
+/* It ends a call without the request: what the request is waited for later is no news. */
+int MPI_Request_get_status(MPI_Request request, int *flag, MPI_Status *status)
+{
+    Taken taken = take_all(1, &request, 0, SITE);
+    int error = NEXT(Request_get_status)(request, flag, status);
+    give_back(&taken, *flag ? 1 : 0, 0, SITE, error);
+    return error;
+}
+
+ALSO(Wait) ALSO(Waitall) ALSO(Waitany) ALSO(Waitsome) ALSO(Test) ALSO(Testall) ALSO(Testany) ALSO(Testsome) ALSO(Request_get_status)

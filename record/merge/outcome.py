@@ -1,7 +1,7 @@
 """What is said of the whole run: how much was checked, what was left out, and the status."""
 import collections
 
-from .asked import Asked, KINDS, NO_KIND, kind_of
+from .asked import Asked, FREED, KINDS, NO_KIND, kind_of
 from .floats import UNJUDGED
 
 NO_DIFFERENCE, DIFFERENCES, UNREADABLE, WAITS, LITTLE, ENDED, FEWER = range(7)         # the statuses
@@ -18,6 +18,9 @@ def counted(number, what):
     return '%d %s%s' % (number, what, '' if number == 1 else 's')
 
 
+def told(counted_calls): return ', '.join('%d %s' % (number, what) for what, number in counted_calls.most_common())
+
+
 class Outcome:
     """`calls`: all that were made, seen in full or not; `checked`: those of which a result was held against the standard's value;
     `bounded`: those whose results were held to bounds, by the tool's own arithmetic; `accepted`: those that were left out, as may be;
@@ -28,17 +31,29 @@ class Outcome:
         self.waiting, self.ended, self.is_outside = waiting.lines, bool(waiting.causes), waiting.is_outside
         self.reports = comparison.reports
         comparison.slips.finish(choice.taken, {key for key, _, _ in self.reports})
-        self.notes = record.notes + comparison.slips.notes
+        self.notes, self.forbidden, self.slipped = record.notes + comparison.slips.notes, [], set()
+        for slip in comparison.slips.errors:
+            first = {part.rank: part for part in reversed(slip.parts)}
+            self.forbid(slip.kind, slip.title, comparison.part_lines([(first[rank], []) for rank in sorted(first)]), {part.key for part in slip.parts})
+        behind_free = comparison.behind_free(calls)
+        for title, lines in behind_free: self.forbid(FREED, title, lines, ())
         self.left = collections.Counter({what: number for what, number in choice.left.items() if number})
         for what, number in calls.unnamed.items(): self.left[what] += number
         own = {key for key, row in calls.rows.items() if all(part.place == 'self' for part in row.values())}
-        self.refused, self.behind_free = len(comparison.refusals(calls)), len(comparison.behind_free(calls))
+        self.refused, self.behind_free = len(comparison.refusals(calls)), len(behind_free)
         self.calls = len(calls.rows) - len(own) + sum(calls.unnamed.values()) + self.refused + self.behind_free
         self.checked = len((comparison.checked | choice.faults) - choice.held - own)    # the making of MPI_COMM_SELF is the recorder's
         self.folded, self.unseen = choice.folded, sum(calls.unseen.values())
         self.bounded, self.held, self.unjudged = choice.bounded, len(choice.held), choice.unjudged
+        self.digested, self.shortened = choice.digested, choice.shortened
         self.compared_parts = len((choice.taken | choice.held | choice.faults) - own) if not asked.has_values else 0
         self.accepted = self.count_accepted(calls, choice, comparison.checked | choice.faults | choice.held | own)
+
+    def forbid(self, kind, title, lines, keys):
+        """What MPI forbids: the program's error, or a note where it is accepted."""
+        if kind in self.asked.kinds: self.notes.append('as accepted (%s): %s' % (kind, title)); return
+        self.forbidden.append((title, lines))
+        self.slipped.update(keys)
 
     def count_accepted(self, calls, choice, others):
         """How many calls are left out of which that is accepted. What was checked in part is none of them."""
@@ -47,9 +62,10 @@ class Outcome:
         return len(keys - others) + sum(number for title, number in calls.unnamed.items() if title in self.accepted_titles)
 
     def status(self):
+        if self.record.troubles: return UNREADABLE
         if self.ended or self.is_outside: return ENDED
         if self.waiting: return WAITS
-        if self.reports or self.refused or self.behind_free: return DIFFERENCES
+        if self.reports or self.refused or self.forbidden: return DIFFERENCES
         if self.is_fewer(): return FEWER
         if self.is_little() or self.asked.is_strict and self.done() < self.wanted(): return LITTLE
         return NO_DIFFERENCE
@@ -68,11 +84,13 @@ class Outcome:
 
     def verdict(self):
         words, keys, own = [], {key for key, _, _ in self.reports}, {key for key, title, _ in self.reports if is_own(title)}
+        own |= self.slipped
         if keys - own: words.append(counted(len(keys - own), 'call') + (' differs' if len(keys - own) == 1 else ' differ'))
         if own: words.append(counted(len(own), 'call') + (' is' if len(own) == 1 else ' are') + ' the program\'s own error')
         if self.refused: words.append(counted(self.refused, 'call') + (' was' if self.refused == 1 else ' were') + ' refused')
-        if self.behind_free: words.append(counted(self.behind_free, 'call') + ' behind the free of a communicator')
-        if self.ended: words.append('the run was ended early')
+        if self.behind_free and FREED not in self.asked.kinds: words.append(counted(self.behind_free, 'call') + ' after the free of a communicator')
+        if self.record.troubles: words.append('the record isn\'t whole')
+        elif self.ended: words.append('the run was ended early')
         elif self.is_outside: words.append('the run was ended from outside')
         elif self.waiting: words.append('ranks wait')
         if words: return '; '.join(words)
@@ -93,9 +111,9 @@ class Outcome:
 
     def more(self):
         """What was held to something else than the standard's value."""
-        folded = sum(self.folded.values())
-        bounds = '%d more held to bounds; ' % (self.held - folded) if self.held > folded else ''
-        return bounds + ('%d more by the program\'s own operation; ' % folded if folded else '')
+        folded, digested = sum(self.folded.values()), sum(self.digested.values())
+        bounds = '%d more held to bounds; ' % (self.held - folded - digested) if self.held > folded + digested else ''
+        return bounds + ('%d more by hashes; ' % digested if digested else '') + ('%d more by the program\'s own operation; ' % folded if folded else '')
 
     def bounds(self):
         some = ['%d %s' % (number, what) for what, number in self.bounded.most_common(SHOWN_BOUNDS)]
@@ -108,14 +126,15 @@ class Outcome:
         lines = ['note: ' + note for note in notes[:SHOWN_NOTES]]
         if len(notes) > SHOWN_NOTES: lines.append('note: and %d more' % (len(notes) - SHOWN_NOTES))
         if self.bounded: lines.append('held to bounds, by the tool\'s own arithmetic: ' + self.bounds())
-        if self.folded: lines.append('held against the program\'s own operation, in the order of ranks: '
-                                     + ', '.join('%d %s' % (number, what) for what, number in self.folded.most_common()))
+        if self.folded: lines.append('held against the program\'s own operation, in the order of ranks: ' + told(self.folded))
+        if self.digested: lines.append('held by hashes of what was sent and what came, of more than %d items (RECORD_ITEMS): %s' % (record.most_items, told(self.digested)))
+        if self.shortened: lines.append('checked in part, of each the first %d items (RECORD_ITEMS): %s' % (record.most_items, told(self.shortened)))
         lines += ['left out%s: %d %s' % (', as accepted' * (what in self.accepted_titles), number, what) for what, number in sorted(self.left.items())]
         unended = [str(rank) for rank in range(record.size) if record.ended[rank] != 'end']
         if unended: lines.append('no MPI_Finalize at rank%s %s' % ('s' * (len(unended) > 1), ' '.join(unended)))
         if self.waiting and not self.ended and not self.is_outside and not self.comparison.has_waits:
             lines.append('the program waits isn\'t at hand: what is said of waiting ranks is from the record alone (bench/look waits builds it)')
-        return lines + self.shortfall() + [self.summary()]
+        return lines + self.shortfall() + ['record: ' + trouble for trouble in record.troubles] + [self.summary()]
 
     def shortfall(self):
         """Where fewer calls were checked than is asked: how many, and what --accept calls those that were left out."""
