@@ -1,4 +1,5 @@
 """The marks of a picture, and their colours on a light and on a dark screen."""
+import re
 from xml.sax.saxutils import escape
 
 # Of ranks 0 to 7, also told apart by those who don't see red and green apart.
@@ -40,13 +41,18 @@ STYLE = """
 """
 
 
+def plain(words):
+    """Words as text of an SVG. Bytes that XML doesn't know become one that it knows."""
+    return escape(re.sub("[^\t\n\r -\ud7ff\ue000-\ufffd\U00010000-\U0010ffff]", "\ufffd", words))
+
+
 def group(told, *parts):
     """Marks that belong together; what they mean is shown where a pointer rests on them."""
-    return "<g><title>%s</title>%s</g>" % (escape(told), "".join(parts))
+    return "<g><title>%s</title>%s</g>" % (plain(told), "".join(parts))
 
 
 def text(x, y, words, kind="name"):
-    return '<text x="%.1f" y="%.1f" class="%s">%s</text>' % (x, y, kind, escape(words))
+    return '<text x="%.1f" y="%.1f" class="%s">%s</text>' % (x, y, kind, plain(words))
 
 
 def stroke(x1, y1, x2, y2, kind):
