@@ -108,24 +108,6 @@ def boxes(found):
     return places, list(reversed(tops)), y
 
 
-def arrow(number, start, goal, gaps):
-    """A step back: a bent line from one box to the other, with its number where the line crosses a gap between rooms."""
-    (x1, y1, w1), (x2, y2, w2) = start, goal
-    x1, x2 = x1 + w1 / 2 + (number % 5 - 2) * 6, x2 + w2 / 2 + (number % 5 - 2) * 6
-    flat = y1 == y2
-    y1, y2 = (y1, y2) if flat else (y1 + 30, y2) if y2 > y1 else (y1, y2 + 30)
-    long = ((x2 - x1) ** 2 + (y2 - y1) ** 2) ** 0.5
-    bend = 22 if flat else 14 + 12 * (number % 4)
-    xm, ym = (x1 + x2) / 2 + bend * abs(y2 - y1) / long, (y1 + y2) / 2 - bend * abs(x2 - x1) / long * (1 if flat or x1 < x2 else -0.4)
-    at = lambda a, m, b, s: (1 - s) ** 2 * a + 2 * s * (1 - s) * m + s * s * b
-    s = min((it / 40 for it in range(8, 33)), key=lambda s: min(abs(at(y1, ym, y2, s) - gap) for gap in gaps) + 40 * abs(s - 0.5 - (number * 7 % 5 - 2) * 0.12))
-    xt, yt = at(x1, xm, x2, s), at(y1, ym, y2, s)
-    return [
-        f'<path d="M{x1:.0f} {y1} Q{xm:.0f} {ym:.0f} {x2:.0f} {y2}" fill="none" stroke="#c0392b" stroke-width="1.3" marker-end="url(#tip)"/>',
-        f'<circle cx="{xt:.0f}" cy="{yt:.0f}" r="7.5" fill="white" stroke="#c0392b"/><text x="{xt:.0f}" y="{yt + 3.5:.0f}" font-size="9" text-anchor="middle" fill="#c0392b">{number}</text>',
-    ]
-
-
 def picture(found):
     places, tops, end = boxes(found)
     deep = levels(found)
@@ -139,9 +121,6 @@ def picture(found):
         fill, edge, ink = ("#2f5d8a", "#2f5d8a", "white") if crate in ENTERED else ("#cfe0f0", "#2f5d8a", "#12283d") if crate in FRAMED else ("white", "#a8a69a", "#3a3932")
         out.append(f'<g><title>{html.escape(f"{crate}: {first_line(crate)}")}</title><rect x="{x:.0f}" y="{y}" width="{width:.0f}" height="30" rx="5" fill="{fill}" stroke="{edge}"/>')
         out.append(f'<text x="{x + 8:.0f}" y="{y + 20}" fill="{ink}">{crate.replace("mpx_", "")}</text><text x="{x + width - 5:.0f}" y="{y + 11}" font-size="8" text-anchor="end" fill="{ink}">{deep[crate]}</text></g>')
-    for number, (start, goal, _) in enumerate(BACK, 1):
-        out += arrow(number, places[start], places[goal], [low for _, low in tops])
-    out.insert(3, '<defs><marker id="tip" viewBox="0 0 8 8" refX="7" refY="4" markerWidth="7" markerHeight="7" orient="auto"><path d="M0 0 L8 4 L0 8 z" fill="#c0392b"/></marker></defs>')
     told = [
         ("#2f5d8a", f"{len(ENTERED)} crates that a run of one allreduce enters"),
         ("#cfe0f0", f"{len(FRAMED)} more where a frame carries its posts, {len(ENTERED) + len(FRAMED)} in all"),
@@ -149,7 +128,7 @@ def picture(found):
     ]
     for at, (fill, words) in enumerate(told):
         out.append(f'<rect x="20" y="{end + 8 + 24 * at}" width="22" height="14" rx="3" fill="{fill}" stroke="#2f5d8a"/><text x="52" y="{end + 20 + 24 * at}">{words}</text>')
-    out.append(f'<text x="600" y="{end + 20}" fill="#c0392b">{len(BACK)} steps back into a crate that control had left</text></svg>')
+    out.append("</svg>")
     return "\n".join(out) + "\n"
 
 

@@ -78,7 +78,7 @@ def frames(layout, run, turn, held):
         x1, y1, x2, y2 = ends(layout, turn, taken.sender, taken.to)
         kind = "new" if new else "old"
         if taken.again:
-            x1, y1 = x1 + 0.45 * (x2 - x1), y1 + 0.45 * (y2 - y1)
+            x1, y1 = x1 + 0.45 * (x2 - x1), y1 + 0.45 * (y2 - y1) - 9
         drawn = arrow(x1, y1, x2, y2, kind, told, taken.again) + (circle(x1, y1) if taken.again else "")
         (strong if new else weak).append(drawn)
     return weak + strong
