@@ -1,11 +1,11 @@
 #!/usr/bin/env python3
 """Runs the checks of the repository that need no proof and no MPI, side by side, and counts them. `.ci/run` runs the gate first, and then these.
 
-    bench/checks.py                    all checks: a few minutes on four processors, of which a third builds three programs unproved
+    bench/checks.py                    all checks: some 13 minutes of one processor, of which a third builds three programs unproved
     bench/checks.py --only NAME..      these, and what builds the programs for them
     bench/checks.py --list             each check with its command, the tools that it needs, and its time limit
     bench/checks.py --gate [COMMAND]   the gate first: bench/gate.py, or this command in its place
-    bench/checks.py --minutes N        another limit for all checks together than 25 minutes, for a machine with other work
+    bench/checks.py --minutes N        all checks together may take N minutes in place of 25, and each as many times as long: beside other work
 
 Each check gets a line with its seconds. The output of a check follows only where it failed. A check that takes longer than its limit is ended and has
 failed. A check is skipped only where a tool is missing, and the line names the tool. The last line counts all, with the counts of the gate added in. The
@@ -28,7 +28,7 @@ TOP = pathlib.Path(__file__).resolve().parent.parent
 PROGRAMS = {"GOSSIPMPI": "out/look/gossipmpi", "WAITS": "out/look/waits"}
 COUNTS = re.compile(r"(?:\w+: )?(\d+) passed, (\d+) failed(?:, (\d+) skipped)?$")
 # Minutes that all checks together may take. The gate needs up to 152 on two processors, and a run of `.ci/run` may have 180.
-MOST = 25
+MOST, WHOLE = 25, 170
 # Seconds that a check has to end by itself after it was asked to.
 GRACE = 10
 PASSED, FAILED, SKIPPED = "passed", "FAILED", "skipped"
@@ -57,7 +57,7 @@ CHECKS = [
     Check("record/test", "record/test", ("gcc",), LOOK),
     Check("record/planted", "record/planted", (), LOOK),
     Check("bench/waits.py", "bench/waits.py out/look/gossipmpi 100", (), LOOK),
-    Check("picture/test", "picture/test out/look/gossipmpi", (), LOOK),
+    Check("picture/test", "picture/test out/look/gossipmpi", ("node",), LOOK),
     Check("picture/look", "picture/look", (CHROMIUM,)),
     Check("bench/rows.py", "bench/rows.py"),
     Check("bench/pages", "bench/pages", ("git",), LOOK),
@@ -73,9 +73,9 @@ CHECKS = [
 class Running:
     """A check under way. Its output goes to a file."""
 
-    def __init__(self, check, left):
+    def __init__(self, check, limit):
         self.check, self.began, self.output = check, time.monotonic(), tempfile.TemporaryFile()
-        self.limit, self.why = min(60 * check.minutes, left), ""
+        self.limit, self.why = limit, ""
         said = dict(os.environ, PYTHONDONTWRITEBYTECODE="1", **{name: str(TOP / place) for name, place in PROGRAMS.items()})
         self.process = subprocess.Popen(shlex.split(check.command), cwd=TOP, env=said, stdin=subprocess.DEVNULL, stdout=self.output, stderr=subprocess.STDOUT, start_new_session=True)
 
@@ -146,7 +146,7 @@ class Checks:
         elif None in before or len(self.running) >= self.lanes:
             return False
         else:
-            self.running.append(Running(check, self.left()))
+            self.running.append(Running(check, min(60 * check.minutes * self.minutes / MOST, self.left())))
         return True
 
     def run(self):
@@ -213,8 +213,11 @@ def main():
         signal.signal(number, lambda number, _: sys.exit(128 + number))
     (TOP / "out").mkdir(exist_ok=True)
     # The checks come after the gate, not beside it: the toolchain plans the gate by the memory that is free when it begins.
+    began = time.monotonic()
     of_gate = gate(options.gate) if options.gate else [0, 0, 0]
-    checks = Checks(chosen(options.only), options.minutes)
+    # A gate over what is kept leaves time: then a slow machine gets twice as long.
+    left = WHOLE - (time.monotonic() - began) / 60
+    checks = Checks(chosen(options.only), max(options.minutes, min(2 * MOST, left)) if options.gate else options.minutes)
     checks.run()
     own = checks.counts()
     print(f"the checks: {checks.took()}; {own[0]} of them passed, {own[1]} failed, {own[2]} were skipped" + "; with the gate:" * bool(options.gate))

@@ -6,12 +6,11 @@
     bench/house.py --crates   the crates by rooms, each with what it says of itself
     bench/house.py --seen     runs one allreduce of one and of three ranks by out/look/gossipmpi under valgrind, and says which crates' code it entered
 
-It checks that each crate stands in a room, and on crates above it in crates.txt alone; that the crates and functions of the way below are there; and
+It checks that each crate stands in a room, and on crates above it in crates.txt alone; that the crates of the way below are there; and
 that the picture and the table are what it would write. Where a crate comes or goes, --write is enough.
 
 Of the way, which crates are entered is what --seen says (29 November 2026, 50ce7a5e): the program of bench/look keeps each function apart. Of join_core a
-run without a frame enters only what drops its values. That each step back is a call is seen too; that there are no others was read in the sources, call
-by call of those that are seen between crates."""
+run without a frame enters only what drops its values."""
 import html
 import pathlib
 import re
@@ -28,22 +27,6 @@ BEGIN, END = "<!-- bench/house.py writes this table -->\n", "<!-- until here -->
 ENTERED = """gossipmpi mpx_shell mpx_words mpx_affine mpx_num mpx_program mpx_run mpx_script mpx_statement mpx_kind mpx_post mpx_sim mpx_node
 mpx_board mpx_birth mpx_name mpx_group mpx_format join_nest join_core mpx_rank mpx_value mpx_match mpx_fold mpx_meaning""".split()
 FRAMED = "mpx_delta mpx_digest mpx_encode mpx_rope mpx_wire mpx_decode".split()
-# The steps back of the way that begins with `exit_code`: from, to, and the function that is called. Each hands on words, a script, a statement, a draft, a post, a row, a result or a text into a crate
-# that control had left. Passed over, of what is seen: look-ups, copies, what a call makes, frames, messages, who looks on, and what is made before the
-# first turn; of crates of room 2 all but `apply`.
-BACK = [
-    ("mpx_program", "mpx_run", "print_job"),
-    ("mpx_rank", "mpx_sim", "post"),
-    ("mpx_sim", "mpx_statement", "draft"),
-    ("mpx_node", "mpx_post", "check_call"),
-    ("mpx_sim", "mpx_node", "harvest_to"),
-    ("mpx_node", "mpx_board", "row"),
-    ("mpx_fold", "mpx_num", "apply"),
-    ("mpx_sim", "mpx_rank", "go_on"),
-    ("mpx_rank", "mpx_sim", "hear"),
-    ("mpx_sim", "mpx_node", "result"),
-    ("mpx_program", "mpx_run", "write_printed"),
-]
 
 
 def rooms(text):
@@ -83,10 +66,9 @@ def first_line(crate):
 
 
 def table(found):
-    """The rooms with their crates, and the steps back."""
+    """The rooms with their crates."""
     rows = [f"| {at} {name}: {what} | {' '.join(f'[{crate}](../crates/{crate}/README.md)' for crate in crates)} |" for at, (name, what, crates) in enumerate(found, 1)]
-    steps = [f"| {at} | `{start}` | `{goal}`, `{name}` |" for at, (start, goal, name) in enumerate(BACK, 1)]
-    return "\n".join(["| Room | Crates |", "|---|---|", *rows, "", "| Step back | From | Into, by |", "|---|---|---|", *steps]) + "\n"
+    return "\n".join(["| Room | Crates |", "|---|---|", *rows]) + "\n"
 
 
 WIDE, TALL, LEFT, LETTER = 1180, 60, 190, 7.4
@@ -128,26 +110,21 @@ def picture(found):
     ]
     for at, (fill, words) in enumerate(told):
         out.append(f'<rect x="20" y="{end + 8 + 24 * at}" width="22" height="14" rx="3" fill="{fill}" stroke="#2f5d8a"/><text x="52" y="{end + 20 + 24 * at}">{words}</text>')
-    out.append("</svg>")
+    out.append('</svg>')
     return "\n".join(out) + "\n"
 
 
 def seen(program, ranks):
-    """The crates whose functions a run of one allreduce enters, and which function calls which."""
+    """The crates whose functions a run of one allreduce enters."""
     script = f"ranks {ranks}\n*: allreduce world sum i64 1\n"
     with tempfile.TemporaryDirectory() as room:
         words = ["valgrind", "--tool=callgrind", f"--callgrind-out-file={room}/out", str(program), "run", "--workers", "1"]
         subprocess.run(words, input=script, stdout=subprocess.DEVNULL, stderr=subprocess.DEVNULL, universal_newlines=True, check=True)
         text = (pathlib.Path(room) / "out").read_text()
-    names, calls, caller = {}, set(), ""
-    for kind, number, name in re.findall(r"^(c?fn)=\((\d+)\)(?: (.*))?$", text, re.M):
+    names = {}
+    for number, name in re.findall(r"^c?fn=\((\d+)\)(?: (.*))?$", text, re.M):
         names[number] = name or names[number]
-        if kind == "fn":
-            caller = names[number]
-        else:
-            calls.add((caller, names[number]))
-    entered = {crate for name in names.values() for crate in re.findall(r"^(\w+)::", name) + re.findall(r"^\w+::(\w+)\+\+\w+\+\+.*Destruct", name)}
-    return entered, calls
+    return {crate for name in names.values() for crate in re.findall(r"^(\w+)::", name) + re.findall(r"^\w+::(\w+)\+\+\w+\+\+.*Destruct", name)}
 
 
 def differs():
@@ -158,22 +135,15 @@ def differs():
         return
     crates = {crate for _, _, ours in rooms((ROOT / "crates.txt").read_text())[0] for crate in ours}
     for ranks, told in ((1, {*ENTERED}), (3, {*ENTERED, *FRAMED})):
-        entered, calls = seen(program, ranks)
-        entered &= crates
+        entered = seen(program, ranks) & crates
         yield from (f"{crate} is entered by {ranks} ranks, and isn't told" for crate in sorted(entered - told))
         yield from (f"{crate} is told, and isn't entered by {ranks} ranks" for crate in sorted(told - entered))
-    for start, goal, name in BACK:
-        if not any(above.startswith(f"{start}::") and re.match(rf"{goal}::.*\b{name}\b", below) for above, below in calls):
-            yield f"{start} doesn't call {name} of {goal}"
 
 
 def main(words):
     found, faults = rooms((ROOT / "crates.txt").read_text())
     crates = {crate for _, _, crates in found for crate in crates}
     faults += [f"{crate} is on the way, and isn't in crates.txt" for crate in [*ENTERED, *FRAMED] if crate not in crates]
-    for start, goal, name in BACK:
-        sources = (file.read_text() for file in (ROOT / "crates" / goal / "src").rglob("*.rt"))
-        faults += [] if any(f"fn {name}" in text for text in sources) else [f"{goal} has no function {name}, to which {start} goes back"]
     if words == ["--crates"]:
         print("\n".join(f"{crate:18} {first_line(crate)}" for _, _, crates in found for crate in crates))
         return 0
