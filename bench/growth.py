@@ -4,7 +4,8 @@
     bench/growth.py            says whether the picture is that of the numbers; exit status 1 if it isn't
     bench/growth.py --write    writes the picture
 
-Both axes are logarithmic, but the one of the loss: a straight line of slope 1 is linear growth, which is drawn beside each first line."""
+Both axes are logarithmic, but the one of the loss, and the picture says so: a straight line of slope 1 is linear growth, which is drawn beside each first
+line."""
 import html
 import math
 import pathlib
@@ -42,8 +43,14 @@ def panel(left, top, title, across, up, lines):
     at_y = lambda y: top + TALL - ROOM - (math.log10(y) - low_y) / (high_y - low_y) * (TALL - ROOM - 46)
     out = [f'<rect x="{left + 4}" y="{top + 4}" width="{WIDE - 8}" height="{TALL - 8}" rx="4" fill="#f6f6f2"/>']
     out.append(f'<text x="{left + 14}" y="{top + 22}" font-weight="bold">{html.escape(title)}</text>')
-    out.append(f'<text x="{left + WIDE / 2}" y="{top + TALL - 10}" text-anchor="middle" fill="#555">{html.escape(across)}; up: {html.escape(up)}</text>')
+    scales = "up logarithmic" if flat else "both scales logarithmic"
+    out.append(f'<text x="{left + WIDE / 2}" y="{top + TALL - 10}" text-anchor="middle" fill="#555">{html.escape(across)}; up: {html.escape(up)} ({scales})</text>')
+    base, begin, end = top + TALL - ROOM + 6, left + ROOM - 12, left + WIDE - 18
+    out.append(f'<path d="M{begin} {top + 44}V{base}H{end}" fill="none" stroke="#555"/>')
+    for power in range(math.ceil(low_y), math.floor(high_y) + 1):
+        out.append(f'<line x1="{begin}" y1="{at_y(10 ** power):.0f}" x2="{end}" y2="{at_y(10 ** power):.0f}" stroke="#ddd"/><text x="{begin - 4}" y="{at_y(10 ** power) + 3:.0f}" text-anchor="end" font-size="9" fill="#555">{short(10 ** power)}</text>')
     for x in sorted({x for *_, line in lines for x, _ in line}):
+        out.append(f'<line x1="{at_x(x):.0f}" y1="{base}" x2="{at_x(x):.0f}" y2="{base + 4}" stroke="#555"/>')
         out.append(f'<text x="{at_x(x):.0f}" y="{top + TALL - 26}" text-anchor="middle" font-size="9">{short(x)}</text>')
     for number, (name, _, _, line) in enumerate(lines):
         colour = COLOURS[number % 2]

@@ -1,16 +1,14 @@
 """Draws a run: processes as lines, turns across, frames as arrows, posts as squares, and what ranks print as flags."""
-from xml.sax.saxutils import escape
-
 from held import Held, numbers
-from marks import COLOURS, STYLE, arrow, broken, circle, group, stroke, text
+from marks import COLOURS, STYLE, arrow, broken, circle, group, plain, stroke, text
 
 
 class Layout:
     """Where everything stands."""
 
-    def __init__(self, run, first, last):
+    def __init__(self, run, first, last, ranks=None):
         self.first, self.last, self.many = first, last, len(run.calls) > 1
-        self.processes, self.ranks = run.processes, max(run.ranks, default=0) + 1  # ranks are the first processes
+        self.processes, self.ranks = max(run.processes, ranks or 0), max(ranks or run.many(), 1)  # ranks are the first processes
         self.gap = 84 if self.processes <= 4 else 62 if self.processes <= 8 else 42 if self.processes <= 16 else 30
         self.side = 12 if self.processes <= 8 else 8
         self.room = self.ranks * (self.side + 2) if self.ranks <= 8 else 42
@@ -80,7 +78,7 @@ def frames(layout, run, turn, held):
         x1, y1, x2, y2 = ends(layout, turn, taken.sender, taken.to)
         kind = "new" if new else "old"
         if taken.again:
-            x1, y1 = x1 + 0.45 * (x2 - x1), y1 + 0.45 * (y2 - y1)
+            x1, y1 = x1 + 0.45 * (x2 - x1), y1 + 0.45 * (y2 - y1) - 9
         drawn = arrow(x1, y1, x2, y2, kind, told, taken.again) + (circle(x1, y1) if taken.again else "")
         (strong if new else weak).append(drawn)
     return weak + strong
@@ -146,9 +144,10 @@ def turn_of(layout, run, turn, held):
     return below, above
 
 
-def picture_of(run, title, first, last):
+def picture_of(run, title, first, last, ranks=None):
     """The whole picture, of these turns."""
-    layout, held = Layout(run, first, last), [Held(process, run) for process in range(run.processes)]
+    layout = Layout(run, first, last, ranks)
+    held = [Held(process, run) for process in range(layout.processes)]
     for turn in range(1, first):
         frames(layout, run, turn, held)
     body, above = heads(layout, run, title) + lines(layout, run, held), []
@@ -156,5 +155,5 @@ def picture_of(run, title, first, last):
         below, more = turn_of(layout, run, turn, held)
         body, above = body + below, above + more
     opening = '<svg xmlns="http://www.w3.org/2000/svg" viewBox="0 0 %d %d" width="%d" height="%d" role="img">' % ((layout.width, layout.height) * 2)
-    head = [opening, "<title>%s</title>" % escape(title), "<style>%s</style>" % STYLE]
+    head = [opening, "<title>%s</title>" % plain(title), "<style>%s</style>" % STYLE]
     return "\n".join(head + body + above + legend(layout, some_of(layout, run)) + ["</svg>", ""])

@@ -85,9 +85,9 @@ class Checker:
         self.boards[process] = now
 
     def posting(self, turn, rank, name, call, line, words):
-        """A turn's posts come before its frames. A rank's posts on a communicator are numbered from 0 on."""
+        """A turn's posts come first. A rank's posts on a communicator are numbered from 0 on."""
         turn, rank, call = int(turn), int(rank), int(call)
-        need(turn > self.came and turn >= self.turn, "a post comes after its turn's frames")
+        need(turn > self.came and turn >= self.turn and (turn, "results") not in self.times, "a post comes after its turn's results or frames")
         need(rank < 64 and int(line) > 1, "64 ranks, and a line after that of `ranks`")
         need(("%s %d" % (name, call), rank) not in self.posts, "a rank posts to a call twice")
         need(not call or ("%s %d" % (name, call - 1), rank) in self.posts, "a rank leaves a call out")
@@ -100,6 +100,7 @@ class Checker:
         need(turn > self.came and turn >= self.turn, "a result comes after its turn's frames")
         need(LINE.fullmatch(line), "no rank prints this")
         self.turn = turn
+        self.times[turn, "results"] = True
         self.lines.setdefault(int(rank), []).append(line)
 
     def end(self):

@@ -1,4 +1,5 @@
 """The marks of a picture, and their colours on a light and on a dark screen."""
+import re
 from xml.sax.saxutils import escape
 
 # Of ranks 0 to 7, also told apart by those who don't see red and green apart.
@@ -15,7 +16,7 @@ STYLE = """
   .frame { stroke-width: 2; }
   .new { stroke: #1a7f37; } .newhead { fill: #1a7f37; }
   .old { stroke: #b6bec8; } .oldhead { fill: #b6bec8; }
-  .again { stroke-dasharray: 2 4; }
+  .again { stroke-dasharray: 2 4; fill: none; }
   .lost { stroke: #cf222e; stroke-dasharray: 6 4; }
   .cross { stroke: #cf222e; stroke-width: 2.5; }
   .dot, .none { fill: #ffffff; stroke: #8c959f; stroke-width: 1; }
@@ -40,13 +41,18 @@ STYLE = """
 """
 
 
+def plain(words):
+    """Words as text of an SVG. Bytes that XML doesn't know become one that it knows."""
+    return escape(re.sub("[^\t\n\r -\ud7ff\ue000-\ufffd\U00010000-\U0010ffff]", "\ufffd", words))
+
+
 def group(told, *parts):
     """Marks that belong together; what they mean is shown where a pointer rests on them."""
-    return "<g><title>%s</title>%s</g>" % (escape(told), "".join(parts))
+    return "<g><title>%s</title>%s</g>" % (plain(told), "".join(parts))
 
 
 def text(x, y, words, kind="name"):
-    return '<text x="%.1f" y="%.1f" class="%s">%s</text>' % (x, y, kind, escape(words))
+    return '<text x="%.1f" y="%.1f" class="%s">%s</text>' % (x, y, kind, plain(words))
 
 
 def stroke(x1, y1, x2, y2, kind):
@@ -58,11 +64,16 @@ def circle(x, y):
 
 
 def arrow(x1, y1, x2, y2, kind, told, dotted=False):
-    long = max(((x2 - x1) ** 2 + (y2 - y1) ** 2) ** 0.5, 1)
-    dx, dy = (x2 - x1) / long, (y2 - y1) / long
+    """An arrow; a dotted one goes in a bow, so that it isn't under a straight one."""
+    turn_x, turn_y = (x1 + x2) / 2, (y1 + y2) / 2 - (14 if dotted else 0)
+    long = max(((x2 - turn_x) ** 2 + (y2 - turn_y) ** 2) ** 0.5, 1)
+    dx, dy = (x2 - turn_x) / long, (y2 - turn_y) / long
     left, right = (x2 - 9 * dx - 4.5 * dy, y2 - 9 * dy + 4.5 * dx), (x2 - 9 * dx + 4.5 * dy, y2 - 9 * dy - 4.5 * dx)
     head = '<polygon points="%.1f,%.1f %.1f,%.1f %.1f,%.1f" class="%shead"/>' % ((x2, y2) + left + right + (kind,))
-    return group(told, stroke(x1, y1, x2 - 7 * dx, y2 - 7 * dy, "frame %s%s" % (kind, " again" if dotted else "")), head)
+    line = stroke(x1, y1, x2 - 7 * dx, y2 - 7 * dy, "frame " + kind)
+    if dotted:
+        line = '<path d="M%.1f %.1fQ%.1f %.1f %.1f %.1f" class="frame %s again"/>' % (x1, y1, turn_x, turn_y, x2 - 7 * dx, y2 - 7 * dy, kind)
+    return group(told, line, head)
 
 
 def broken(x1, y1, x2, y2, told):

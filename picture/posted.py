@@ -1,11 +1,12 @@
 """What a script and the results of its run imply: which posts are made, and when, and who waits for whom. By bench/reference.py, the second program for
-scripts. It holds the lines of posts that a trace has, and what the page shows of waits."""
+scripts. It adds lines of posts to a trace that has none, and holds those of one that has them, and what the page shows of waits."""
 import os
 import sys
 from collections import defaultdict
 
 sys.path.insert(0, os.path.join(os.path.dirname(os.path.abspath(__file__)), "..", "bench"))
 import reference
+from events import Unreadable
 
 
 def name_of(steps):
@@ -31,25 +32,27 @@ def statements_of(script):
 
 def end_of(script, counts):
     """Where each rank is that has printed this many lines, as the second program says it; each post has the place of its statement."""
-    todo, parse = reference.read(script.encode()), reference.parse
+    todo, parse, fault, faults = reference.read(script.encode()), reference.parse, reference.fault, {}
     place = {id(words): at for statements in todo for at, words in enumerate(statements)}
 
     def stamped(words):
         return dict(parse(words), at=place[id(words)])
-    reference.parse = stamped
+
+    def once(row, graph):
+        key = tuple(map(id, row))
+        if key not in faults:
+            faults[key] = fault(row, graph)
+        return faults[key]
+    reference.parse, reference.fault = stamped, once
     try:
         return todo, reference.End(todo, counts)
     finally:
-        reference.parse = parse
+        reference.parse, reference.fault = parse, fault
 
 
-def posts_after(script, counts):
-    """The posts that have been made where each rank has printed this many lines: (rank, call, line, statement), in each rank's order."""
-    statements, made = statements_of(script)[1], []
-    for (steps, rank), calls in end_of(script, counts)[1].posts.items():
-        for number, call in enumerate(calls):
-            made.append((call["at"], rank, "%s %d" % (name_of(steps), number), *statements[rank][call["at"]]))
-    return [post[1:] for post in sorted(made)]
+def printed_by(words, is_posted):
+    """How many lines a statement prints. A request prints one only where it is refused."""
+    return len(words) - 1 if words[0] in reference.WAITS else 1 - is_posted if reference.started(words[0]) else 1
 
 
 def counts_after(run, ranks, turn):
@@ -61,26 +64,42 @@ def counts_after(run, ranks, turn):
     return counts
 
 
+def results_of(run, ranks):
+    """Of each rank the turn and the text of each line that it prints."""
+    results = [[] for _ in range(ranks)]
+    for number in sorted(run.turns):
+        for rank, line in run.turns[number].results:
+            results[rank].append((number, line))
+    return results
+
+
 def posts_of(script, run):
-    """The posts of each turn of a run, rank by rank."""
-    ranks, seen, told = statements_of(script)[0], set(), {}
-    for number in range(1, run.last + 1):
-        if number == 1 or number in run.turns and run.turns[number].results:
-            now = posts_after(script, counts_after(run, ranks, number))
-            told[number] = sorted((post for post in now if post not in seen), key=lambda post: post[0])
-            seen |= set(now)
+    """The posts of each turn of a run, rank by rank: (rank, call, line, statement). A rank posts in the turn in which it prints the last line of what
+    comes before, else in the first."""
+    ranks, statements = statements_of(script)
+    results, told = results_of(run, ranks), defaultdict(list)
+    todo, end = end_of(script, [len(lines) for lines in results])
+    if [[line for _, line in lines] for lines in results] != end.out:
+        raise Unreadable("the trace's results aren't those of the script")
+    calls = {(rank, call["at"]): "%s %d" % (name_of(steps), number) for (steps, rank), made in end.posts.items() for number, call in enumerate(made)}
+    for rank, list_ in enumerate(todo):
+        count = 0
+        for at, words in enumerate(list_):
+            if (rank, at) in calls:
+                turn = results[rank][count - 1][0] if count else 1
+                told[turn].append((rank, calls[rank, at]) + statements[rank][at])
+            count += printed_by(words, (rank, at) in calls)
     return told
 
 
 def with_posts(lines, script, run):
-    """The lines of a trace that has no posts, with a line for each: after the turn's results, before its frames."""
+    """The lines of a trace that has no posts, with a line for each: they are a turn's first ones."""
     posts, told, at = posts_of(script, run), [], 0
     for line in lines:
-        turn = int(line[5:].partition(":")[0]) if line.startswith("turn ") else run.last + 1
-        if " result " not in line or turn > at + 1:
-            for number in range(at + 1, turn + (" result " not in line)):
-                told += ["turn %d: rank %d posts %s, line %d: %s" % ((number,) + post) for post in posts.get(number, [])]
-                at = number
+        turn = int(line[5:].partition(":")[0]) if line.startswith("turn ") else at
+        for number in range(at + 1, turn + 1):
+            told += ["turn %d: rank %d posts %s, line %d: %s" % (number, rank, call, at_line, " ".join(text.split())) for rank, call, at_line, text in posts[number]]
+        at = max(at, turn)
         told.append(line)
     return told
 

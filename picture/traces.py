@@ -1,4 +1,5 @@
 """The traces that are kept, their scripts and their pages."""
+import functools
 import os
 
 from events import POSTS, read
@@ -23,6 +24,7 @@ def script_of(name):
         return file.read()
 
 
+@functools.lru_cache(None)
 def lines_of(name):
     """The lines of a trace that is kept. One that a program wrote which doesn't tell posts gets those that its script implies."""
     with open(os.path.join(HERE, "traces", name + ".trace"), encoding="utf-8") as file:
