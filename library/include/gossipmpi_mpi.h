@@ -149,6 +149,21 @@ static inline void gossipmpi_add_part(struct gossipmpi_text *script, int rank, c
     }
 }
 
+/* Gives this rank's part to another, and takes one into the script. Where memory for it runs out, the other is told, and sends nothing. */
+static inline void gossipmpi_exchange(struct gossipmpi_call *call, int mine, int to, int from, struct gossipmpi_text *script)
+{
+    int length = -1, ready, is_awaited = 0;
+    MPI_Sendrecv(&mine, 1, MPI_INT, to, GOSSIPMPI_TAG, &length, 1, MPI_INT, from, GOSSIPMPI_TAG, call->comm, MPI_STATUS_IGNORE);
+    char *part = (char *)malloc(length > 0 ? (size_t)length : 1);
+    ready = part != NULL;
+    MPI_Sendrecv(&ready, 1, MPI_INT, from, GOSSIPMPI_TAG, &is_awaited, 1, MPI_INT, to, GOSSIPMPI_TAG, call->comm, MPI_STATUS_IGNORE);
+    MPI_Sendrecv(call->part.bytes, mine > 0 ? mine : 0, MPI_CHAR, is_awaited ? to : MPI_PROC_NULL, GOSSIPMPI_TAG, part, ready && length > 0 ? length : 0, MPI_CHAR,
+                 ready ? from : MPI_PROC_NULL, GOSSIPMPI_TAG, call->comm, MPI_STATUS_IGNORE);
+    if (!ready || length < 0) script->bad = !ready ? "out of memory" : script->bad ? script->bad : "a rank's part that isn't one of scripts";
+    else gossipmpi_add_part(script, from, part, (size_t)length);
+    free(part);
+}
+
 /* The script of all ranks' parts. Each rank hears of each other, also where it has no part to give: then the script is bad at all ranks. */
 static inline struct gossipmpi_text gossipmpi_gathered(struct gossipmpi_call *call)
 {
@@ -159,15 +174,8 @@ static inline struct gossipmpi_text gossipmpi_gathered(struct gossipmpi_call *ca
     if (mine < 0) script.bad = call->part.bad ? call->part.bad : "more than a script may have";
     else gossipmpi_add_part(&script, call->rank, call->part.bytes, call->part.length);
     for (int step = 1; step < call->ranks; step++) {
-        int to = (call->rank + step) % call->ranks, from = (call->rank - step + call->ranks) % call->ranks, length = -1;
-        MPI_Sendrecv(&mine, 1, MPI_INT, to, GOSSIPMPI_TAG, &length, 1, MPI_INT, from, GOSSIPMPI_TAG, call->comm, MPI_STATUS_IGNORE);
-        char *part = (char *)malloc(length > 0 ? (size_t)length : 1);
-        if (!part) { fprintf(stderr, "gossipmpi: rank %d is out of memory\n", call->rank); MPI_Abort(call->comm, 4); abort(); }
-        MPI_Sendrecv(call->part.bytes, mine > 0 ? mine : 0, MPI_CHAR, to, GOSSIPMPI_TAG, part, length > 0 ? length : 0, MPI_CHAR, from, GOSSIPMPI_TAG, call->comm,
-                     MPI_STATUS_IGNORE);
-        if (length < 0) script.bad = script.bad ? script.bad : "a rank's part that isn't one of scripts";
-        else gossipmpi_add_part(&script, from, part, (size_t)length);
-        free(part);
+        int to = (call->rank + step) % call->ranks, from = (call->rank - step + call->ranks) % call->ranks;
+        gossipmpi_exchange(call, mine, to, from, &script);
     }
     return script;
 }

@@ -47,7 +47,7 @@ tell("Allreduce in place", lambda: COMM.Allreduce(MPI.IN_PLACE, send[:], MPI.MAX
 tell("Allreduce sum u8", lambda: COMM.Allreduce(array("B", [99 if RANK else 200] * 64), room(64, "B"), MPI.SUM))
 tell("Allreduce max u8", lambda: COMM.Allreduce(array("B", [99 if RANK else 200]), room(1, "B"), MPI.MAX))
 tell("Reduce_scatter_block", lambda: COMM.Reduce_scatter_block(send[:6], room(2), MPI.SUM))
-tell("Reduce_scatter", lambda: COMM.Reduce_scatter(send[:3], room(3), [2, 0, 1], MPI.SUM))
+tell("Reduce_scatter", lambda: COMM.Reduce_scatter(send[:3], room([2, 0, 1][RANK]), [2, 0, 1], MPI.SUM))
 tell("Scan", lambda: COMM.Scan(send, room(), MPI.PROD))
 tell("Exscan", lambda: COMM.Exscan(send, room(), MPI.SUM))
 ring = COMM.Create_dist_graph_adjacent([(RANK - 1) % RANKS], [(RANK + 1) % RANKS])

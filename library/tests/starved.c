@@ -40,10 +40,12 @@ void free(void *block)
 typedef uint8_t call(const uint8_t *, size_t, uint8_t *, size_t, size_t *);
 static uint8_t out[1 << 22];
 
-/* How many allocations a call makes; -1 where one that is refused isn't answered so. */
+/* How many allocations of a call were refused; -1 where one that is refused isn't answered so. Of a script of more than 1,000 bytes not each is tried: the
+ * quadratic time of that would be minutes. */
 static long tried(call *f, const uint8_t *script, size_t length, const char *name)
 {
-    for (refused = 1;; refused++) {
+    long tries = 0;
+    for (refused = 1;; refused += length <= 1000 ? 1 : 1 + refused / 50) {
         size_t needed = 77;
         out[0] = '#';
         allocations = open_blocks = 0;
@@ -51,7 +53,8 @@ static long tried(call *f, const uint8_t *script, size_t length, const char *nam
         int status = f(script, length, out, sizeof out, &needed);
         counts = 0;
         if (open_blocks) { fprintf(stderr, "%s: %ld blocks are left, allocation %ld refused\n", name, open_blocks, refused); return -1; }
-        if (allocations < refused) return status == GOSSIPMPI_MEMORY ? -1 : allocations;
+        if (allocations < refused) return status == GOSSIPMPI_MEMORY ? -1 : tries;
+        tries++;
         if (status != GOSSIPMPI_MEMORY || needed || out[0] != '#') { fprintf(stderr, "%s: status %d, allocation %ld refused\n", name, status, refused); return -1; }
     }
 }

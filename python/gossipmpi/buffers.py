@@ -43,7 +43,7 @@ class Buffer:
         self.width = 2 if self.word == "2int" else 1
         self.bytes = view.cast("B") if view.nbytes else memoryview(b"")
         size = self.width * self.numbers.itemsize
-        self.count = len(self.bytes) // size
+        self.count, self.is_counted = len(self.bytes) // size, False
         self.counts, self.places = self._blocks([it for it in rest if not _is_type(it) and it is not None])
 
     @staticmethod
@@ -61,7 +61,7 @@ class Buffer:
         if not flat:
             return None, None
         if not hasattr(flat[0], "__len__"):
-            self.count = int(flat[0])
+            self.count, self.is_counted = int(flat[0]), True
             return None, None
         counts = [int(it) for it in flat[0]]
         places = [int(it) for it in flat[1]] if len(flat) > 1 and flat[1] is not None else [sum(counts[:at]) for at in range(len(counts))]
@@ -76,9 +76,9 @@ class Buffer:
         return self.numbers[place * self.width:(place + count) * self.width].tolist()
 
     def blocks(self, ranks: int) -> Tuple[List[int], List[int]]:
-        """The counts and the places of its blocks; without them equal ones."""
+        """The counts and the places of its blocks; without them equal ones. A count that is given is that of a block."""
         if self.counts is None or self.places is None:
-            each = self.count // ranks if ranks else 0
+            each = self.count if self.is_counted else self.count // ranks if ranks else 0
             return [each] * ranks, [each * at for at in range(ranks)]
         return self.counts, self.places
 

@@ -70,67 +70,67 @@ class Communicator:
     def bcast(self, values: Values, root: Any = 0, type: Any = None, count: Any = None) -> Call:
         """The root's items; without a count as many as it gives."""
         given = _given(values)
-        return self._each("bcast", values, root, type_word(type, given), _longest(given) if count is None else count)
+        return self._each("bcast", values, root, _type(type, given), _longest(given) if count is None else count)
 
     def gather(self, values: Values, root: Any = 0, type: Any = None) -> Call:
-        return self._each("gather", values, root, type_word(type, _given(values)))
+        return self._each("gather", values, root, _type(type, _given(values)))
 
     def gatherv(self, values: Sequence[Any], root: int = 0, type: Any = None, counts: Optional[Sequence[int]] = None) -> Call:
         counts = [len(items_of(own or [])) for own in values] if counts is None else counts
         word = PerRank(list_word(counts) if rank == root else "-" for rank in range(self.job.ranks))
-        return self._each("gatherv", values, root, type_word(type, _given(values)), word)
+        return self._each("gatherv", values, root, _type(type, _given(values)), word)
 
     def scatter(self, values: Values, count: Any, root: Any = 0, type: Any = None) -> Call:
-        return self._each("scatter", values, root, type_word(type, _given(values)), count)
+        return self._each("scatter", values, root, _type(type, _given(values)), count)
 
     def scatterv(self, values: Values, counts: Sequence[int], root: int = 0, type: Any = None) -> Call:
         """The root's blocks; rank i awaits counts[i] items."""
         word = PerRank(list_word(counts) if rank == root else "-" for rank in range(self.job.ranks))
-        return self._each("scatterv", values, root, type_word(type, _given(values)), word, PerRank(counts))
+        return self._each("scatterv", values, root, _type(type, _given(values)), word, PerRank(counts))
 
     def allgather(self, values: Values, type: Any = None) -> Call:
-        return self._each("allgather", values, type_word(type, _given(values)))
+        return self._each("allgather", values, _type(type, _given(values)))
 
     def allgatherv(self, values: Sequence[Any], type: Any = None, counts: Optional[Sequence[int]] = None) -> Call:
         counts = [len(items_of(own or [])) for own in values] if counts is None else counts
-        return self._each("allgatherv", values, type_word(type, _given(values)), list_word(counts))
+        return self._each("allgatherv", values, _type(type, _given(values)), list_word(counts))
 
     def alltoall(self, values: Values, count: Any, type: Any = None) -> Call:
-        return self._each("alltoall", values, type_word(type, _given(values)), count)
+        return self._each("alltoall", values, _type(type, _given(values)), count)
 
     def alltoallv(self, values: Values, sendcounts: Sequence[Sequence[int]], recvcounts: Sequence[Sequence[int]], type: Any = None) -> Call:
         """sendcounts[i] and recvcounts[i] are rank i's."""
-        return self._each("alltoallv", values, type_word(type, _given(values)), _lists(sendcounts), _lists(recvcounts))
+        return self._each("alltoallv", values, _type(type, _given(values)), _lists(sendcounts), _lists(recvcounts))
 
     def reduce(self, values: Values, op: Any, root: Any = 0, type: Any = None) -> Call:
-        return self._each("reduce", values, root, op_word(op), type_word(type, _given(values)))
+        return self._each("reduce", values, root, _op(op), _type(type, _given(values)))
 
     def allreduce(self, values: Values, op: Any, type: Any = None) -> Call:
-        return self._each("allreduce", values, op_word(op), type_word(type, _given(values)))
+        return self._each("allreduce", values, _op(op), _type(type, _given(values)))
 
     def reduce_scatter_block(self, values: Values, count: Any, op: Any, type: Any = None) -> Call:
-        return self._each("reduce_scatter_block", values, op_word(op), type_word(type, _given(values)), count)
+        return self._each("reduce_scatter_block", values, _op(op), _type(type, _given(values)), count)
 
     def reduce_scatter(self, values: Values, counts: Sequence[int], op: Any, type: Any = None) -> Call:
-        return self._each("reduce_scatter", values, op_word(op), type_word(type, _given(values)), list_word(counts))
+        return self._each("reduce_scatter", values, _op(op), _type(type, _given(values)), list_word(counts))
 
     def scan(self, values: Values, op: Any, type: Any = None) -> Call:
-        return self._each("scan", values, op_word(op), type_word(type, _given(values)))
+        return self._each("scan", values, _op(op), _type(type, _given(values)))
 
     def exscan(self, values: Values, op: Any, type: Any = None) -> Call:
-        return self._each("exscan", values, op_word(op), type_word(type, _given(values)))
+        return self._each("exscan", values, _op(op), _type(type, _given(values)))
 
     def neighbor_allgather(self, values: Values, count: Any, type: Any = None) -> Call:
-        return self._each("neighbor_allgather", values, type_word(type, _given(values)), count)
+        return self._each("neighbor_allgather", values, _type(type, _given(values)), count)
 
     def neighbor_allgatherv(self, values: Values, recvcounts: Sequence[Sequence[int]], type: Any = None) -> Call:
-        return self._each("neighbor_allgatherv", values, type_word(type, _given(values)), _lists(recvcounts))
+        return self._each("neighbor_allgatherv", values, _type(type, _given(values)), _lists(recvcounts))
 
     def neighbor_alltoall(self, values: Values, sendcount: Any, recvcount: Any, type: Any = None) -> Call:
-        return self._each("neighbor_alltoall", values, type_word(type, _given(values)), sendcount, recvcount)
+        return self._each("neighbor_alltoall", values, _type(type, _given(values)), sendcount, recvcount)
 
     def neighbor_alltoallv(self, values: Values, sendcounts: Sequence[Sequence[int]], recvcounts: Sequence[Sequence[int]], type: Any = None) -> Call:
-        return self._each("neighbor_alltoallv", values, type_word(type, _given(values)), _lists(sendcounts), _lists(recvcounts))
+        return self._each("neighbor_alltoallv", values, _type(type, _given(values)), _lists(sendcounts), _lists(recvcounts))
 
     def __getattr__(self, name: str) -> Any:
         # `iallreduce` and the like: the method without `i`, of a communicator whose calls don't block
@@ -252,6 +252,14 @@ class Job(Communicator):
 
 
 _COLLECTIVES = {name for name in vars(Communicator) if not name.startswith("_")} - {"results", "dup", "split", "create", "create_group", "dist_graph_adjacent", "free"}
+
+
+def _op(op: Any) -> Any:
+    return PerRank(op_word(it) for it in op) if isinstance(op, PerRank) else op_word(op)
+
+
+def _type(type: Any, given: Sequence[Any]) -> Any:
+    return PerRank(type_word(it, given) for it in type) if isinstance(type, PerRank) else type_word(type, given)
 
 
 def _given(values: Values) -> List[Any]:

@@ -88,8 +88,12 @@ class Checked:
             part = part_of()
         except (NotOfScripts, ValueError) as reason:
             why = str(reason)
-        result = made()
-        self._check(call, part, got_of() if part is not None else [], why)
+        result, got = made(), []
+        try:
+            got = got_of() if part is not None else []
+        except (NotOfScripts, ValueError) as reason:
+            part, why = None, str(reason)
+        self._check(call, part, got, why)
         return result
 
     def Barrier(self) -> None:
@@ -99,7 +103,7 @@ class Checked:
         def part() -> str:
             it = Buffer(buf)
             return _line("bcast world", root, it.word, it.count, it.items(it.count) if self.comm.Get_rank() == root else [])
-        self._held("Bcast", part, lambda: self.comm.Bcast(buf, root), lambda: Buffer(buf).items(Buffer(buf).count))
+        self._held("Bcast", part, lambda: self.comm.Bcast(buf, root), lambda: _all(buf))
 
     def Gather(self, sendbuf: Any, recvbuf: Any, root: int = 0) -> None:
         def part() -> str:
@@ -117,13 +121,13 @@ class Checked:
         def part() -> str:
             it = Buffer(recvbuf)
             return _line("scatter world", root, it.word, it.count, self._at_root(root, sendbuf))
-        self._held("Scatter", part, lambda: self.comm.Scatter(sendbuf, recvbuf, root), lambda: Buffer(recvbuf).items(Buffer(recvbuf).count))
+        self._held("Scatter", part, lambda: self.comm.Scatter(sendbuf, recvbuf, root), lambda: _all(recvbuf))
 
     def Scatterv(self, sendbuf: Any, recvbuf: Any, root: int = 0) -> None:
         def part() -> str:
             it = Buffer(recvbuf)
             return _line("scatterv world", root, it.word, self._counts_at(root, sendbuf), it.count, self._at_root(root, sendbuf))
-        self._held("Scatterv", part, lambda: self.comm.Scatterv(sendbuf, recvbuf, root), lambda: Buffer(recvbuf).items(Buffer(recvbuf).count))
+        self._held("Scatterv", part, lambda: self.comm.Scatterv(sendbuf, recvbuf, root), lambda: _all(recvbuf))
 
     def Allgather(self, sendbuf: Any, recvbuf: Any) -> None:
         def part() -> str:
@@ -153,7 +157,7 @@ class Checked:
         def part() -> str:
             it = Buffer(recvbuf if _is_in_place(sendbuf) else sendbuf)
             return _line("reduce world", root, op_word(op), it.word, it.items(it.count))
-        self._held("Reduce", part, lambda: self.comm.Reduce(sendbuf, recvbuf, op, root), lambda: self._at_root(root, recvbuf))
+        self._held("Reduce", part, lambda: self.comm.Reduce(sendbuf, recvbuf, op, root), lambda: _all(recvbuf) if self.comm.Get_rank() == root else [])
 
     def Allreduce(self, sendbuf: Any, recvbuf: Any, op: Any = MPI.SUM) -> None:
         self._reduced("Allreduce", "allreduce world", sendbuf, recvbuf, op)
@@ -168,13 +172,13 @@ class Checked:
         def part() -> str:
             it = Buffer(recvbuf if _is_in_place(sendbuf) else sendbuf)
             return _line(head, op_word(op), it.word, it.items(it.count))
-        self._held(name, part, lambda: getattr(self.comm, name)(sendbuf, recvbuf, op), lambda: Buffer(recvbuf).items(Buffer(recvbuf).count))
+        self._held(name, part, lambda: getattr(self.comm, name)(sendbuf, recvbuf, op), lambda: _all(recvbuf))
 
     def Reduce_scatter_block(self, sendbuf: Any, recvbuf: Any, op: Any = MPI.SUM) -> None:
         def part() -> str:
             it, ranks = Buffer(sendbuf), self.comm.Get_size()
             return _line("reduce_scatter_block world", op_word(op), it.word, it.count // ranks, it.items(it.count))
-        self._held("Reduce_scatter_block", part, lambda: self.comm.Reduce_scatter_block(sendbuf, recvbuf, op), lambda: Buffer(recvbuf).items(Buffer(recvbuf).count))
+        self._held("Reduce_scatter_block", part, lambda: self.comm.Reduce_scatter_block(sendbuf, recvbuf, op), lambda: _all(recvbuf))
 
     def Reduce_scatter(self, sendbuf: Any, recvbuf: Any, recvcounts: Optional[Sequence[int]] = None, op: Any = MPI.SUM) -> None:
         def part() -> str:
@@ -232,6 +236,11 @@ class Checked:
 
 def _is_in_place(buffer: Any) -> bool:
     return isinstance(buffer, int) and buffer == MPI.IN_PLACE
+
+
+def _all(buffer: Any) -> List[int]:
+    it = Buffer(buffer)
+    return it.items(it.count)
 
 
 def _line(*words: Any) -> str:

@@ -2,7 +2,7 @@
 import array
 import unittest
 
-from gossipmpi import Comm, Fault, Job, NoValue, Null, Ok, PerRank, Refused
+from gossipmpi import Comm, Fault, Idle, Job, NoValue, Null, Ok, PerRank, Refused
 from gossipmpi.buffers import Buffer, NotOfScripts
 
 
@@ -54,19 +54,19 @@ class Jobs(unittest.TestCase):
 
     def test_calls_that_do_not_block(self):
         job = Job(2)
-        first, second = job.iallreduce([[1], [2]], "sum", "i8"), job.ireduce([[1], [2]], "sum", root=PerRank([0, 9]), type="i8")
+        first, second = job.iallreduce([[1], [2]], "sum", "i8"), job.ireduce([[1], [2]], "sum", root=9, type="i8")
         last = job.allgather([[4], [5]], "u8")
         done, idle = job.waitall([first, second])
         self.results(first, [None, None])
-        self.results(second, [None, Refused("RootOutOfRange")])
+        self.results(second, [Refused("RootOutOfRange")] * 2)
         self.results(last, [[4, 5]] * 2)
         self.results(done, [[3], [3]])
-        self.assertEqual(idle.results[1], None)
-        self.assertEqual(job.evaluation.waiting, [0])
+        self.results(idle, [Idle(), Idle()])
 
     def test_wrong_calls(self):
         job = Job(2)
         self.results(job.allreduce([[1], [2]], PerRank(["sum", "max"]), "i8"), [Fault("Op", 1)] * 2)
+        self.results(job.reduce([[1], [2]], "sum", root=PerRank([0, 1]), type="i8"), [Fault("Root", 1)] * 2)
         self.results(job.barrier(ranks=[0]), [None, None])
         self.assertEqual(job.evaluation.waiting, [0])
         self.assertIn("fault Op at 1", job.explain())
