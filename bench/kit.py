@@ -73,7 +73,7 @@ class Kit:
         """Links the libraries that `rt ci` kept of just these files into the crates' out/, and gives the names of those that have none. One that
         bench/prove built of these files stays."""
         kept, lacking = self.kept(), []
-        for crate in sorted((it for it in self.crates.values() if not it.is_program), key=lambda it: len(it.below())):
+        for crate in sorted((it for it in self.crates.values() if it.makes_rlib()), key=lambda it: len(it.below())):
             if any(it.name in lacking for it in crate.below()) or not self.takes(kept, crate):
                 lacking.append(crate.name)
         self.sums.keep()

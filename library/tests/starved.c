@@ -1,0 +1,80 @@
+/* Refuses each allocation of a call in turn: the status is GOSSIPMPI_MEMORY and the room is unchanged, until one call has all that it asks for. Then nothing
+ * is left allocated. Its malloc, realloc and free take the place of the C library's; blocks have malloc's alignment and a guard at their end.
+ *
+ *     starved SCRIPT..        the files of scripts */
+#include "gossipmpi.h"
+#include <stdio.h>
+#include <stdlib.h>
+#include <string.h>
+
+extern void *__libc_malloc(size_t);
+extern void *__libc_realloc(void *, size_t);
+extern void __libc_free(void *);
+
+static int counts;                  /* whether a call is at work */
+static long allocations, refused;   /* so many were asked for; the one that is refused */
+static long open_blocks;
+
+static int refuses(void) { return counts && ++allocations == refused; }
+
+void *malloc(size_t size)
+{
+    if (refuses()) return NULL;
+    void *block = __libc_malloc(size);
+    if (counts && block) open_blocks++;
+    return block;
+}
+void *realloc(void *block, size_t size)
+{
+    if (refuses()) return NULL;
+    void *more = __libc_realloc(block, size);
+    if (counts && !block && more) open_blocks++;
+    return more;
+}
+void free(void *block)
+{
+    if (counts && block) open_blocks--;
+    __libc_free(block);
+}
+
+typedef uint8_t call(const uint8_t *, size_t, uint8_t *, size_t, size_t *);
+static uint8_t out[1 << 22];
+
+/* How many allocations of a call were refused; -1 where one that is refused isn't answered so. Of a script of more than 1,000 bytes not each is tried: the
+ * quadratic time of that would be minutes. */
+static long tried(call *f, const uint8_t *script, size_t length, const char *name)
+{
+    long tries = 0;
+    for (refused = 1;; refused += length <= 1000 ? 1 : 1 + refused / 50) {
+        size_t needed = 77;
+        out[0] = '#';
+        allocations = open_blocks = 0;
+        counts = 1;
+        int status = f(script, length, out, sizeof out, &needed);
+        counts = 0;
+        if (open_blocks) { fprintf(stderr, "%s: %ld blocks are left, allocation %ld refused\n", name, open_blocks, refused); return -1; }
+        if (allocations < refused) return status == GOSSIPMPI_MEMORY ? -1 : tries;
+        tries++;
+        if (status != GOSSIPMPI_MEMORY || needed || out[0] != '#') { fprintf(stderr, "%s: status %d, allocation %ld refused\n", name, status, refused); return -1; }
+    }
+}
+
+int main(int argc, char **argv)
+{
+    static uint8_t script[1 << 21];
+    call *calls[] = {gossipmpi_eval, gossipmpi_check, gossipmpi_explain};
+    long all = 0;
+    for (int i = 1; i < argc; i++) {
+        FILE *file = fopen(argv[i], "rb");
+        if (!file) { perror(argv[i]); return 2; }
+        size_t length = fread(script, 1, sizeof script, file);
+        fclose(file);
+        for (int f = 0; f < 3; f++) {
+            long made = tried(calls[f], script, length, argv[i]);
+            if (made < 0) return 1;
+            all += made;
+        }
+    }
+    printf("%d scripts, %ld allocations refused\n", argc - 1, all);
+    return 0;
+}
