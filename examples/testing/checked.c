@@ -9,7 +9,7 @@ int main(int argc, char **argv)
     MPI_Comm_size(MPI_COMM_WORLD, &ranks);
 
     uint8_t bytes[64], sums[64];
-    for (int i = 0; i < 64; i++) bytes[i] = (uint8_t)(rank == 0 ? 200 : 99 - rank);
+    for (int i = 0; i < 64; i++) bytes[i] = (uint8_t)(rank == 0 ? 200 : 100 - rank);
     wrong += gossipmpi_allreduce(bytes, sums, 64, MPI_UINT8_T, MPI_SUM, MPI_COMM_WORLD) != 0;
     wrong += gossipmpi_allreduce(bytes, sums, 1, MPI_UINT8_T, MPI_MAX, MPI_COMM_WORLD) != 0;
 

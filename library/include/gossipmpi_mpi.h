@@ -191,12 +191,14 @@ static inline char *gossipmpi_line_of(char *text, int rank)
     return found;
 }
 
-/* The beginning of this rank's statement: behind the graph, where one is made. */
+/* The beginning of this rank's statement, whole words: the statement after the graph, where one is made. */
 static inline void gossipmpi_name(const struct gossipmpi_call *call, char *name, size_t room)
 {
     const char *from = call->part.bytes, *feed = strchr(from, '\n');
     if (feed && feed[1]) from = feed + 1;
-    snprintf(name, room, "%.*s", (int)strcspn(from, "\n"), from);
+    size_t length = strcspn(from, "\n"), most = room - 4;
+    if (length > most) for (length = most; length && from[length] != ' '; length--);
+    snprintf(name, room, "%.*s%s", (int)length, from, from[length] == ' ' ? " .." : "");
 }
 
 /* Compares what this rank got with its line. */
