@@ -1,12 +1,15 @@
 #!/usr/bin/env python3
-"""Tells how long the gate would take on the clock, by the toolchain's own plan and the minutes of a table that bench/gate.py printed.
+"""Says how long the gate would take on the clock, by the toolchain's own plan and the minutes of each crate.
 
-    bench/plan.py [--processors 4] [--memory 22] [--times 1.0] < TABLE
+    bench/plan.py [--processors 4] [--memory 22] [--times 1.0] [TABLE]
 
+TABLE is a file with a table as bench/gate.py prints it, else bench/TIMES.md; `-` is the standard input.
 The memory is what is free when the gate begins, in GB; 1000 shows the plan of bench/gate.py, which doesn't wait for memory. `--times` multiplies the
 minutes, for a faster or slower machine. A task is simulated with the minutes of one processor, also where the toolchain would give it several: so the
-time is an upper bound. Running programs and tests, some two minutes, isn't in it. Crates that the table lacks count nothing, and are told."""
+time is an upper bound. Running programs and tests, some two minutes, isn't in it. Crates that the table lacks share its row `others` by their lines; without
+such a row they count nothing, and are named."""
 import argparse
+import pathlib
 import re
 import sys
 
@@ -23,6 +26,16 @@ def minutes_of(lines):
     for row in filter(None, map(ROW.search, lines)):
         found.update({(row[1], part): float(row[at]) if row[at] != "-" else 0.0 for at, part in enumerate(PARTS, 2)})
     return found
+
+
+def share(minutes, kit):
+    """The minutes with those of `others` shared by the crates that the table lacks, by their lines."""
+    lacking = {it.name: it.count(rb"\n") for it in kit.crates.values() if (it.name, "proof") not in minutes}
+    lines = sum(lacking.values())
+    for part in PARTS if ("others", "proof") in minutes and lines else ():
+        rest = minutes.pop(("others", part))
+        minutes.update({(name, part): rest * own / lines for name, own in lacking.items()})
+    return minutes
 
 
 def tasks_of(kit, minutes, times):
@@ -68,8 +81,14 @@ def main():
     parser.add_argument("--processors", type=int, default=4)
     parser.add_argument("--memory", type=float, default=22)
     parser.add_argument("--times", type=float, default=1.0)
+    parser.add_argument("table", nargs="?", default=str(pathlib.Path(__file__).resolve().parent / "TIMES.md"), metavar="TABLE")
     said = parser.parse_args()
-    kit, minutes = Kit(), minutes_of(sys.stdin)
+    try:
+        text = sys.stdin.read() if said.table == "-" else pathlib.Path(said.table).read_text()
+    except OSError as why:
+        sys.exit(f"bench/plan.py: {why.filename}: {why.strerror}")
+    kit = Kit()
+    minutes = share(minutes_of(text.splitlines()), kit)
     lacking = [it for it in kit.crates if (it, "proof") not in minutes]
     clock, last = simulate(tasks_of(kit, minutes, said.times), said.processors, 0.85e9 * said.memory)
     print(f"{clock:.0f} minutes on the clock of {said.processors} processors with {said.memory:g} GB free; {said.times * sum(minutes[it] for it in minutes if it[0] != 'all'):.0f} of one processor")

@@ -1,5 +1,6 @@
 """What the page of a run is given, as JSON: the run's title, its script, and the events of its trace. web/read.js says what events have."""
 import json
+import re
 
 from events import Unreadable
 
@@ -45,7 +46,7 @@ def hold_script(run, script):
     lines = script.split("\n")
     for post in [post for turn in run.turns.values() for post in turn.posts]:
         label, _, statement = lines[post.line - 1].strip(" \t\r").partition(":") if post.line <= len(lines) else ("", "", "")
-        if label not in ("*", str(post.rank)) or not statement.strip(" \t").startswith(post.words):
+        if label not in ("*", str(post.rank)) or not re.sub("[ \t]+", " ", statement.strip(" \t")).startswith(post.words):
             raise Unreadable("line %d of the script isn't '%s', as the trace has it" % (post.line, post.words))
 
 

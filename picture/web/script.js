@@ -6,9 +6,9 @@ const QUESTIONS = ["sources", "destinations", "compare", "translate"];
 
 // A statement: its line, its text, its words, and whether it is a call that blocks, a request, a wait or a question.
 function statementOf(line, text) {
-  const words = text.split(/[ \t]+/);
+  const words = text.split(/[ \t]+/); // a trace has them with a single space between
   const kind = WAITS.includes(words[0]) ? "wait" : QUESTIONS.includes(words[0]) ? "question" : words[0].startsWith("i") ? "request" : "call";
-  return { line, text, words, kind };
+  return { line, text: words.join(" "), words, kind };
 }
 
 // How many lines a statement prints that isn't refused.
