@@ -1,13 +1,15 @@
 #!/usr/bin/env python3
-"""Tries wrong bodies that no gate runs. Each file bench/wrong/CRATE/NAME.edit changes one place of its crate (`file:`, `old:`,
+"""Tries mutants that no gate runs. Each file bench/wrong/CRATE/NAME.edit changes one place of its crate (`file:`, `old:`,
 `new:`), as those of crates/CRATE/must-fail do, which the gate tries. This puts it into its crate, has `rt must-fail` check the
-crate, tells what became of it, and puts all back.
+crate, says what became of it, and puts all back. What is known of each mutant is a row of bench/wrong/mutants.csv (bench/mutants.py).
 
     bench/wrong.py mpx_fold/fold_from_the_right ..    these
     bench/wrong.py mpx_fold ..                        all of these crates
     bench/wrong.py --compiles [mpx_fold ..]           no proof: only whether each, of the gate's edits too, still compiles
     bench/wrong.py --texts                            no check: only whether each `old:` text, of the gate's edits too, stands
                                                       once in its file
+    bench/wrong.py --list [WORD ..]                   what is known of each mutant; of those whose crate, name, edit or state is a WORD
+    bench/wrong.py --pages                            makes the tables of README.md and LET_THROUGH.md from the rows
 
 The last lines count what became of them. Only the first two say something of a contract:
     refused                 by a clause, or in a proof at what the body has changed
@@ -29,6 +31,8 @@ import sys
 import tempfile
 
 sys.dont_write_bytecode = True
+import mutants
+
 ROOT = pathlib.Path(__file__).resolve().parent.parent
 TEXTS = ROOT / "bench" / "wrong"
 ASIDE = ROOT / ".git" / "wrong-aside"
@@ -80,7 +84,7 @@ def check_texts():
         if isinstance(why, str):
             bad += 1
             print(f"{edit.relative_to(ROOT)}: {why}")
-    print(f"{len(edits)} wrong bodies, {bad} of them without a place")
+    print(f"{len(edits)} mutants, {bad} of them without a place")
     return 1 if bad else 0
 
 
@@ -98,7 +102,7 @@ def check_compiles(crates):
         if said:
             bad += 1
             print(f"{edit.relative_to(ROOT)}: {BAD}: {said}", flush=True)
-    print(f"{len(edits)} wrong bodies, {bad} of them no longer compile")
+    print(f"{len(edits)} mutants, {bad} of them no longer compile")
     return 1 if bad else 0
 
 
@@ -166,7 +170,7 @@ def chosen(words):
 def tell(came):
     """Counts what became of them, and names those of which no refusal says anything."""
     counts = collections.Counter(kind for _, kind in came)
-    print(f"{len(came)} wrong bodies: " + ", ".join(f"{counts[kind]} {kind}" for kind in (REFUSED, LIMIT, STEP, BAD, MISSED, UNTRIED) if counts[kind]))
+    print(f"{len(came)} mutants: " + ", ".join(f"{counts[kind]} {kind}" for kind in (REFUSED, LIMIT, STEP, BAD, MISSED, UNTRIED) if counts[kind]))
     for kind in (STEP, BAD, MISSED, UNTRIED):
         for name, one in came:
             if one == kind:
@@ -179,6 +183,10 @@ def main(words):
         return check_texts()
     if words[:1] == ["--compiles"]:
         return check_compiles(words[1:])
+    if words[:1] == ["--list"]:
+        return mutants.listed(words[1:])
+    if words == ["--pages"]:
+        return mutants.write()
     if not words or words[0].startswith("-"):
         print(__doc__)
         return 2
