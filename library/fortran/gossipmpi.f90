@@ -1,4 +1,4 @@
-! gossipmpi for Fortran 2003: status = gossipmpi_eval(script, text), and the same of _check and _explain. gossipmpi.h has the statuses and the texts.
+! gossipmpi for Fortran 2003: status = gossipmpi_eval(script, text); also _check and _explain. gossipmpi.h has statuses and texts.
 module gossipmpi
   use iso_c_binding
   implicit none

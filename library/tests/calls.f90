@@ -4,7 +4,8 @@ program calls
   implicit none
   character(:), allocatable :: text
   character, parameter :: feed = new_line('a')
-  character(*), parameter :: script = 'ranks 2'//feed//'0: allreduce world sum i32 1 2'//feed//'1: allreduce world sum i32 3 4'//feed
+  character(*), parameter :: script = 'ranks 2'//feed//'0: allreduce world sum i32 1 2'//feed// &
+    '1: allreduce world sum i32 3 4'//feed
   if (gossipmpi_eval(script, text) /= gossipmpi_finished) error stop 1
   if (text /= '0: 4 6'//feed//'1: 4 6'//feed) error stop 2
   if (gossipmpi_check('ranks 65', text) /= gossipmpi_refused) error stop 3
