@@ -61,7 +61,7 @@ def panel(left, top, title, across, up, lines):
         out.append(f'<polyline fill="none" stroke="{colour}" stroke-width="1.6" points="{" ".join(f"{at_x(x):.0f},{at_y(y):.0f}" for x, y in line)}"/>')
         for x, y in line:
             out.append(f'<circle cx="{at_x(x):.0f}" cy="{at_y(y):.0f}" r="2.6" fill="{colour}"/><text x="{at_x(x) - 4:.0f}" y="{at_y(y) - 5:.0f}" font-size="9" text-anchor="end" fill="{colour}">{short(y)}</text>')
-        out.append(f'<text x="{left + ROOM + 90 * number - 30}" y="{top + 38}" font-size="10" fill="{colour}">{html.escape(name)}</text>')
+        out.append(f'<text x="{left + ROOM + 74 * number - 30}" y="{top + 38}" font-size="10" fill="{colour}">{html.escape(name)}</text>')
     return out
 
 
