@@ -7,7 +7,7 @@ use Rattle.mpx_board.specs.Changes.{pruned_on}
 use Rattle.mpx_board.specs.declared.errors.PruneError.{PruneError}
 use Rattle.mpx_node.specs.Nodes.{NodeView, learn_some, prune_part}
 use Rattle.mpx_node.specs.Settling.{DropsAll, HasDropped, IsToDrop, KillsFreed, with_prune}
-use Rattle.mpx_node.proofs.Settling.{drops_floor, drops_none, floor_is_pruned}
+use Rattle.mpx_node.proofs.Dropped.{drops_floor, drops_none, floor_is_pruned}
 use Rattle.mpx_world.specs.Worlds.{ProcessView, drops, takes}
 use Rattle.mpx_bus.specs.declared.act.Act.TheVariants as A
 use Rattle.mpx_bus.specs.Acts.{at_start}

@@ -4,7 +4,7 @@ use Rattle.mpx_num.specs.declared.own.Operation.{Operation}
 use Rattle.mpx_node.specs.Nodes.{NodeView}
 use Rattle.mpx_node.specs.Settling.{IsToDrop, with_prune}
 use Rattle.mpx_node.specs.Shown.{node_of}
-use Rattle.mpx_node.proofs.Settling.{floor_is_pruned}
+use Rattle.mpx_node.proofs.Dropped.{floor_is_pruned}
 use Rattle.mpx_sim.specs.Keeping.{keeps_node_itself}
 use Rattle.mpx_sim.specs.Running.{KeepsNode}
 use Rattle.mpx_sim.proofs.Running.{keeps_node_prune}
