@@ -83,17 +83,17 @@ module _ (name : Name) (node : NodeView) where
   pub no_floor : None ≡ floor_on node.board name → HasDropped name node
   no_floor none floor e = let f : None ≡ Some floor = none ∙ e in absurd (cc f)
 
-  -- the floor isn't past a member's own front
+  -- all to a member's own front is dropped, which no floor passes
   pub own_front_reached : (birth : BirthView) (dropped front : ℕ) → Some birth ≡ told (node.board.contexts name).birth → dropped ≡ dropped_on node name → front ≡ (node.board.contexts name).fronts node.me
-      → (rank : Option ℕ) → rank ≡ rank_in node.me birth.members → (nat_le front dropped && (is_some rank && not (is_past node name dropped))) ≡ true → HasDropped name node
-  own_front_reached birth dropped front born is own None member e floor f = let low = both (nat_le front dropped) false e in cc (low.1)
-  own_front_reached birth dropped front born is own (Some rank) member e floor f =
-      let tests = both (nat_le front dropped) (not (is_past node name dropped)) e in
+      → (rank : Option ℕ) → rank ≡ rank_in node.me birth.members → is_some rank ≡ true → (nat_le front dropped && not (is_past node name front)) ≡ true → HasDropped name node
+  own_front_reached birth dropped front born is own None member e low floor f = cc e
+  own_front_reached birth dropped front born is own (Some rank) member e low floor f =
+      let tests = both (nat_le front dropped) (not (is_past node name front)) low in
       let floor_is : floor ≡ least birth = floor_of least _ birth floor (sym born) f in
       let below : least birth ≤ (node.board.contexts name).fronts node.me = member_above (node.board.contexts name).fronts birth.members node.me rank (sym member) in
       let reached : front ≤ dropped = grind (arith, nat_tests, tests.0) in
-      let low : floor ≤ dropped = omega (arith, floor_is, below, own, reached) in
-      (omega (arith, low, is), past_further (results_on node name) floor dropped low (not_true (is_past node name dropped) tests.1))
+      let under : floor ≤ front = omega (arith, floor_is, below, own) in
+      (omega (arith, under, reached, is), past_further (results_on node name) floor front under (not_true (is_past node name front) tests.1))
 
   module _ (dropped floor : ℕ) (is : dropped ≡ dropped_on node name) (there : Some floor ≡ floor_on node.board name) where
     same_floor : (other : ℕ) → floor_on node.board name ≡ Some other → other ≡ floor

@@ -1,5 +1,5 @@
 //! Harvests on a context as far as they go, and then the posts that nobody needs any more are dropped.
-ghost use Rattle.std.specs.Prelude.{◌≡◌, IfOk, OnErr, OnOk, true};
+ghost use Rattle.std.specs.Prelude.{◌≡◌, ◌&&◌, IfOk, OnErr, OnOk, nat_le, not, true};
 
 use crate::node::Node;
 use join_core::OutOfMemory;
@@ -8,7 +8,7 @@ use mpx_num::{Listing, Ops};
 use std::alloc::Global;
 
 impl Node {
-    ghost use Rattle.mpx_node.specs.Settling.{Drops, HarvestsAll, HasDropped, IsToDrop, Settles, WantsResult, dropped_on};
+    ghost use Rattle.mpx_node.specs.Settling.{Drops, HarvestsAll, HasDropped, IsToDrop, Settles, WantsResult, dropped_on, is_past};
     ghost use Rattle.mpx_node.specs.Shown.{node_of};
 
     /// Harvests on a context until no further result can be had, and then drops the posts that every member has harvested, as far as
@@ -53,15 +53,16 @@ impl Node {
         if self.has_none_to_drop(name, dropped) {
             return None;
         }
-        let floor = self.board.floor(name)?;
-        if floor <= dropped && !self.is_past_free(name, floor) {
+        let Some(floor) = self.board.floor(name) else {
+            return None;
+        };
+        if self.has_dropped(name, dropped, floor) {
             return None;
         }
         Some(floor)
     }
 
-    // Whether the members aren't known, or the process is one, whose own front isn't past what is dropped: then no floor is. Nor is a
-    // free whose result it has below that.
+    // Whether the members aren't known, or the process is one, and has dropped all to its own front, which no floor passes.
     fn has_none_to_drop(&self, name: &Name, dropped: u32) -> bool
         requires { dropped ≡ dropped_on (node_of self.now) name.now }
         ensures { result ≡ true → HasDropped name.now (node_of self.now) }
@@ -69,8 +70,17 @@ impl Node {
         let Some(birth) = self.board.birth(name) else {
             return true;
         };
-        self.board.front(name, self.me) <= dropped
-            && birth.rank_of(self.me).is_some()
-            && !self.is_past_free(name, dropped)
+        let front = self.board.front(name, self.me);
+        if !self.has_dropped(name, dropped, front) {
+            return false;
+        }
+        birth.rank_of(self.me).is_some()
+    }
+
+    // Whether all calls below the number are dropped, and no free whose row is fine and whose result the process has is among them.
+    fn has_dropped(&self, name: &Name, dropped: u32, number: u32) -> bool
+        ensures { result ≡ (nat_le number dropped && not (is_past (node_of self.now) name.now number)) }
+    {
+        number <= dropped && !self.is_past_free(name, number)
     }
 }
