@@ -194,7 +194,7 @@ module _ (ops : List Operation) (name : Name) where
   posted_next None node = refl
   posted_next (Some finished) node =
       let made = children_on ops node.board name (front_on node name) in
-      ap (λ b. posted_by (after finished made node b)) (name_equality.reflexive name) ∙ posted_by_more finished (is_new_to node.me made name) (node.opened name)
+      ap (λ b. posted_by (after ops name finished made node b)) (name_equality.reflexive name) ∙ posted_by_more finished (is_new_to node.me made name) (node.opened name)
 
   posted_all : (n : ℕ) (node : NodeView) → posted_on (harvested ops n name node) name ≡ posted_on node name
   posted_all zero node = refl
@@ -213,4 +213,4 @@ module _ (ops : List Operation) (name : Name) where
   harvests_all newest false old new is does past rest = record { times = newest + 1 - front_on old name; does = does; none_left = rest refl }
 
   pub wants_result : (most : ℕ) (old new : NodeView) → (n : ℕ) × (n < most) × (new ≡ harvested ops n name old) → has_next new name ≡ true → WantsResult ops name old new
-  wants_result most old new some next = record { times = some.0; does = some.1.1; next = next }
+  wants_result most old new some next = record { times = some.0; does = some.2; next = next }
