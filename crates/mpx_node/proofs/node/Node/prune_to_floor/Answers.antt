@@ -12,4 +12,4 @@ returns-in-Some c =
     let name = c.args.name.now in
     let old = node_of c.args.self.now in
     let new = node_of c.prune.new.self in
-    subst (λ b. Drops name b old new) (sym c.is_ok.ensures) (drops_more name c.in-Some.number c.prune.result old new c.in-Some.ensures c.prune.ensures.answer c.prune.ensures.ok)
+    subst (λ b. Drops name b old new) (sym c.is_ok.ensures.value) (drops_more name c.in-Some.number c.prune.result old new c.in-Some.ensures c.prune.ensures.answer c.prune.ensures.ok)
