@@ -1,9 +1,9 @@
 -- What a pull and a put do to a port.
-use Rattle.std.specs.Prelude.{◌≡◌, ◌+◌, ◌≤◌, ◌⊎◌, ℕ, All, Bool, true, false, List, [], None, Some, Result, Ok, Err, slice_get}
+use Rattle.std.specs.Prelude.{◌≡◌, ◌+◌, All, Bool, true, false, List, [], None, Some, Result, Ok, Err, slice_get}
 use Rattle.join_core.specs.declared.memory.OutOfMemory.{OutOfMemory}
 use Rattle.mpx_name.specs.Name.{Name}
-use Rattle.mpx_board.specs.Boards.{IsGone, floor_on}
-use Rattle.mpx_node.specs.Nodes.{front_on, has_next as node_has_next, is_past_free, posted_on, results_on}
+use Rattle.mpx_node.specs.Nodes.{front_on, has_next as node_has_next, posted_on}
+use Rattle.mpx_node.specs.Settling.{DropsAll, HasDropped, KillsFreed}
 use Rattle.mpx_bus.specs.declared.act.Act.{Act}
 use Rattle.mpx_bus.specs.declared.act.Act.TheVariants as A
 use Rattle.mpx_bus.specs.declared.port.Pop.{Pop}
@@ -46,34 +46,13 @@ pub record PortHarvestsNext (had : Bool) (name : Name) (old new : PortView) : Ty
   pub stored : had ≡ true → front_on (node_in new) name ≡ front_on (node_in old) name + 1
   pub none : had ≡ false → has_next new name ≡ false
 
--- the posts of how many calls of the context the port has dropped
-abbrev pub dropped_on : PortView → Name → ℕ
-dropped_on port name = ((node_in port).board.contexts name).dropped
-
--- the calls below the number are past a free whose row is fine and whose result the port has
-abbrev pub is_past : PortView → Name → (number : ℕ) → Bool
-is_past port name number = is_past_free (results_on (node_in port) name) number
-
--- the port has dropped all that every member of the context has harvested, as its board tells it, and no free of all is among it
-abbrev pub HasDropped : Name → PortView → Type 0
-HasDropped name port = (floor : ℕ) → floor_on (node_in port).board name ≡ Some floor → (floor ≤ dropped_on port name) × (is_past port name floor ≡ false)
-
--- all that every member of the context has harvested, as the first port's board tells it, the second has dropped, or the context is
--- dead there
-abbrev pub DropsAll : Name → PortView → PortView → Type 0
-DropsAll name old new = (floor : ℕ) → floor_on (node_in old).board name ≡ Some floor → IsGone (node_in new).board name ⊎ (floor ≤ dropped_on new name)
-
--- where every member has harvested a free of the context, as the first port's board tells it, the context is dead at the second
-abbrev pub KillsFreed : Name → PortView → PortView → Type 0
-KillsFreed name old new = (floor : ℕ) → floor_on (node_in old).board name ≡ Some floor → is_past old name floor ≡ true → IsGone (node_in new).board name
-
 -- the port dropped the posts of the context that every member has harvested, or the context is dead; where it had dropped them all, and
 -- no free of all is among them, nothing is done
 pub record Prunes (name : Name) (old new : PortView) : Type 0 where
   pub does : HarvestsAndPrunes old new
-  pub drops : DropsAll name old new
-  pub kills : KillsFreed name old new
-  pub none : HasDropped name old → new ≡ old
+  pub drops : DropsAll name (node_in old) (node_in new)
+  pub kills : KillsFreed name (node_in old) (node_in new)
+  pub none : HasDropped name (node_in old) → new ≡ old
 
 -- the port harvested on the context until no further result could be had there, and then dropped what every member has harvested;
 -- before and after that it harvested and pruned elsewhere

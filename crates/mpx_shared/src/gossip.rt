@@ -1,7 +1,5 @@
 //! What a pull does to a port: a pop with its take, then harvests, and prunings.
-ghost use Rattle.std.specs.Prelude.{◌≡◌, ◌<◌, ◌≤◌, ◌&&◌, not, nat_le, true, false, IfOk, OnOk, OnErr};
-ghost use Rattle.mpx_node.specs.Nodes.{freed_on, front_on, is_past_free, posted_on, results_on};
-ghost use Rattle.mpx_node.specs.Shown.{node_of};
+ghost use Rattle.std.specs.Prelude.{◌≡◌, true, false, IfOk, OnOk, OnErr};
 ghost use Rattle.mpx_bus.specs.Ports.{KeepsPlan};
 ghost use Rattle.mpx_bus.specs.Buses.{table_of};
 ghost use Rattle.mpx_shared.specs.LawfulPorts.{MakesNoPost};
@@ -11,7 +9,7 @@ use crate::pull::Pull;
 use join_core::OutOfMemory;
 use mpx_bus::{Bus, Pop, Port};
 use mpx_name::Name;
-use mpx_node::{Harvest, Node};
+use mpx_node::Harvest;
 use mpx_num::{Listing, Ops};
 use std::alloc::Global;
 use std::sync::Wait;
@@ -115,35 +113,13 @@ fn harvest_next(alloc: Global, port: &mut Port, name: &Name, ops: &Ops) -> Resul
     }
 }
 
-// Whether the process is a member whose own front the dropped front has reached, which no floor passes, and has no free there.
-fn has_none_to_drop(node: &Node, name: &Name, dropped: u32) -> bool
-    ensures { result ≡ true → (0 < posted_on (node_of node.now) name.now) × ((front_on (node_of node.now) name.now ≤ dropped) × (freed_on (node_of node.now) name.now ≡ false)) }
-{
-    node.posted(name) > 0 && node.front(name) <= dropped && !node.has_freed(name)
-}
-
-// Whether all calls below the floor are dropped, and no free whose row is fine is among them.
-fn has_dropped(node: &Node, name: &Name, dropped: u32, floor: u32) -> bool
-    ensures { result ≡ (nat_le floor dropped && not (is_past_free (results_on (node_of node.now) name.now) floor)) }
-{
-    floor <= dropped && !node.is_past_free(name, floor)
-}
-
 // Drops the posts of a context that every member has harvested, as far as the board knows. Where that is past a free, the context is
 // dead then, whatever others had dropped before.
 fn prune_on(port: &mut Port, name: &Name)
-    requires plan { KeepsPlan port.old }
     ensures { Prunes name.now port.old port.new }
 {
-    let dropped = port.node().board().dropped(name);
-    if has_none_to_drop(port.node(), name, dropped) {
-        return;
-    }
-    let Some(floor) = port.node().board().floor(name) else {
+    let Some(number) = port.node().to_drop(name) else {
         return;
     };
-    if has_dropped(port.node(), name, dropped, floor) {
-        return;
-    }
-    let _ = port.prune(name, floor);
+    let _ = port.prune(name, number);
 }

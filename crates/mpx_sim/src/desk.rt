@@ -80,8 +80,7 @@ impl RunDesk {
         ensures { OnOk result (Harvests (⟦<Ops as Listing>⟧.operations ops.now) (node_of self.old.node) (node_of self.new.node)) }
     {
         for name in &self.contexts {
-            let newest = self.node.posted(name).saturating_sub(1);
-            harvest_to(alloc, &mut self.node, name, newest, ops)?;
+            harvest_all(alloc, &mut self.node, name, ops)?;
         }
         Ok(())
     }
@@ -356,6 +355,18 @@ fn harvest_to(
     node.harvest_to(alloc, name, call, ops)
 }
 
+// Stores the results of a context until no further one can be had.
+fn harvest_all(
+    alloc: Global,
+    node: &mut Node,
+    name: &Name,
+    ops: &Ops,
+) -> Result<(), OutOfMemory>
+    ensures { OnOk result (Harvests (⟦<Ops as Listing>⟧.operations ops.now) (node_of node.old) (node_of node.new)) }
+{
+    node.harvest_all(alloc, name, ops)
+}
+
 // Drops on each context what all members have harvested. It answers whether there was anything.
 fn prune_all(node: &mut Node, contexts: &[Name]) -> bool
     ensures { (operations : List Operation) → KeepsNode Alone operations (node_of node.old) (node_of node.new) }
@@ -368,25 +379,10 @@ fn prune_all(node: &mut Node, contexts: &[Name]) -> bool
     changed
 }
 
-// Whether the process is a member whose own front the dropped front has reached, which no floor passes, and has no free there.
-fn has_none_to_drop(node: &Node, name: &Name, dropped: u32) -> bool {
-    node.front(name) <= dropped && node.posted(name) > 0 && !node.has_freed(name)
-}
-
 // Drops what every member has harvested, where that is more than is dropped. Where it is past a free, the context is dead then, whatever
 // others had dropped before.
 fn prune_on(node: &mut Node, name: &Name) -> bool
     ensures { (operations : List Operation) → KeepsNode Alone operations (node_of node.old) (node_of node.new) }
 {
-    let dropped = node.board().dropped(name);
-    if has_none_to_drop(node, name, dropped) {
-        return false;
-    }
-    let Some(floor) = node.board().floor(name) else {
-        return false;
-    };
-    if floor <= dropped && !node.is_past_free(name, floor) {
-        return false;
-    }
-    node.prune(name, floor).is_ok()
+    node.prune_to_floor(name)
 }

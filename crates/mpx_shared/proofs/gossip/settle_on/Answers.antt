@@ -1,9 +1,6 @@
 use Rattle.mpx_shared.proofs.Gossiping.{done_then, settles_on}
 use Rattle.mpx_shared.proofs.gossip.settle_on.Goals as goal
 
-pub prune_on-requires : goal.prune_on-requires
-prune_on-requires g c = record { plan = c.harvest_on.ensures.port.no_post.goes.plan c.requires.plan }
-
 pub returns-clause-port : goal.returns-clause-port
 returns-clause-port g c = done_then c.args.port.now c.harvest_on.new.port c.prune_on.new.port c.harvest_on.ensures.port c.prune_on.ensures.does
 

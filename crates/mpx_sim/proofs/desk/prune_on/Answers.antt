@@ -1,18 +1,21 @@
-use Rattle.std.proofs.Common.{refl}
+use Rattle.std.proofs.Common.{◌≡◌, ℕ, List, Ok, Option, None, Some, sym}
+use Rattle.mpx_name.specs.Name.{Name}
+use Rattle.mpx_num.specs.declared.own.Operation.{Operation}
+use Rattle.mpx_node.specs.Nodes.{NodeView}
+use Rattle.mpx_node.specs.Settling.{IsToDrop, with_prune}
 use Rattle.mpx_node.specs.Shown.{node_of}
+use Rattle.mpx_node.proofs.Dropped.{floor_is_pruned}
 use Rattle.mpx_sim.specs.Keeping.{keeps_node_itself}
+use Rattle.mpx_sim.specs.Running.{KeepsNode}
 use Rattle.mpx_sim.proofs.Running.{keeps_node_prune}
 use Rattle.mpx_sim.specs.Turns.{Alone}
 use Rattle.mpx_sim.proofs.desk.prune_on.Goals as goal
 
-pub returns-in_default : goal.returns-in_default
-returns-in_default c ops = keeps_node_itself Alone ops (node_of c.args.node.now) (node_of c.args.node.now) refl
-
-pub returns-then-has_none_to_drop : goal.returns-then-has_none_to_drop
-returns-then-has_none_to_drop c ops = keeps_node_itself Alone ops (node_of c.args.node.now) (node_of c.args.node.now) refl
-
-pub returns-then-not-is_past_free : goal.returns-then-not-is_past_free
-returns-then-not-is_past_free c ops = keeps_node_itself Alone ops (node_of c.args.node.now) (node_of c.args.node.now) refl
+keeps_prune : (ops : List Operation) (name : Name) (number : Option ℕ) (old new : NodeView) → IsToDrop name old number → new ≡ with_prune number name old → KeepsNode Alone ops old new
+keeps_prune ops name None old new asked does = keeps_node_itself Alone ops old new does
+keeps_prune ops name (Some number) old new asked does = keeps_node_prune ops name number (Ok tt) old new (sym (floor_is_pruned old.board name number asked.0)) does tt
 
 pub returns : goal.returns
-returns c ops = keeps_node_prune ops c.args.name.now c.in-Some.floor c.prune.result (node_of c.args.node.now) (node_of c.prune.new.self) c.prune.ensures.answer c.prune.ensures.ok c.prune.ensures.err
+returns c ops =
+    let drops = c.prune_to_floor.ensures in
+    keeps_prune ops c.args.name.now drops.number (node_of c.args.node.now) (node_of c.prune_to_floor.new.self) drops.asked drops.does

@@ -6,7 +6,7 @@ pub loop-name-init : goal.loop-name-init
 loop-name-init g c = harvests_none _ (node_of c.args.self.now.node)
 
 pub loop-name-preserved : goal.loop-name-preserved
-loop-name-preserved g c = harvests_then _ (node_of c.args.self.now.node) (node_of c.loop-name.self.1.0) (node_of c.harvest_to.new.node) c.loop-name.invariant c.in_ok-harvest_to.ensures.harvested
+loop-name-preserved g c = harvests_then _ (node_of c.args.self.now.node) (node_of c.loop-name.self.1.0) (node_of c.harvest_all.new.node) c.loop-name.invariant c.in_ok-harvest_all.ensures
 
 pub returns : goal.returns
 returns g c = c.loop-name.invariant
