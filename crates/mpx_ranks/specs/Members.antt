@@ -1,5 +1,5 @@
 -- The port of a member.
-use Rattle.std.specs.Prelude.{◌≡◌, ◌⊎◌, ◌||◌, ◌++◌, ◌∷◌, ℕ, Bool, List, [], Err, Ok, Result, false, is_err, true}
+use Rattle.std.specs.Prelude.{◌≡◌, ◌⊎◌, ◌||◌, ◌++◌, ◌∷◌, ℕ, Bool, List, [], Err, Ok, Option, Some, Result, false, is_err, true}
 use Rattle.std.proofs.Common.{refl, ◌∙◌}
 use Rattle.atomic_table.specs.Seated.{TableId}
 use Rattle.join_core.specs.declared.memory.OutOfMemory.{OutOfMemory}
@@ -59,10 +59,10 @@ pub record Turns (tells_want : Bool) (old new : PortView) : Type 0 where
   pub pushes : PushesAnother push pruned new
   pub told : tells_want ≡ (wanted_memory pop || is_err push)
 
--- one that isn't made: memory was wanting; or all of the job are to stop, which was seen, and nothing was done
-abbrev pub RefusesTurn : TurnError → (sees_halt : Bool) → PortView → PortView → Type 0
-RefusesTurn T.OutOfMemory sees_halt old new = Turns true old new
-RefusesTurn T.GaveUp sees_halt old new = (sees_halt ≡ true) × (new ≡ old)
+-- one that isn't made: memory was wanting; or this rank has given up, of which the member has heard, and nothing was done
+abbrev pub RefusesTurn : (gave_up : ℕ → Type 0) → TurnError → (heard : Option ℕ) → PortView → PortView → Type 0
+RefusesTurn gave_up T.OutOfMemory heard old new = Turns true old new
+RefusesTurn gave_up (T.GaveUp rank) heard old new = (heard ≡ Some rank) × ∥ gave_up rank ∥₁ × (new ≡ old)
 
 -- ONE PORT
 
