@@ -60,15 +60,15 @@ pub record HaveRun {A : Type 0} (gives : Gives A) (operations : List Operation) 
 -- GIVING UP
 
 -- a rank has given up: it gave an answer of which the program says so
-pub record HasGivenUp {A : Type 0} (gives : Gives A) (may_say : A → Bool → Type 0) (setup : Setup) (rank : ℕ) : Type 0 where
+pub record HasGivenUp {A : Type 0} (gives : Gives A) (says : A → Type 0) (setup : Setup) (rank : ℕ) : Type 0 where
   pub answer : A
   pub did : List Act
   pub gave : Gave gives setup rank did answer
-  pub said : may_say answer true
+  pub said : says answer
 
 -- this is said of just those ranks that have given up
-abbrev pub AreQuitters : {A : Type 0} → Gives A → (may_say : A → Bool → Type 0) → Setup → (gave_up : ℕ → Type 0) → Type 0
-AreQuitters gives may_say setup gave_up = (rank : ℕ) → (HasGivenUp gives may_say setup rank → gave_up rank) × (gave_up rank → HasGivenUp gives may_say setup rank)
+abbrev pub AreQuitters : {A : Type 0} → Gives A → (says : A → Type 0) → Setup → (gave_up : ℕ → Type 0) → Type 0
+AreQuitters gives says setup gave_up = (rank : ℕ) → (HasGivenUp gives says setup rank → gave_up rank) × (gave_up rank → HasGivenUp gives says setup rank)
 
 -- ONE PROCESS
 

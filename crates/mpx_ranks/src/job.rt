@@ -122,7 +122,7 @@ where
     requires setup { N.setup ≡ setup_of (⟦<Ops as Listing>⟧.operations ops.now) ranks (ranks + relays) }
     requires ledger { (blank.name ≡ K.name) × (blank.parts ≡ K.parts) }
     requires parts { K.parts ≡ ranks + relays }
-    requires quitters { AreQuitters (P.gives program.now) (P.may_say program.now) N.setup K.gave_up }
+    requires quitters { AreQuitters (P.gives program.now) (P.has_given_up program.now) N.setup K.gave_up }
     ensures { IfOk result (λ ran. HaveRun (P.gives program.now) (⟦<Ops as Listing>⟧.operations ops.now) ranks (ranks + relays) ran.answers.items (map node_of ran.nodes.items)) }
 {
     let size = ranks + relays;

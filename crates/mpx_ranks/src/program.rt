@@ -1,5 +1,5 @@
 //! What every rank of a job runs.
-ghost use Rattle.std.specs.Prelude.{Bool, List, ℕ, ⊤};
+ghost use Rattle.std.specs.Prelude.{IsTrue, List, ℕ, ⊤};
 ghost use Rattle.mpx_name.specs.Name.{Name};
 ghost use Rattle.mpx_num.specs.declared.own.Operation.{Operation};
 ghost use Rattle.mpx_comm.specs.declared.comm.Comm.{Comm as CommView};
@@ -19,8 +19,8 @@ pub trait Program {
     /// these results of calls, also those that it let go since. Who leaves it out promises nothing.
     ghost gives: { Self → List Operation → CommView → NodeView → NodeView → (Name → ℕ → Finished → Type 0) → Self.Answer → Type 0 } = { λ p operations world before after had answer. ⊤ };
 
-    /// What [`Program::gives_up`] may say of an answer. Who leaves it out promises nothing.
-    ghost may_say: { Self → Self.Answer → Bool → Type 0 } = { λ p answer has_given_up. ⊤ };
+    /// Of which answers [`Program::gives_up`] may say so. Who leaves it out promises nothing.
+    ghost has_given_up: { Self → Self.Answer → Type 0 } = { λ p answer. ⊤ };
 
     /// The part of one rank. `world` is the communicator of all ranks, as this one has it; `ops` are the job's own operations.
     fn run<H: Host>(
@@ -35,7 +35,7 @@ pub trait Program {
     /// Whether a rank that answers this has given up, so that no other is to wait for it: each call that waits and isn't done answers `GaveUp`,
     /// with the number of a rank that did. Who leaves it out lets the others wait for as many turns as they are given.
     fn gives_up(&self, answer: &Self::Answer) -> bool
-        ensures { may_say self.now answer.now result }
+        ensures { IsTrue result → has_given_up self.now answer.now }
     {
         let _answer = answer;
         false

@@ -1,5 +1,5 @@
 //! A process of a job in its thread: a rank runs the program and then gossips on for the others, a relay gossips alone.
-ghost use Rattle.std.specs.Prelude.{◌≡◌, ◌<◌, ◌≤◌, false, true, is_some, IfSome};
+ghost use Rattle.std.specs.Prelude.{◌≡◌, ◌<◌, ◌≤◌, false, IfSome, IsSome};
 ghost use Rattle.mpx_bus.specs.Buses.{table_of};
 ghost use Rattle.mpx_bus.specs.Ports.{IsNew};
 ghost use Rattle.mpx_ranks.specs.Members.{IsSeated, setup_of};
@@ -45,7 +45,7 @@ pub(crate) struct Worked<A> {
 impl<'a, K: Job, P: Program, R: Wait> Task<Ops> for Work<'a, K, P, R> {
     type Output = Worked<P::Answer>;
 
-    ghost can_run = { λ t operations. (t.ranks ≤ 64) × IsReady operations t.ranks t.size t.me (table_of t.bus.now) t.port × AreQuitters (P.gives t.program.now) (P.may_say t.program.now) (setup_of operations t.ranks t.size) K.gave_up };
+    ghost can_run = { λ t operations. (t.ranks ≤ 64) × IsReady operations t.ranks t.size t.me (table_of t.bus.now) t.port × AreQuitters (P.gives t.program.now) (P.has_given_up t.program.now) (setup_of operations t.ranks t.size) K.gave_up };
 
     ghost gives = { λ t r. HasWorked (P.gives t.program.now) t.port.setup.operations t.ranks t.size t.me (table_of t.bus.now) r.port r.answer };
 
@@ -61,7 +61,7 @@ fn carry_out<'a, K: Job, P: Program, R: Wait>(
 ) -> Worked<P::Answer>
     requires few { work.ranks ≤ 64 }
     requires port { IsReady (⟦<Ops as Listing>⟧.operations ops.now) work.ranks work.size work.me (table_of work.bus.now) work.port }
-    requires quitters { AreQuitters (P.gives work.program.now) (P.may_say work.program.now) (setup_of (⟦<Ops as Listing>⟧.operations ops.now) work.ranks work.size) K.gave_up }
+    requires quitters { AreQuitters (P.gives work.program.now) (P.has_given_up work.program.now) (setup_of (⟦<Ops as Listing>⟧.operations ops.now) work.ranks work.size) K.gave_up }
     ensures { HasWorked (P.gives work.entry.program.now) work.entry.port.setup.operations work.entry.ranks work.entry.size work.entry.me (table_of work.entry.bus.now) result.port result.answer }
 {
     let Work {
@@ -110,7 +110,7 @@ fn work_as_rank<L: Seat, O: Folds, K: Job, P: Program, R: Wait>(
     requires few { ranks ≤ 64 }
     requires count { L.setup.ranks ≡ ranks }
     requires port { IsNew L.setup L.table me port }
-    requires quitters { AreQuitters (P.gives program.now) (P.may_say program.now) L.setup K.gave_up }
+    requires quitters { AreQuitters (P.gives program.now) (P.has_given_up program.now) L.setup K.gave_up }
     ensures sits { IsSeated L.table L.setup L.me result.port }
     ensures gave { IfSome result.answer (λ a. HasAnswered (P.gives program.now) L.setup me a result.port.journal) }
 {
@@ -133,9 +133,9 @@ fn work_as_rank<L: Seat, O: Folds, K: Job, P: Program, R: Wait>(
 
 // That the rank has given up, where the program says so of its answer.
 fn quitter_of<K: Job, P: Program>(program: &P, me: u8, answer: &P::Answer) -> Option<Quitter<K>>
-    requires { P.may_say program.now answer.now true → K.gave_up me }
+    requires { P.has_given_up program.now answer.now → K.gave_up me }
     ensures rank { IfSome result (λ quitter. quitter.rank ≡ me) }
-    ensures said { P.may_say program.now answer.now (is_some result) }
+    ensures said { IsSome result → P.has_given_up program.now answer.now }
 {
     if program.gives_up(answer) {
         return Some(Quitter::new(me));

@@ -18,4 +18,4 @@ ghosts-run_by-K-Ledger g a = record { name = a.blank.name; parts = a.blank.parts
 abbrev pub ghosts-run_by-K-Job : goal.ghosts-run_by-K-Job
 ghosts-run_by-K-Job g a =
     let ops = (map (λ b. let o = (g.dyn-1.0.entry b.vtable).1 in operation_of (o.word_bytes b.value) (o.fits_type b.value) (o.combination b.value)) a.ops.now.list.items) in
-    record { gave_up = HasGivenUp (g.P.Program.gives a.program.now) (g.P.Program.may_say a.program.now) (setup_of ops a.ranks (a.ranks + a.relays)) }
+    record { gave_up = HasGivenUp (g.P.Program.gives a.program.now) (g.P.Program.has_given_up a.program.now) (setup_of ops a.ranks (a.ranks + a.relays)) }

@@ -11,8 +11,8 @@ all_at_once-requires-after_bounds g c κs within =
     let size = c.args.ranks + c.args.relays in
     let table = table_of c.in_ok-bus.bus in
     let fleet = subst (λ (s : Setup). IsFleet s table size c.in_ok-bus.ports.items) c.requires.setup c.in_ok-bus.ensures.ports in
-    ready_at g.P.Program.gives g.P.Program.may_say g.K.Job.gave_up c.args.program.now _ c.args.ranks size table c.in_ok-bus.ports.items c.in_ok-works.works.items (let few = c.requires.few in omega (arith, few)) fleet c.in_ok-works.ensures
-    (subst (λ (s : Setup). AreQuitters (g.P.Program.gives c.args.program.now) (g.P.Program.may_say c.args.program.now) s g.K.Job.gave_up) c.requires.setup c.requires.quitters)
+    ready_at g.P.Program.gives g.P.Program.has_given_up g.K.Job.gave_up c.args.program.now _ c.args.ranks size table c.in_ok-bus.ports.items c.in_ok-works.works.items (let few = c.requires.few in omega (arith, few)) fleet c.in_ok-works.ensures
+    (subst (λ (s : Setup). AreQuitters (g.P.Program.gives c.args.program.now) (g.P.Program.has_given_up c.args.program.now) s g.K.Job.gave_up) c.requires.setup c.requires.quitters)
 
 pub told_of-requires-clause-some : goal.told_of-requires-clause-some
 told_of-requires-clause-some g c =

@@ -20,5 +20,5 @@ quitter_of-requires g c said =
     let before : PortView = c.new-desk.result.host.port in
     let after = c.run-answer.new.desk.host in
     (c.requires.quitters c.args.me).0
-    (quits (g.P.Program.gives c.args.program.now) (g.P.Program.may_say c.args.program.now) g.L.Seat.setup g.L.Seat.table c.args.me c.args.ranks c.args.port before after.port c.world-world.result c.run-answer.result
+    (quits (g.P.Program.gives c.args.program.now) (g.P.Program.has_given_up c.args.program.now) g.L.Seat.setup g.L.Seat.table c.args.me c.args.ranks c.args.port before after.port c.world-world.result c.run-answer.result
     c.requires.port c.requires.count (ap (λ m. m.port) c.new-desk.ensures.host ∙ c.new-member.ensures) c.world-world.ensures c.run-answer.ensures after.setup_is (after.me_is ∙ sym c.requires.me) said)
