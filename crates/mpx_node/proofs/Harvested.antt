@@ -14,14 +14,14 @@ use Rattle.mpx_node.specs.declared.node.Harvest.TheVariants as H
 use Rattle.mpx_node.specs.declared.finished.Finished.{Finished}
 use Rattle.mpx_node.specs.Nodes.{NodeView, OpenedView, add_result, front_on, has_next, is_new_to, next_of, next_result, or_new, results_by}
 use Rattle.mpx_node.specs.Harvests.{Harvests, harvested, with_next}
-use Rattle.mpx_node.proofs.Nexts.{no_next}
+use Rattle.mpx_node.proofs.Nexts.{no_next, some_next}
 
 pub on_err : {A E : Type 0} (r : Result A E) (P : Type 0) → P → OnErr r P
 on_err (Ok x) P p = tt
 on_err (Err e) P p = p
 
 module _ (finished : Finished) where
-  abbrev one_more : OpenedView → OpenedView
+  abbrev pub one_more : OpenedView → OpenedView
   one_more o = record o { results = o.results ++ Some finished ∷ [] }
 
   longer : (new : Bool) (o : Option OpenedView) → is_some o ≡ true → length (results_by (cond new (Some (or_new (option_map one_more o))) (option_map one_more o))) ≡ length (results_by o) + 1
@@ -34,7 +34,7 @@ module _ (ops : List Operation) (name : Name) where
   is_opened None board me finished e = cc e
   is_opened (Some o) board me finished e = refl
 
-  abbrev after : Finished → List (Name × BirthView) → NodeView → Bool → Option OpenedView
+  abbrev pub after : Finished → List (Name × BirthView) → NodeView → Bool → Option OpenedView
   after finished made node same =
       let o : Option OpenedView = cond same (option_map (one_more finished) (node.opened name)) (node.opened name) in
       cond (is_new_to node.me made name) (Some (or_new o)) o
@@ -67,6 +67,11 @@ module _ (ops : List Operation) (name : Name) where
   wanting_by false next e node new h = cc (h.0)
   wanting_by true None e node new h = absurd h
   wanting_by true (Some f) e node new h = h
+
+  wanting_next : (b : Bool) (next : Option Finished) (e : OutOfMemory) (node new : NodeView) → next_result ops node name ≡ next → Harvests ops b name next (Err e) node new → has_next new name ≡ true
+  wanting_next false next e node new is h = cc (h.0)
+  wanting_next true None e node new is h = absurd h
+  wanting_next true (Some f) e node new is h = ap (λ (n : NodeView). has_next n name) h ∙ some_next ops node name f is
 
   -- ONE AFTER THE OTHER
 
@@ -116,6 +121,10 @@ module _ (ops : List Operation) (name : Name) where
 
     pub gives_up : (e : OutOfMemory) → front_on now name ≤ call → Comes now (Err e) new → (n : ℕ) × (n < call + 1 - front_on old name) × (new ≡ harvested ops n name old)
     gives_up e low h = (way.times, omega (arith, way.front, low), wanting_by (is_some (now.opened name)) (next_result ops now name) e now new h ∙ way.is)
+
+    -- and there was a next result
+    pub wanted : (e : OutOfMemory) → Comes now (Err e) new → has_next new name ≡ true
+    wanted e h = wanting_next (is_some (now.opened name)) (next_result ops now name) e now new refl h
 
     -- where none is next
     module _ (none : next_result ops now name ≡ None) (same : new ≡ now) where

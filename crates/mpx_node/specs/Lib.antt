@@ -4,6 +4,7 @@ pub mod Opened
 pub mod Forgetting
 pub mod Shown
 pub mod Harvests
+pub mod Settling
 pub mod laws
 pub mod Parts
 pub mod Deltas

@@ -1,5 +1,5 @@
 //! Harvests of a context's calls one after the other.
-ghost use Rattle.std.specs.Prelude.{◌≡◌, ◌+◌, ◌-◌, ◌<◌, ℕ, OnOk, OnErr, IfOk, false, nat_lt};
+ghost use Rattle.std.specs.Prelude.{◌≡◌, ◌+◌, ◌-◌, ◌<◌, ℕ, OnOk, OnErr, IfOk, false, true, nat_lt};
 
 use crate::node::{Harvest, Node};
 use join_core::OutOfMemory;
@@ -14,7 +14,7 @@ impl Node {
 
     /// Harvests on a context, call by call, until this one is harvested or the next one can't be, and tells whether this one is. Its result
     /// is then [`Node::result`]'s, unless it was let go ([`Node::forget`]). Where it was harvested before, nothing is. An `Err` is want of
-    /// memory: what was harvested before it stays so.
+    /// memory for a result that can be had: what was harvested before it stays so.
     pub fn harvest_to(
         &mut self,
         alloc: Global,
@@ -27,6 +27,7 @@ impl Node {
         ensures rest { IfOk result (λ done. done ≡ false → has_next (node_of self.new) name.now ≡ false) }
         ensures err { OnErr result ((n : ℕ) × (n < call + 1 - front_on (node_of self.old) name.now)
             × (node_of self.new ≡ harvested (⟦<Ops as Listing>⟧.operations ops.now) n name.now (node_of self.old))) }
+        ensures wanted { OnErr result (has_next (node_of self.new) name.now ≡ true) }
     {
         loop {
             if call < self.front(name) {

@@ -14,6 +14,7 @@ mod opening;
 mod part;
 mod pruning;
 mod results;
+mod settling;
 mod starting;
 mod taking;
 

@@ -31,7 +31,8 @@ enum Row {
 const NOT_MEMBER: Act = Act::MayNot(PostError::NotMember);
 
 // The left rank posts two sums, the right one its part of the first: all are handed back, and the first open one is it. A
-// request that was closed is still answered. The second sum is done once the right rank has posted its part.
+// request that was closed is still answered. The second sum is done once the right rank has posted its part: all that is open
+// is done then by one turn. A third sum is the first open one.
 const TESTED: &[Row] = &[
     Row::Left(Act::WaitsAny(Told::None)),
     Row::Left(Act::Starts(1)),
@@ -51,8 +52,12 @@ const TESTED: &[Row] = &[
     Row::Left(Act::TestsAny(Told::None)),
     Row::Right(Act::Starts(20)),
     Row::Swap,
-    Row::Left(Act::WaitsAny(Told::First(1))),
     Row::Left(Act::WaitsAll(Told::Sum(10, 30))),
+    Row::Left(Act::Starts(100)),
+    Row::Right(Act::Starts(200)),
+    Row::Swap,
+    Row::Left(Act::WaitsAny(Told::First(2))),
+    Row::Left(Act::Waits(0, Told::Sum(100, 300))),
     Row::Left(Act::WaitsAny(Told::None)),
     Row::Right(Act::Tests(0, Told::Sum(2, 3))),
     Row::Right(Act::TestsAll(Told::Sum(20, 30))),

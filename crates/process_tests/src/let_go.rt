@@ -117,8 +117,8 @@ fn between_two_locks<R: Wait>(
     Ok(told?)
 }
 
-// A bus of one rank, and its port.
-fn one_port(alloc: Global) -> Result<(Bus, Port), Fail>
+/// A bus of one rank, and its port.
+pub fn one_port(alloc: Global) -> Result<(Bus, Port), Fail>
     ensures { IfOk result (λ r. IsFresh [] (table_of r.0) 0 r.1) }
 {
     let (bus, mut ports) = Bus::new::<Brand>(alloc, 4, 1, 1)?;

@@ -28,7 +28,11 @@ mod port_rows;
 #[cfg(test)]
 mod ports;
 #[cfg(test)]
+mod posts_beside_gossip;
+#[cfg(test)]
 mod questions;
+#[cfg(test)]
+mod queue_steps;
 #[cfg(test)]
 mod shared_pairs;
 #[cfg(test)]

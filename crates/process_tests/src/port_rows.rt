@@ -2,6 +2,8 @@
 use crate::let_go::is_told_as_let_go;
 use crate::port_fleets::{Fleet, all_meet, both_finish};
 use crate::ports::Act;
+use crate::posts_beside_gossip::posted;
+use crate::queue_steps::{Ended, two_at_a_queue};
 use crate::shared_pairs::meet;
 use mpx_num::Ops;
 use std::test::Fail;
@@ -77,5 +79,34 @@ fn eight_ports_meet_with_one_sum(rt: HostRuntime) -> Result<(), Fail> {
 fn result_let_go_between_two_locks_is_told_so(rt: HostRuntime) -> Result<(), Fail> {
     let ops = Ops::none(rt.alloc());
     assert!(rt; is_told_as_let_go(&rt, rt.alloc(), &ops)?);
+    Ok(())
+}
+
+#[test]
+fn two_ports_swap_frames_in_a_queue_of_one(rt: HostRuntime) -> Result<(), Fail> {
+    let ops = Ops::none(rt.alloc());
+    let (three, none) = (Some(3), None);
+    let with = Ended {
+        both: 1,
+        first: three,
+        second: three,
+    };
+    let without = Ended {
+        both: 0,
+        first: none,
+        second: none,
+    };
+    assert_eq!(rt; two_at_a_queue(&rt, rt.alloc(), true, &ops)?, Some(with));
+    assert_eq!(rt;
+        two_at_a_queue(&rt, rt.alloc(), false, &ops)?,
+        Some(without)
+    );
+    Ok(())
+}
+
+#[test]
+fn one_thread_posts_beside_gossip(rt: HostRuntime) -> Result<(), Fail> {
+    let ops = Ops::none(rt.alloc());
+    assert_eq!(rt; posted(&rt, rt.alloc(), &ops)?, 1_000);
     Ok(())
 }

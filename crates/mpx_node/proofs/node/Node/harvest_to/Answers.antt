@@ -1,6 +1,6 @@
 use Rattle.std.proofs.Common.{arith}
 use Rattle.mpx_node.specs.Shown.{node_of}
-use Rattle.mpx_node.proofs.Harvested.{arrives, gives_up, goes_on, has_none, is_behind, less_left, not_opened, not_yet, on_err, sets_out, stops}
+use Rattle.mpx_node.proofs.Harvested.{arrives, gives_up, goes_on, has_none, is_behind, less_left, not_opened, not_yet, on_err, sets_out, stops, wanted}
 use Rattle.mpx_node.proofs.node.Node.harvest_to.Goals as goal
 
 pub loop-alloc-init : goal.loop-alloc-init
@@ -22,6 +22,10 @@ returns-then-call-front-clause-ok g c =
 pub returns-in_err-harvest-clause-err : goal.returns-in_err-harvest-clause-err
 returns-in_err-harvest-clause-err g c =
     on_err _ _ (gives_up _ c.args.name.now c.args.call (node_of c.args.self.now) (node_of c.loop-alloc.self) (node_of c.harvest.new.self) c.loop-alloc.invariant _ (omega (arith, c.front.ensures, c.if-call-front.false)) c.in_err-harvest.ensures)
+
+pub returns-in_err-harvest-clause-wanted : goal.returns-in_err-harvest-clause-wanted
+returns-in_err-harvest-clause-wanted g c =
+    on_err _ _ (wanted _ c.args.name.now c.args.call (node_of c.args.self.now) (node_of c.loop-alloc.self) (node_of c.harvest.new.self) c.loop-alloc.invariant _ c.in_err-harvest.ensures)
 
 pub returns-in-NotYet-clause-ok : goal.returns-in-NotYet-clause-ok
 returns-in-NotYet-clause-ok g c =

@@ -15,7 +15,7 @@ use Rattle.mpx_encode.proofs.Rising.{always_says}
 use Rattle.mpx_format.specs.Fields.{acks, name, numbers, name_count, some_names}
 use Rattle.mpx_encode.proofs.Contexts.{few_some_names}
 use Rattle.mpx_encode.proofs.Maps.{keyed_length, keyed_fits, some_entries, where_left}
-use Rattle.mpx_encode.proofs.write_contexts.AcksWriteValue.room_after.Goals as goal
+use Rattle.mpx_encode.proofs.write_contexts.DigestWriteValue.room_after.Goals as goal
 
 pub room_after_counted-requires : goal.room_after_counted-requires
 room_after_counted-requires c =

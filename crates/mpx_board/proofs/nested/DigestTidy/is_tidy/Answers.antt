@@ -3,7 +3,7 @@ use Rattle.std.proofs.Common.{ap, ◌∙◌}
 use Rattle.std.specs.List.{list_all}
 use Rattle.mpx_board.specs.Tidy.{is_tidy_numbers}
 use Rattle.mpx_board.proofs.Shown.{where_some}
-use Rattle.mpx_board.proofs.nested.AcksTidy.is_tidy.Goals as goal
+use Rattle.mpx_board.proofs.nested.DigestTidy.is_tidy.Goals as goal
 
 pub returns-then-not-is_empty : goal.returns-then-not-is_empty
 returns-then-not-is_empty c =

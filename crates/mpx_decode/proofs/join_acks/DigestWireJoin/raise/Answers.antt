@@ -6,7 +6,7 @@ use Rattle.mpx_format.specs.Fields.{acks, name, numbers, some_names}
 use Rattle.mpx_format.proofs.FieldLaws.{some_names_laws}
 use Rattle.mpx_decode.proofs.Taken.{map_raised, map_stops, rows_stand, stops_at_once}
 use Rattle.mpx_decode.proofs.NearBytes.{read_on}
-use Rattle.mpx_decode.proofs.join_acks.AcksWireJoin.raise.Goals as goal
+use Rattle.mpx_decode.proofs.join_acks.DigestWireJoin.raise.Goals as goal
 
 pub raise_map-requires-clause-follows : goal.raise_map-requires-clause-follows
 raise_map-requires-clause-follows c = (λ v. v, λ x. refl)

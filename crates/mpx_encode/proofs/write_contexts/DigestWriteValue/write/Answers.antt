@@ -8,7 +8,7 @@ use Rattle.mpx_format.specs.Rising.{always}
 use Rattle.mpx_format.specs.Fields.{acks, name, numbers, name_count, some_names}
 use Rattle.mpx_encode.proofs.Contexts.{some_names_below}
 use Rattle.mpx_encode.proofs.Maps.{keyed_count, keyed_pass, keyed_spelling, told_behind}
-use Rattle.mpx_encode.proofs.write_contexts.AcksWriteValue.write.Goals as goal
+use Rattle.mpx_encode.proofs.write_contexts.DigestWriteValue.write.Goals as goal
 
 pub overflow_cast-entries : goal.overflow_cast-entries
 unfolding acks
