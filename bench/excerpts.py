@@ -1,5 +1,5 @@
 #!/usr/bin/env python3
-"""Holds the code on pages against the files that it is cut from. No gate runs this.
+"""Holds the code on pages against the files that it is cut from. `bench/pages` runs this.
 
     bench/excerpts.py
 

@@ -1,5 +1,5 @@
 #!/usr/bin/env python3
-"""Draws bench/growth.svg of the numbers in bench/growth.txt: how runs grow with ranks, calls, items, communicators and loss. No gate runs this.
+"""Draws bench/growth.svg of the numbers in bench/growth.txt: how runs grow with ranks, calls, items, communicators and loss. `bench/pages` runs this.
 
     bench/growth.py            says whether the picture is that of the numbers; exit status 1 if it isn't
     bench/growth.py --write    writes the picture

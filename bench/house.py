@@ -1,5 +1,5 @@
 #!/usr/bin/env python3
-"""Draws the house: the twelve rooms of crates.txt, the crates in each, and the way of one allreduce through them. No gate runs this.
+"""Draws the house: the twelve rooms of crates.txt, the crates in each, and the way of one allreduce through them. `bench/pages` runs this.
 
     bench/house.py            checks; exit status 1 where something differs
     bench/house.py --write    writes docs/house.svg, and the table of rooms in docs/ARCHITECTURE.md

@@ -1,7 +1,7 @@
 #!/usr/bin/env python3
 """Holds the examples of docs/MESSAGES.md against bench/reference.py: each of a row's lines brings about the row's name, or that
 ranks wait. And each is a row of crates/job_rows, so that the gate runs it. Of "With `--explain`" each line is one that a row prints
-which is explained, and of "The words of a call" each call is a row, with status 1. No gate runs this.
+which is explained, and of "The words of a call" each call is a row, with status 1. `bench/checks.py` runs this.
 
 messages.py     prints what disagrees or is no row, and how many examples were held; exit status 1 if there is any.
 messages.py PROGRAM         the same, and each example and each call is run by this program, as out/look/gossipmpi, too.

@@ -9,7 +9,7 @@ of pieces (`>*`) would take it minutes. The last line of all tells how many runs
 well and that nobody is shown, and how many after an evaluation that ends well before any run and isn't explained, where the script is no longer
 than 2,000 bytes.
 
-rows.py     prints what disagrees, and how many rows were held; exit status 1 if any disagrees. No gate runs it.
+rows.py     prints what disagrees, and how many rows were held; exit status 1 if any disagrees. `bench/checks.py` runs it.
 """
 import os
 import re

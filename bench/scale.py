@@ -1,5 +1,5 @@
 #!/usr/bin/env python3
-"""What calls of many processes cost, by a model of the gossip (bench/scale_model.py). No gate runs this.
+"""What calls of many processes cost, by a model of the gossip (bench/scale_model.py). `bench/pages` runs this.
 
     bench/scale.py                    says whether the tables of bench/SCALE.md and bench/scale.svg are the model's (7 s); exit status 1 if they aren't
     bench/scale.py --write            writes them

@@ -7,7 +7,7 @@ are faults, and what is said of them.
 Each script is evaluated, run with few turns and with every frame lost, and run in threads with few turns. Where a run ends early, each rank's
 lines tell how far it has come. What its board holds is read from `--trace`, which tells the calls and posts that a process has; in threads that
 isn't known, and only what is told of the named ranks is held. Lines of results past their types aren't held. It prints what disagrees, and how many
-lines of each sort were held; exit status 1 if any disagrees. No gate runs it."""
+lines of each sort were held; exit status 1 if any disagrees. `.ci/run` tries 100 scripts."""
 import collections
 import re
 import subprocess
@@ -16,7 +16,7 @@ import sys
 sys.dont_write_bytecode = True
 import reference
 
-HERE, THERE, CALLS = "in the evaluation ranks wait here:", "in the evaluation these ranks wait there too", "in the evaluation:"
+HERE, THERE, NOBODY, CALLS = "in the evaluation ranks wait here:", "in the evaluation these ranks wait there too", "in the evaluation nobody waits", "in the evaluation:"
 SERVED = "all posts have come, and the run ended before it went on"
 
 
@@ -48,8 +48,9 @@ class Script:
         words = self.todo[rank][place]
         return " ".join(words[:4] if words[0] == "create_group" else words[:2])
 
-    def where(self, end, rank, name):
-        if end.is_closed(rank, name):
+    def where(self, end, rank, name, call):
+        """Where a rank is. It has closed the communicator only where its free comes before this call."""
+        if end.is_closed(rank, name) and len(end.posts[name, rank]) <= call:
             return "closed"
         return "line %d" % self.line(rank, self.at(end, rank)) if rank in end.waiting else "finished"
 
@@ -65,20 +66,20 @@ class Script:
         name, members, graph, k, target, statement = made
         at, start = self.at(end, rank), self.words(rank, statement)
         what = start if request is None else "%s %s, for %s of line %d" % (self.todo[rank][at][0], request, start, self.line(rank, statement))
-        return "rank %d, line %d: %s, call %d: no post of %s" % (rank, self.line(rank, at), what, k, self.named(end, name, missing))
+        return "rank %d, line %d: %s, call %d: no post of %s" % (rank, self.line(rank, at), what, k, self.named(end, name, k, missing))
 
-    def named(self, end, name, missing):
+    def named(self, end, name, call, missing):
         """Ranks and where they stand, of more than two in a row at one place the first and the last."""
         rows = []
         for q in missing:
-            where = self.where(end, q, name)
-            if rows and rows[-1][-1] + 1 == q and self.where(end, rows[-1][-1], name) == where:
+            where = self.where(end, q, name, call)
+            if rows and rows[-1][-1] + 1 == q and self.where(end, rows[-1][-1], name, call) == where:
                 rows[-1].append(q)
             else:
                 rows.append([q])
         parts = []
         for row in rows:
-            where = self.where(end, row[0], name)
+            where = self.where(end, row[0], name, call)
             parts += ["%d (%s)" % (q, where) for q in row] if len(row) < 3 else ["%d to %d (%s)" % (row[0], row[-1], where)]
         return ", ".join(parts)
 
@@ -259,7 +260,7 @@ class Held:
         most = [sum(line.startswith("%d: " % rank) for line in printed) for rank in range(len(script.todo))]
         end = reference.End(script.todo, most)
         self.same(seed, words, "who waits early", ["waiting: " + " ".join(map(str, end.waiting))], err[:1])
-        marks = [i for i, line in enumerate(err) if line in (HERE, THERE, CALLS)] + [len(err)]
+        marks = [i for i, line in enumerate(err) if line in (HERE, THERE, NOBODY, CALLS)] + [len(err)]
         here = err[2:marks[0]]
         if threads:
             self.places(seed, words, script, end, here)
@@ -267,7 +268,7 @@ class Held:
             held, text = boards(trace), lambda name: "world" + "".join(map(step_text, name))
             holds = lambda rank, name, call: [rank] * (len(end.posts.get((name, rank), [])) > call) + held[rank].get((text(name), call), [])
             self.same(seed, words, "waits of runs", script.waits(end, holds), here)
-        wanted = [THERE] if there and there == here else [HERE, *there] if there else []
+        wanted = [NOBODY] if not there else [THERE] if there == here else [HERE, *there]
         self.same(seed, words, "waits of evaluations behind runs", wanted, err[marks[0]:marks[0] + len(wanted)])
         rest = err[marks[0] + len(wanted):]
         if rest and rest[0] != CALLS:
@@ -286,7 +287,7 @@ class Held:
                 self.differ(seed, words, "a wait in threads", may.get(rank), line)
             for first, last, where in re.findall(r"(\d+)(?: to (\d+))? \(([^)]*)\)", line.split("no post of ")[-1]) if begins else []:
                 for q in range(int(first), int(last or first) + 1):
-                    ours = {script.where(end, q, made[0]) for _, made in script.awaited(end, rank)}
+                    ours = {script.where(end, q, made[0], made[3]) for _, made in script.awaited(end, rank)}
                     if where not in ours:
                         self.differ(seed, words, "where a rank stands", ours, line)
 

@@ -2,7 +2,7 @@
 //! script's evaluation, or how much the script has.
 #![tactic(auto)]
 
-use mpx_shell::{exit_code, invocation_of, seen_by};
+use mpx_shell::{asks_for_threads, exit_code, exit_code_in_threads, invocation_of, seen_by};
 use std::process::ExitCode;
 use std::{env, io};
 
@@ -10,13 +10,25 @@ use std::{env, io};
 fn main(rt: HostRuntime) -> ExitCode {
     let asked = invocation_of(rt.alloc(), env::args(&rt));
     let mut seen = seen_by(&asked, rt.alloc(), &rt, rt.stderr());
+    let (mut reader, mut out, mut err) = (rt.reader(), io::writer(&rt), rt.stderr());
+    if asks_for_threads(&asked) {
+        return exit_code_in_threads(
+            &rt,
+            rt.alloc(),
+            &asked,
+            &mut reader,
+            &mut out,
+            &mut err,
+            &mut seen,
+        );
+    }
     exit_code(
         &rt,
         rt.alloc(),
         &asked,
-        &mut rt.reader(),
-        &mut io::writer(&rt),
-        &mut rt.stderr(),
+        &mut reader,
+        &mut out,
+        &mut err,
         &mut seen,
     )
 }

@@ -1,6 +1,6 @@
 //! The program's own call, as its `main` makes it, over streams in memory.
 use crate::terminals::{Leaping, Shown};
-use mpx_shell::{exit_code, seen_by};
+use mpx_shell::{asks_for_threads, exit_code, exit_code_in_threads, seen_by};
 use mpx_words::call_of;
 use std::alloc::Global;
 use std::io::{Read, Write};
@@ -37,7 +37,11 @@ pub fn call_program<T: Threads + Wait + Sync, R: Read, W: Write>(
         Err(why) => Err(why),
     };
     let mut seen = seen_by(&asked, alloc, &clock, shown);
-    let code = exit_code(rt, alloc, &asked, reader, out, said, &mut seen);
+    let code = if asks_for_threads(&asked) {
+        exit_code_in_threads(rt, alloc, &asked, reader, out, said, &mut seen)
+    } else {
+        exit_code(rt, alloc, &asked, reader, out, said, &mut seen)
+    };
     drop(asked);
     Exited {
         status: number_of(code),

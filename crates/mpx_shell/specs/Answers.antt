@@ -1,5 +1,5 @@
 -- What a call of a program comes to.
-use Rattle.std.specs.Prelude.{◌≡◌, ◌⊎◌, ℕ, List, [], ◌∷◌, Option, Some, None, Result, Ok, Err, codes}
+use Rattle.std.specs.Prelude.{◌≡◌, ◌⊎◌, ℕ, Bool, false, List, [], ◌∷◌, Option, Some, None, Result, Ok, Err, codes}
 use Rattle.clap.specs.Kinds.{HasKind}
 use Rattle.clap.specs.Words.{kind_of}
 use Rattle.clap.specs.declared.error.Error.{Error}
@@ -8,6 +8,7 @@ use Rattle.mpx_num.specs.Own.{operation_of}
 use Rattle.mpx_num.specs.Types.{is_paired}
 use Rattle.mpx_num.specs.declared.own.Operation.{Operation}
 use Rattle.mpx_affine.specs.Composition.{composed}
+use Rattle.mpx_run.specs.Texts.{is_in_threads}
 use Rattle.mpx_program.specs.Jobs.{DoesJob, IsRefused, OfJobs, Tells}
 use Rattle.mpx_program.specs.declared.job.Exit.{Exit}
 use Rattle.mpx_words.specs.Usage.{refusal_kinds}
@@ -32,6 +33,11 @@ Answers Is words there left old new code Says = DoesJob Is own_operations words 
 abbrev pub AskFor : (words : List (List ℕ)) → Result Invocation Error → Type 0
 AskFor words (Ok call) = invocation_in words ≡ Some call
 AskFor words (Err why) = ((invocation_in words ≡ None) × HasKind (refusal_kinds words) why) ⊎ (kind_of why ≡ kind.OutOfMemory)
+
+-- what words ask for is a run in threads
+abbrev pub asks_for_threads : Result Invocation Error → Bool
+asks_for_threads (Ok call) = is_in_threads call.job
+asks_for_threads (Err why) = false
 
 -- words that ask for this are answered so: the job is done, or memory is wanting
 abbrev pub AnswersCall : (Is : OfJobs) (call : Invocation) (there left old new : Option (List ℕ)) (code : ℕ) (Says : List ℕ → Type 0) → Type 0

@@ -33,27 +33,8 @@ macro_rules! own_operations {
     }};
 }
 
-/// Does what a call asks for. Only a run in threads goes by functions that may wait.
-pub(crate) fn answer_call<T: Threads + Wait + Sync, R: Read, W: Write, E: Write>(
-    rt: &T,
-    alloc: Global,
-    call: &Invocation,
-    reader: &mut R,
-    out: &mut W,
-    err: &mut E,
-    observer: &mut dyn Observer,
-) -> Exit
-    ensures prints { AnswersCall AsPrinted call.now (R.remaining reader.old) (R.remaining reader.new) (W.contents out.old) (W.contents out.new) result.status (Tells (E.contents err.old) (E.contents err.new) result.told) }
-    ensures founded { AnswersCall AsFounded call.now (R.remaining reader.old) (R.remaining reader.new) (W.contents out.old) (W.contents out.new) result.status (Tells (E.contents err.old) (E.contents err.new) result.told) }
-{
-    if is_in_threads(&call.job) {
-        return answer_in_threads(rt, alloc, call, reader, out, err, observer);
-    }
-    answer(rt, alloc, call, reader, out, err, observer)
-}
-
 // Whether a job is a run in threads.
-fn is_in_threads(job: &Job) -> bool
+pub(crate) fn is_in_threads(job: &Job) -> bool
     ensures { result ≡ is_in_threads job.now }
 {
     match job.command {
@@ -69,7 +50,7 @@ fn is_in_threads(job: &Job) -> bool
 //
 // Who asks what is printed, and with which status, reads `prints` alone. That a run is by the seed, the loss, the relays and the turns of the words
 // says `founded`.
-fn answer<T: Threads + Sync, R: Read, W: Write, E: Write>(
+pub(crate) fn answer<T: Threads + Sync, R: Read, W: Write, E: Write>(
     rt: &T,
     alloc: Global,
     call: &Invocation,
@@ -106,7 +87,7 @@ fn do_job<T: Threads + Sync, R: Read, W: Write, E: Write>(
 }
 
 // The same of a call that asks for a run in threads, which may wait for them.
-fn answer_in_threads<T: Threads + Wait + Sync, R: Read, W: Write, E: Write>(
+pub(crate) fn answer_in_threads<T: Threads + Wait + Sync, R: Read, W: Write, E: Write>(
     rt: &T,
     alloc: Global,
     call: &Invocation,

@@ -1,14 +1,14 @@
 //! What a program's `main` calls: what the words of its process ask for, who looks on, and what it exits with.
-ghost use Rattle.std.specs.Prelude.{◌≡◌, ◌&&◌, ◌⊎◌, ℕ, IfErr, IfOk, IsErrAnd, List, OnErr, false, map, not, string_bytes};
+ghost use Rattle.std.specs.Prelude.{◌≡◌, ◌&&◌, ◌⊎◌, ℕ, IfErr, IfOk, IsErrAnd, List, OnErr, false, true, map, not, string_bytes};
 ghost use Rattle.std.specs.Vec.Iter.{into_iter_items};
 ghost use Rattle.std.specs.Process.{exit_status};
 ghost use Rattle.clap.specs.Words.{kind_of};
 ghost use Rattle.clap.specs.declared.error.kind.ErrorKind.TheVariants.{InvalidValue, OutOfMemory};
 ghost use Rattle.mpx_program.specs.Jobs.{AsFounded, AsPrinted, IsRefused};
-ghost use Rattle.mpx_shell.specs.Answers.{Answers, AskFor, EndsBy};
+ghost use Rattle.mpx_shell.specs.Answers.{Answers, AskFor, EndsBy, asks_for_threads};
 ghost use Rattle.mpx_shell.specs.Showing.{shown_on, shows_lines, shows_rows};
 
-use crate::answering::answer_call;
+use crate::answering::{answer, answer_in_threads, is_in_threads};
 use crate::progress::HowFar;
 use crate::seen::Seen;
 use mpx_program::refuse;
@@ -68,11 +68,19 @@ pub fn seen_by<'a, C: Clock, S: Write + IsTerminal>(
     }
 }
 
-/// Answers what the words of a process ask for, and gives its status as the process's. What fails on the standard error is let go: the status stands.
-/// Of a call that no words ask for it promises nothing.
-///
-/// Only words that ask for a run in threads go by functions that may wait. It has their bound `Wait` itself, so it owes no return.
-pub fn exit_code<T: Threads + Wait + Sync, R: Read, W: Write, E: Write>(
+/// Whether the words of a process ask for a run in threads. [`exit_code_in_threads`] answers these, and [`exit_code`] all others.
+pub fn asks_for_threads(asked: &Result<Invocation, clap::Error>) -> bool
+    ensures { result ≡ asks_for_threads asked.now }
+{
+    match asked {
+        Ok(call) => is_in_threads(&call.job),
+        Err(_) => false,
+    }
+}
+
+/// Answers what the words of a process ask for, unless that is a run in threads, and gives its status as the process's. It always returns: it
+/// waits for nobody. What fails on the standard error is let go: the status stays as it is. Of a call that no words ask for it promises nothing.
+pub fn exit_code<T: Threads + Sync, R: Read, W: Write, E: Write>(
     rt: &T,
     alloc: Global,
     asked: &Result<Invocation, clap::Error>,
@@ -81,6 +89,7 @@ pub fn exit_code<T: Threads + Wait + Sync, R: Read, W: Write, E: Write>(
     err: &mut E,
     observer: &mut dyn Observer,
 ) -> ExitCode
+    requires alone { asks_for_threads asked.now ≡ false }
     ensures answers { (words : List (List ℕ)) → AskFor words asked.now → EndsBy (Answers AsPrinted words (R.remaining reader.old) (R.remaining reader.new) (W.contents out.old) (W.contents out.new)) (E.contents err.old) (E.contents err.new) (exit_status result) }
     ensures founded { (words : List (List ℕ)) → AskFor words asked.now → EndsBy (Answers AsFounded words (R.remaining reader.old) (R.remaining reader.new) (W.contents out.old) (W.contents out.new)) (E.contents err.old) (E.contents err.new) (exit_status result) }
     ensures refused { IfErr asked.now (λ why. EndsBy (IsRefused (kind_of why)) (E.contents err.old) (E.contents err.new) (exit_status result)) }
@@ -89,9 +98,32 @@ pub fn exit_code<T: Threads + Wait + Sync, R: Read, W: Write, E: Write>(
 {
     match asked {
         Ok(call) => {
-            let exit = answer_call(rt, alloc, call, reader, out, err, observer);
+            let exit = answer(rt, alloc, call, reader, out, err, observer);
             ExitCode::from(exit.status)
         }
         Err(why) => ExitCode::from(refuse(why, err).status),
+    }
+}
+
+/// Answers words that ask for a run in threads, as [`exit_code`] answers all others. It waits for the threads, so it owes no return.
+pub fn exit_code_in_threads<T: Threads + Wait + Sync, R: Read, W: Write, E: Write>(
+    rt: &T,
+    alloc: Global,
+    asked: &Result<Invocation, clap::Error>,
+    reader: &mut R,
+    out: &mut W,
+    err: &mut E,
+    observer: &mut dyn Observer,
+) -> ExitCode
+    requires threads { asks_for_threads asked.now ≡ true }
+    ensures answers { (words : List (List ℕ)) → AskFor words asked.now → EndsBy (Answers AsPrinted words (R.remaining reader.old) (R.remaining reader.new) (W.contents out.old) (W.contents out.new)) (E.contents err.old) (E.contents err.new) (exit_status result) }
+    ensures founded { (words : List (List ℕ)) → AskFor words asked.now → EndsBy (Answers AsFounded words (R.remaining reader.old) (R.remaining reader.new) (W.contents out.old) (W.contents out.new)) (E.contents err.old) (E.contents err.new) (exit_status result) }
+{
+    match asked {
+        Ok(call) => {
+            let exit = answer_in_threads(rt, alloc, call, reader, out, err, observer);
+            ExitCode::from(exit.status)
+        }
+        Err(_) => unreachable!(),
     }
 }

@@ -21,7 +21,7 @@ plain name = record (new_shape name) { rules = common }
 
 -- an option that is followed by a value
 abbrev pub valued : Text → Rule
-valued name = record (new_rule name) { long = Some name }
+valued name = record (new_rule name) { long = Some name; value_names = 1 }
 
 -- the options of `run`: those that stand alone, those that it draws from, and the others
 abbrev pub run_flags : List Rule

@@ -104,18 +104,16 @@ pub(crate) fn named<'a>(alloc: Global, name: &[u8]) -> Result<Command<'a>, Alloc
     program(alloc)
 }
 
-const EVAL: &str =
-    "Evaluate the script on the standard input (gossipmpi eval < SCRIPT), and print what each rank gets";
+const EVAL: &str = "Print what the standard gives each rank (gossipmpi eval < SCRIPT)";
 
-const CHECK: &str =
-    "Read the script on the standard input (gossipmpi check < SCRIPT), and print how many ranks and statements it has";
+const CHECK: &str = "Count the ranks and statements of a script (gossipmpi check < SCRIPT)";
 
 // The program without its commands.
 fn bare_program<'a>(alloc: Global) -> Result<Command<'a>, AllocError>
     ensures app { IfOk result (λ c. app_of c ≡ bare_usage) }
 {
     Command::new(alloc, "gossipmpi")
-        .about("Run, evaluate or check a text script of MPI collectives for up to 64 ranks")
+        .about("Run, evaluate or check a script of MPI collectives for up to 64 ranks")
         .version("0.2.0")
         .subcommand_required(true)
         .arg_required_else_help(true)
@@ -170,22 +168,25 @@ fn with_run_flags<'a>(alloc: Global) -> Result<Command<'a>, AllocError>
     )
 }
 
-// `run` with the options of each command alone, and with what its help says behind these.
+// `run` with the options of each command alone, and with an example and the statuses after these.
 fn helped_run<'a>(alloc: Global) -> Result<Command<'a>, AllocError>
     ensures shape { IfOk result (λ c. shape_of c ≡ plain (codes "run")) }
     ensures local { IfOk result (λ c. (fields_of c).has_globals ≡ false) }
 {
     match plain(alloc, "run", RUN, STRICT, EXPLAIN) {
-        Ok(command) => Ok(command.after_help(BEHIND_HELP)),
+        Ok(command) => Ok(command.after_help(AFTER_HELP)),
         Err(e) => Err(e),
     }
 }
 
-const RUN: &str =
-    "Run the script on the standard input (gossipmpi run < SCRIPT) and print what each rank gets";
+const RUN: &str = "Run a script (gossipmpi run < SCRIPT) and print what each rank gets";
 
-const BEHIND_HELP: &str =
-    "An option that has a number is followed by it: --seed 7, or --seed=7. The script says how many ranks there are.";
+const AFTER_HELP: &str = "\
+Example:
+  printf 'ranks 2\\n*: allreduce world sum i32 1\\n' | gossipmpi run --loss 20
+
+Exit status: 0 all ranks finished; 1 usage or help; 2 script refused;
+3 ranks wait; 4 out of memory; 5 read or write failed; 6 see --strict";
 
 fn eval<'a>(alloc: Global) -> Result<Command<'a>, AllocError>
     ensures shape { IfOk result (λ c. shape_of c ≡ plain (codes "eval")) }
@@ -216,37 +217,29 @@ fn plain<'a>(
     with_option(strict, flag(alloc, "explain", explain))
 }
 
-const STRICT: &str = "Exit with status 6 where the script has a call that is refused or is a fault";
+const STRICT: &str = "Exit with 6 if any call is refused or a fault";
 
-const CERTAIN: &str = "Exit with status 6 where a call on world is refused for certain";
+const CERTAIN: &str = "Exit with 6 if a call on world is certain to be refused";
 
-const EXPLAIN: &str =
-    "Tell more on the standard error: what is wrong with the script, and why a run ended";
+const EXPLAIN: &str = "Say why ranks wait and what is wrong, on standard error";
 
-const EXPLAIN_CHECK: &str =
-    "Tell more on the standard error: what is wrong with the script, and which calls on world are refused for certain";
+const EXPLAIN_CHECK: &str = "Say what is wrong with the script, on standard error";
 
-const TRACE: &str =
-    "Tell each event on the standard error: what is sent, lost and taken, and what ranks get; not with --threads";
+const TRACE: &str = "Print every post, frame and result, on standard error";
 
-const TABLE: &str =
-    "Show on the standard error, turn by turn, what each process has heard; not with --threads";
+const TABLE: &str = "Print a table of turns, on standard error";
 
-const THREADS: &str =
-    "Run each rank and relay on threads of its own, over one queue of frames: --seed and --loss are read, and not used";
+const THREADS: &str = "Run each rank in its own thread instead of simulating";
 
-const SEED: &str =
-    "What loss, order and receivers are drawn from, 0 to 18446744073709551615; not used with --threads [default: 1]";
+const SEED: &str = "Seed of everything random [default: 1]";
 
-const LOSS: &str =
-    "How many frames of a hundred are lost, 0 to 100; not used with --threads [default: 0]";
+const LOSS: &str = "Lose N of 100 frames, 0 to 100 [default: 0]";
 
-const RELAYS: &str = "How many processes only carry frames, 0 to 63 [default: 0]";
+const RELAYS: &str = "Add N processes that only pass frames on [default: 0]";
 
-const TURNS: &str = "How many turns are made at most, 1 to 10000000 [default: 100000]";
+const TURNS: &str = "Stop after N turns [default: 100000]";
 
-const WORKERS: &str =
-    "In how many threads the processes work side by side, 1 to 64, which changes nothing that is printed; not used with --threads [default: from 32 processes on one for each processor, but at most one for 8 processes; else 1]";
+const WORKERS: &str = "Threads of the simulation; the output is the same";
 
 // A command without options.
 fn bare<'a>(alloc: Global, name: &'a str, about: &'a str) -> Command<'a>
@@ -261,7 +254,10 @@ fn flag<'a>(alloc: Global, name: &'a str, help: &'a str) -> Arg<'a>
     ensures rule { rule_of result ≡ record (new_rule name.entry.now) { long = Some name.entry.now; action = Some ArgAction.SetTrue } }
     ensures local { result.global ≡ false }
 {
-    option(alloc, name, help).action(ArgAction::SetTrue)
+    Arg::new(alloc, name)
+        .long(name)
+        .help(help)
+        .action(ArgAction::SetTrue)
 }
 
 // An option that is followed by a value.
@@ -269,5 +265,5 @@ fn option<'a>(alloc: Global, name: &'a str, help: &'a str) -> Arg<'a>
     ensures rule { rule_of result ≡ valued name.entry.now }
     ensures local { result.global ≡ false }
 {
-    Arg::new(alloc, name).long(name).help(help)
+    Arg::new(alloc, name).long(name).help(help).value_name("N")
 }

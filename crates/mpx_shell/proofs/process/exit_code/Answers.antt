@@ -6,15 +6,15 @@ use Rattle.mpx_shell.proofs.process.exit_code.Goals as goal
 
 pub returns-in-Ok-clause-answers : goal.returns-in-Ok-clause-answers
 returns-in-Ok-clause-answers g c = λ words asks. record {
-  exit = c.answer_call-exit.result;
-  does = c.answer_call-exit.ensures.prints words (subst (AskFor words) c.in-Ok.is asks);
+  exit = c.answer-exit.result;
+  does = c.answer-exit.ensures.prints words (subst (AskFor words) c.in-Ok.is asks);
   ends = c.from.ensures;
 }
 
 pub returns-in-Ok-clause-founded : goal.returns-in-Ok-clause-founded
 returns-in-Ok-clause-founded g c = λ words asks. record {
-  exit = c.answer_call-exit.result;
-  does = c.answer_call-exit.ensures.founded words (subst (AskFor words) c.in-Ok.is asks);
+  exit = c.answer-exit.result;
+  does = c.answer-exit.ensures.founded words (subst (AskFor words) c.in-Ok.is asks);
   ends = c.from.ensures;
 }
 
