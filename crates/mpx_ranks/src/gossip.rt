@@ -52,7 +52,7 @@ fn came_to(
         return Err(OutOfMemory);
     }
     if pruned.is_err() {
-        return Err(OutOfMemory);
+        return pruned;
     }
     match pushed {
         Ok(_) => Ok(()),

@@ -1,5 +1,5 @@
 //! A member of a job: the host of a rank's desk in a thread of its own.
-ghost use Rattle.std.specs.Prelude.{◌≡◌, IfErr, IfSome, IsSome, None, OnOk, false};
+ghost use Rattle.std.specs.Prelude.{◌≡◌, IfErr, IfSome, IsSome, None, OnOk, false, option_and_then};
 ghost use Rattle.std.specs.Option.{option_map};
 ghost use Rattle.std.proofs.Props.{props};
 ghost use Rattle.mpx_board.specs.Looks.{look};
@@ -9,7 +9,7 @@ ghost use Rattle.mpx_request.specs.Later.{Later};
 ghost use Rattle.mpx_ranks.specs.Had.{GoesOn};
 ghost use Rattle.mpx_ranks.specs.Members.{RefusesTurn, Turns};
 
-use crate::crew::{Crew, Job, Quitter};
+use crate::crew::{Crew, Halt, Job};
 use crate::folds::Folds;
 use crate::gossip::gossip;
 use crate::news::News;
@@ -42,7 +42,7 @@ pub(crate) struct Member<'a, L: Seat, O: Folds, K: Job, R: Wait> {
     pub(crate) port: Port,
     pub(crate) news: News,
     pub(crate) seat: PhantomData<L>,
-    pub(crate) quitter: Option<OnceToken<'a, Quitter<K>>>,
+    pub(crate) halt: Option<OnceToken<'a, Halt<K>>>,
     ghost list_is: { O.operations ops.now ≡ L.setup.operations },
     ghost bus_is: { table_of bus.now ≡ L.table },
     ghost free: { L.setup.planned ≡ false },
@@ -51,7 +51,7 @@ pub(crate) struct Member<'a, L: Seat, O: Folds, K: Job, R: Wait> {
     ghost table_is: { port.table ≡ L.table },
     ghost setup_is: { port.setup ≡ L.setup },
     ghost me_is: { port.me ≡ L.me },
-    ghost quitter_is: { IfSome quitter (λ token. token.of ≡ crew.now.quitter.id) } by { Prim.hlevel props },
+    ghost halt_is: { IfSome halt (λ token. token.of ≡ crew.now.halt.id) } by { Prim.hlevel props },
 }
 
 impl<'a, L: Seat, O: Folds, K: Job, R: Wait> Member<'a, L, O, K, R> {
@@ -85,7 +85,7 @@ impl<'a, L: Seat, O: Folds, K: Job, R: Wait> Member<'a, L, O, K, R> {
             port,
             news: News::new(me),
             seat: PhantomData,
-            quitter: None,
+            halt: None,
         }
     }
 
@@ -100,11 +100,12 @@ impl<'a, L: Seat, O: Folds, K: Job, R: Wait> Member<'a, L, O, K, R> {
     }
 
     // The rank of which it has heard that it gave up, where it has.
-    fn gave_up(&self) -> Option<u8>
-        ensures { result ≡ option_map (λ token. token.value.rank) self.now.quitter }
+    fn quitter(&self) -> Option<u8>
+        ensures { result ≡ option_and_then self.now.halt (λ token. option_map (λ q. q.rank) token.value.quitter) }
     {
-        match &self.quitter {
-            Some(token) => Some(self.crew.quitter.value(token).rank),
+        let token = self.halt.as_ref()?;
+        match &self.crew.halt.value(token).quitter {
+            Some(quitter) => Some(quitter.rank),
             None => None,
         }
     }
@@ -138,7 +139,7 @@ impl<'a, L: Seat, O: Folds, K: Job, R: Wait> Host for Member<'a, L, O, K, R> {
 
     ghost turned = { λ a n b. GoesOn a.port b.port };
 
-    ghost turn_refused = { λ a why b. GoesOn a.port b.port × RefusesTurn K.gave_up why (option_map (λ token. token.value.rank) b.quitter) a.port b.port };
+    ghost turn_refused = { λ a why b. GoesOn a.port b.port × RefusesTurn K.gave_up why (option_and_then b.halt (λ token. option_map (λ q. q.rank) token.value.quitter)) a.port b.port };
 
     // All that its port did tells which.
     ghost has_had = { λ m. HadIn m.port };
@@ -193,16 +194,16 @@ impl<'a, L: Seat, O: Folds, K: Job, R: Wait> Host for Member<'a, L, O, K, R> {
         ensures later { Later (node_in self.old.port) (node_in self.new.port) }
         ensures opened { (node_in self.new.port).opened ≡ (node_in self.old.port).opened }
         ensures counted { OnOk result (GoesOn self.old.port self.new.port) }
-        ensures refused { IfErr result (λ why. GoesOn self.old.port self.new.port × RefusesTurn K.gave_up why (option_map (λ token. token.value.rank) self.new.quitter) self.old.port self.new.port) }
+        ensures refused { IfErr result (λ why. GoesOn self.old.port self.new.port × RefusesTurn K.gave_up why (option_and_then self.new.halt (λ token. option_map (λ q. q.rank) token.value.quitter)) self.old.port self.new.port) }
         ensures turns { OnOk result (Turns false self.old.port self.new.port) }
-        ensures none { OnOk result (self.new.quitter ≡ None) }
-        ensures stays { IsSome self.old.quitter → self.new.quitter ≡ self.old.quitter }
+        ensures none { OnOk result (option_and_then self.new.halt (λ token. option_map (λ q. q.rank) token.value.quitter) ≡ None) }
+        ensures stays { IsSome self.old.halt → self.new.halt ≡ self.old.halt }
     {
         let crew = self.crew;
-        if self.quitter.is_none() {
-            self.quitter = crew.quitter();
+        if self.halt.is_none() {
+            self.halt = crew.halt();
         }
-        if let Some(rank) = self.gave_up() {
+        if let Some(rank) = self.quitter() {
             return Err(TurnError::GaveUp(rank));
         }
         let turned = gossip(self.rt, alloc, self.bus, &mut self.port);
