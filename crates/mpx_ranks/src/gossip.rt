@@ -115,7 +115,7 @@ fn prune_on(port: &mut Port, name: &Name, number: u32)
 fn first_to_drop(alloc: Global, node: &Node) -> Result<Option<(Name, u32)>, OutOfMemory>
     ensures { FindsOne result (node_of node.now) }
 {
-    for (name, _known) in node.board().pair().first.entries() {
+    for (name, _) in node.board().pair().first.entries() {
         if let Some(number) = node.to_drop(name) {
             return Ok(Some((name.copy(alloc)?, number)));
         }
