@@ -101,7 +101,7 @@ impl<'a, L: Seat, O: Folds, K: Job, R: Wait> Member<'a, L, O, K, R> {
 
     // The rank of which it has heard that it gave up, where it has.
     fn quitter(&self) -> Option<u8>
-        ensures { result ≡ option_and_then self.now.halt (λ token. option_map (λ q. q.rank) token.value.quitter) }
+        ensures { result ≡ option_and_then (λ token. option_map (λ q. q.rank) token.value.quitter) self.now.halt }
     {
         let token = self.halt.as_ref()?;
         match &self.crew.halt.value(token).quitter {
@@ -139,7 +139,7 @@ impl<'a, L: Seat, O: Folds, K: Job, R: Wait> Host for Member<'a, L, O, K, R> {
 
     ghost turned = { λ a n b. GoesOn a.port b.port };
 
-    ghost turn_refused = { λ a why b. GoesOn a.port b.port × RefusesTurn K.gave_up why (option_and_then b.halt (λ token. option_map (λ q. q.rank) token.value.quitter)) a.port b.port };
+    ghost turn_refused = { λ a why b. GoesOn a.port b.port × RefusesTurn K.gave_up why (option_and_then (λ token. option_map (λ q. q.rank) token.value.quitter) b.halt) a.port b.port };
 
     // All that its port did tells which.
     ghost has_had = { λ m. HadIn m.port };
@@ -194,9 +194,9 @@ impl<'a, L: Seat, O: Folds, K: Job, R: Wait> Host for Member<'a, L, O, K, R> {
         ensures later { Later (node_in self.old.port) (node_in self.new.port) }
         ensures opened { (node_in self.new.port).opened ≡ (node_in self.old.port).opened }
         ensures counted { OnOk result (GoesOn self.old.port self.new.port) }
-        ensures refused { IfErr result (λ why. GoesOn self.old.port self.new.port × RefusesTurn K.gave_up why (option_and_then self.new.halt (λ token. option_map (λ q. q.rank) token.value.quitter)) self.old.port self.new.port) }
+        ensures refused { IfErr result (λ why. GoesOn self.old.port self.new.port × RefusesTurn K.gave_up why (option_and_then (λ token. option_map (λ q. q.rank) token.value.quitter) self.new.halt) self.old.port self.new.port) }
         ensures turns { OnOk result (Turns false self.old.port self.new.port) }
-        ensures none { OnOk result (option_and_then self.new.halt (λ token. option_map (λ q. q.rank) token.value.quitter) ≡ None) }
+        ensures none { OnOk result (option_and_then (λ token. option_map (λ q. q.rank) token.value.quitter) self.new.halt ≡ None) }
         ensures stays { IsSome self.old.halt → self.new.halt ≡ self.old.halt }
     {
         let crew = self.crew;
