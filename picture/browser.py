@@ -88,7 +88,8 @@ class Browser:
         self.ask("Emulation.setEmulatedMedia", features=[{"name": "prefers-color-scheme", "value": "dark" if dark else "light"}])
         begun = time.time()
         self.ask("Page.navigate", url="about:blank")
-        self.ask("Page.navigate", url="file://" + os.path.abspath(path))
+        path, mark, turn = path.partition("#")
+        self.ask("Page.navigate", url="file://" + os.path.abspath(path) + mark + turn)
         while not self.value("document.readyState === 'complete' && location.protocol === 'file:'"):
             time.sleep(0.02)
         return time.time() - begun

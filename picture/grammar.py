@@ -8,6 +8,7 @@ CALL = r"%s %s:(?: %s)+" % (NAME, NUMBER, NUMBER)
 HELD = r"(?:nothing|%s(?: \| %s)*)" % (CALL, CALL)
 SENT = re.compile(r"turn ({0}): ({0}) -> ({0}) (sent|lost) ({0}) bytes".format(NUMBER))
 TAKEN = re.compile(r"turn ({0}): ({0}) -> ({0}) (taken|again): ({0}) has ({1})".format(NUMBER, HELD))
+POSTS = re.compile(r"turn ({0}): rank ({0}) posts ({1}) ({0}), line ({0}): ([a-z_]+[ \t].*)".format(NUMBER, NAME))
 RESULT = re.compile(r"turn ({0}): rank ({0}) result (.+)".format(NUMBER))
 # What a rank prints, as docs/SCRIPTS.md has it.
 WORDS = r"ok|none|empty|null|idle|ident|congruent|similar|unequal|comm \d+ \d+|refused [A-Z]\w+|fault [A-Z]\w+ at \d+"
@@ -32,10 +33,11 @@ class Checker:
         self.turn, self.came, self.count = 0, 0, 0  # the turn that lines are of, the last turn in which frames came, how many events there were
         self.sent, self.taken, self.times = Counter(), Counter(), {}
         self.boards, self.gone, self.lines = {}, {}, {}
+        self.posts, self.seen = {}, {}  # by call and rank the turn of its post, and the turn in which anybody is said to have it first
 
     def add(self, line):
         """Whether the line is an event. One that is nearly one is wrong."""
-        for form, what in ((SENT, self.sending), (TAKEN, self.taking), (RESULT, self.printing)):
+        for form, what in ((SENT, self.sending), (TAKEN, self.taking), (POSTS, self.posting), (RESULT, self.printing)):
             found = form.fullmatch(line)
             if found:
                 what(*found.groups())
@@ -45,7 +47,7 @@ class Checker:
         return False
 
     def sending(self, turn, sender, to, what, size):
-        """Parts of a list go out in one turn, and come in the turns behind it."""
+        """Parts of a list go out in one turn, and come in the turns after it."""
         turn, sender, to = int(turn), int(sender), int(to)
         need(turn >= self.turn and turn > self.came, "a frame goes out in a turn that is over")
         need(sender < 64 and to < 64 and int(size) > 0, "64 processes, and no empty frame")
@@ -74,16 +76,28 @@ class Checker:
             ranks = [int(it) for it in posts.split()]
             need(call not in now and ranks == sorted(set(ranks)) and ranks[-1] < 64, "each call once, and ranks in their order")
             now[call] = set(ranks)
+            for rank in ranks:
+                self.seen.setdefault((call, rank), self.turn)
         before, gone = self.boards.get(process, {}), self.gone.setdefault(process, set())
         need(not gone & set(now), "a call that was dropped is told again")
         need(all(before[call] <= now[call] for call in before if call in now), "a post is gone")
         gone |= set(before) - set(now)
         self.boards[process] = now
 
+    def posting(self, turn, rank, name, call, line, words):
+        """A turn's posts come before its frames. A rank's posts on a communicator are numbered from 0 on."""
+        turn, rank, call = int(turn), int(rank), int(call)
+        need(turn > self.came and turn >= self.turn, "a post comes after its turn's frames")
+        need(rank < 64 and int(line) > 1, "64 ranks, and a line after that of `ranks`")
+        need(("%s %d" % (name, call), rank) not in self.posts, "a rank posts to a call twice")
+        need(not call or ("%s %d" % (name, call - 1), rank) in self.posts, "a rank leaves a call out")
+        self.turn = turn
+        self.posts["%s %d" % (name, call), rank] = turn
+
     def printing(self, turn, rank, line):
-        """A turn's results stand before its frames."""
+        """A turn's results come before its frames."""
         turn = int(turn)
-        need(turn > self.came and turn >= self.turn, "a result stands behind its turn's frames")
+        need(turn > self.came and turn >= self.turn, "a result comes after its turn's frames")
         need(LINE.fullmatch(line), "no rank prints this")
         self.turn = turn
         self.lines.setdefault(int(rank), []).append(line)
@@ -92,6 +106,8 @@ class Checker:
         """Each frame that was sent has come, unless the run ended before."""
         for (turn, sender, to), count in self.sent.items():
             need(turn > self.came or self.taken[turn, sender, to] == count, "turn %d: %d -> %d was sent and isn't taken" % (turn, sender, to))
+        for call, rank in self.seen if self.posts else ():
+            need(self.posts.get((call, rank), self.came + 1) <= self.seen[call, rank], "the post of rank %d to %s is held before it is made" % (rank, call))
 
 
 def hold(lines):

@@ -1,31 +1,53 @@
 "use strict";
-// The picture of a turn: processes as rows, frames as arrows from left to right, and behind them what each process then has, call by call.
+// The picture of a turn, as SVG: processes as rows, frames as arrows from left to right, then what each process has of the calls, and where it is.
 
 const SIZES = [ // up to so many processes: height of a row, side of a square, width of the arrows, size of text
   [4, 54, 18, 260, 14], [8, 42, 16, 260, 14], [16, 28, 12, 280, 13], [32, 20, 10, 300, 12], [64, 16, 8, 300, 12],
 ];
+const NARROW = 640, MOST_BLOCKS = 12, GAP = 16;
 
-// Where everything stands, in a picture that is so wide.
-function layoutOf(wide) {
-  const [, row, side, arrowsWide, size] = SIZES.find(([most]) => run.processes <= most), least = wide < 1000 ? 180 : arrowsWide;
-  const block = Math.max(run.ranks * side, 88) + 20, name = 70, waits = 200;
-  const room = wide - name - least - waits - 30;
-  const blocks = Math.max(1, Math.min(run.calls.length, 12, Math.floor(room / block)));
-  const arrows = wide < 720 ? least : Math.max(least, Math.min(480, least + room - blocks * block));
-  const from = name + 8, to = from + arrows, boards = to + 16;
-  const left = boards + blocks * block;
-  return { row, side, size, block, blocks, from, to, boards, left, top: 62, wide: left + waits, high: 62 + row * run.processes + 8, waits };
+function blockWide(run, call, side, isNarrow) {
+  return Math.max(listed(run.members[call]).length * side, isNarrow || run.processes > 16 ? 98 : 128) + GAP;
 }
 
+// The blocks of squares that are shown: those of the chosen call and of the ones after it, or of the newest ones; as many as fit.
+function blocksOf(run, turn, chosen, room, side, begin, isNarrow) {
+  const calls = chosen >= 0 ? run.calls.map((_, call) => call).filter((call) => call >= chosen) : numbers(run.newest[turn] + 1).reverse();
+  const blocks = [];
+  let left = room;
+  for (const call of calls.filter((it) => it < run.calls.length)) {
+    const wide = blockWide(run, call, side, isNarrow);
+    if (blocks.length && (wide > left || blocks.length === MOST_BLOCKS)) break;
+    blocks.push({ call, wide, ranks: listed(run.members[call]) });
+    left -= wide;
+  }
+  blocks.sort((one, other) => one.call - other.call);
+  blocks.reduce((x, block) => ((block.x = x), x + block.wide), begin);
+  return blocks;
+}
+
+// Where all parts of the picture of a turn are, in a picture of this width. In a narrow one a row has its text above its arrow.
+function layoutOf(run, wide, turn, chosen) {
+  const isNarrow = wide < NARROW, [, row, most, arrowsWide, size] = SIZES.find(([many]) => run.processes <= many);
+  const name = isNarrow ? 6 : 70, status = isNarrow ? 0 : 230, from = name + 8, least = isNarrow ? 96 : wide < 1000 ? 180 : arrowsWide;
+  const widest = Math.max(1, ...run.members.map((members) => listed(members).length)), room = wide - from - least - 16 - status;
+  const side = Math.max(3, Math.min(most, Math.floor((room - GAP) / widest)));
+  const needed = run.calls.map((_, call) => blockWide(run, call, side, isNarrow)).sort((one, other) => other - one).slice(0, MOST_BLOCKS).reduce((sum, it) => sum + it, 0);
+  const arrows = isNarrow ? least : Math.max(least, Math.min(480, least + room - needed));
+  const to = from + arrows, boards = to + 16, left = isNarrow ? 74 : wide - 2 - status;
+  const blocks = blocksOf(run, turn, chosen, (isNarrow ? wide + GAP : left) - boards, side, boards, isNarrow), end = blocks.reduce((x, block) => Math.max(x, block.x + block.wide), boards);
+  const high = isNarrow ? Math.max(34, Math.min(row, 48)) : row, top = 62;
+  return { isNarrow, row: high, side, tall: Math.min(most, isNarrow ? high - 22 : row), size, from, to, boards, blocks, left: Math.max(left, isNarrow ? 0 : end), top,
+    wide: Math.max(wide - 2, isNarrow ? end - GAP : end + status), high: top + high * run.processes + 8, status: isNarrow ? wide - 80 : status };
+}
+
+// The middle of a process's arrows and squares, and that of its text.
 function middle(layout, process) {
-  return layout.top + layout.row * (process + 0.5);
+  return layout.top + layout.row * (process + 0.5) + (layout.isNarrow ? 8 : 0);
 }
 
-// The calls that are shown: the chosen one and those behind it, or the newest.
-function shownCalls(layout, turn, chosen) {
-  const begin = chosen >= 0 ? chosen : newest[turn] - layout.blocks + 1;
-  const first = Math.max(0, Math.min(begin, run.calls.length - layout.blocks));
-  return numbers(layout.blocks).map((place) => first + place).filter((call) => call < run.calls.length);
+function textMiddle(layout, process) {
+  return layout.isNarrow ? layout.top + layout.row * process + 9 : middle(layout, process);
 }
 
 function escaped(text) {
@@ -33,7 +55,7 @@ function escaped(text) {
 }
 
 function label(x, y, text, kind = "") {
-  return `<text x="${x}" y="${y}" class="${kind}">${escaped(text)}</text>`;
+  return `<text x="${x.toFixed(1)}" y="${y.toFixed(1)}" class="${kind}">${escaped(text)}</text>`;
 }
 
 function drawing(wide, high, marks) {
@@ -67,112 +89,93 @@ function broken(layout, sender, to) {
 }
 
 // A turn's frames: those that bring something new above the others. Of many processes, those of the chosen one stand out.
-function frameMarks(layout, turn, chosen) {
+function frameMarks(run, layout, turn, chosen) {
   const marks = [], { sent, taken } = run.turns[turn - 1] || { sent: [], taken: [] };
   const dim = (sender, to) => (chosen >= 0 && sender !== chosen && to !== chosen ? " dim" : "");
   const mark = (order, sender, to, drawn, told) => {
-    const title = `<title>${escaped(`${nameOf(sender)} to ${nameOf(to)}${told}`)}</title>`;
+    const title = `<title>${escaped(`${nameOf(run, sender)} to ${nameOf(run, to)}${told}`)}</title>`;
     marks.push([order + (dim(sender, to) ? 0 : 10), `<g class="frame${dim(sender, to)}">${title}${drawn}</g>`]);
   };
-  for (const [sender, to, bytes, lost] of sent) if (lost) mark(2, sender, to, broken(layout, sender, to), `, ${bytes} bytes: lost`);
-  for (const [sender, to, again, change] of taken) {
-    const kind = change.brought.length ? "new" : "old";
-    const told = (again ? ", once more" : "") + ": brings " + (change.brought.length ? bringsOf(change.brought) : "nothing new");
-    mark(kind === "new" ? 3 : 1, sender, to, arrow(layout, sender, to, kind, again), told);
+  for (const { from, to, bytes, lost } of sent) if (lost) mark(2, from, to, broken(layout, from, to), `, ${bytes} bytes: lost`);
+  for (const { from, to, again, brought } of taken) {
+    const kind = brought.length ? "new" : "old";
+    const told = (again ? ", once more" : "") + ": brings " + (brought.length ? bringsOf(run, brought) : "nothing new");
+    mark(kind === "new" ? 3 : 1, from, to, arrow(layout, from, to, kind, again), told);
   }
   return marks.sort(([one], [other]) => one - other).map(([, text]) => text).join("");
 }
 
-// Squares of one kind in one path: of each rank in the list. Whole ones may have a hole; outlines have room for their line.
-function squares(layout, x, y, ranks, kind, hole = 0, inset = 0) {
-  if (!ranks.length) return "";
-  const side = layout.side - (layout.side > 10 ? 3 : 1.5), middle = x + side / 2;
-  const box = (size) => [-size / 2, ` ${y - size / 2}h${size}v${size}h${-size}z`];
-  const [left, whole] = box(side - 2 * inset), [within, inner] = box(Math.round(side * hole * 4) / 4);
-  const path = ranks.map((rank) => "M" + (middle + rank * layout.side + left) + whole + (hole ? "M" + (middle + rank * layout.side + within) + inner : ""));
+// Squares of one kind in one path, at these places. Whole ones may have a hole; outlines have room for their line.
+function squares(layout, x, y, places, kind, hole = 0, inset = 0) {
+  if (!places.length) return "";
+  const gap = layout.side > 10 ? 3 : layout.side > 5 ? 1.5 : 0.5, wide = layout.side - gap, high = layout.tall - gap;
+  const box = (w, h) => [-w / 2, ` ${y - h / 2}h${w}v${h}h${-w}z`], middle = x + wide / 2;
+  const [left, whole] = box(wide - 2 * inset, high - 2 * inset), [within, inner] = box(Math.round(wide * hole * 4) / 4, Math.round(high * hole * 4) / 4);
+  const path = places.map((place) => "M" + (middle + place * layout.side + left) + whole + (hole ? "M" + (middle + place * layout.side + within) + inner : ""));
   return `<path d="${path.join("")}" class="${kind}"/>`;
 }
 
-// What a process has of a call: a square for each member. What a rank lacks that has posted is told apart by whether anybody is seen to have it.
-function boardMarks(layout, process, call, place, turn) {
-  const board = boardOf(process, call, turn), all = allOf(call), x = layout.boards + place * layout.block, y = middle(layout, process);
-  const title = `<title>${escaped(`${nameOf(process)}, ${callName(call)}: ${boardWords(process, call, turn)}`)}</title>`;
-  if (board.dropped) return `<g>${title}${squares(layout, x, y, listed(all), "over")}</g>`;
-  const lacks = listed(all & ~board.ranks), waits = hasPosted(call, process, turn), made = (rank) => hasPosted(call, rank, turn);
-  const parts = [squares(layout, x, y, listed(board.ranks & ~board.fresh), "has"), squares(layout, x, y, listed(board.fresh), "fresh", 0.34)];
-  if (!waits) parts.push(squares(layout, x, y, lacks, "none", 0, 0.5));
-  if (waits) parts.push(squares(layout, x, y, lacks.filter(made), "lacks", 0, 0.75));
-  if (waits) parts.push(squares(layout, x, y, lacks.filter((rank) => !made(rank)), "missing", 0.3, 0.75));
+// What a process has of a call: a square for each member. What a rank lacks that has called is told apart by whether that member has called, too.
+function boardMarks(run, layout, process, { call, x, ranks }, turn) {
+  const board = boardOf(run, process, call, turn), y = middle(layout, process), has = (set) => (rank) => (set & bit(rank)) !== 0n;
+  const title = `<title>${escaped(`${nameOf(run, process)}, ${callName(run, call)}: ${boardWords(run, process, call, turn)}`)}</title>`;
+  const draw = (test, ...rest) => squares(layout, x, y, ranks.map((rank, place) => (test(rank) ? place : -1)).filter((place) => place >= 0), ...rest);
+  if (board.dropped) return `<g>${title}${draw(() => true, "over")}</g>`;
+  const waits = hasPosted(run, call, process, turn), made = (rank) => hasPosted(run, call, rank, turn), lacks = (rank) => !has(board.ranks)(rank);
+  const parts = [draw(has(board.ranks & ~board.fresh), "has"), draw(has(board.fresh), "fresh", 0.34)];
+  if (!waits) parts.push(draw(lacks, "none", 0, 0.5));
+  if (waits) parts.push(draw((rank) => lacks(rank) && made(rank), "lacks", 0, 0.75));
+  if (waits) parts.push(draw((rank) => lacks(rank) && !made(rank), "missing", 0.3, 0.75));
   return `<g>${title}${parts.join("")}</g>`;
 }
 
-// The head of a block of squares: its communicator, its number, and ranks.
-function blockHead(layout, call, place) {
-  const x = layout.boards + place * layout.block, name = run.calls[call], blank = name.lastIndexOf(" "), most = Math.floor((layout.block - 14) / 7);
-  const communicator = name.slice(0, blank), short = communicator.length <= most ? communicator : "…" + communicator.slice(1 - most);
-  const every = run.ranks <= 8 ? 1 : run.ranks <= 32 ? 4 : 8;
-  const number = (rank) => label(x + (rank + 0.42) * layout.side, layout.top - 6, String(rank), "small middle");
-  const ranks = everyone.filter((rank) => rank % every === 0).map(number);
-  return label(x, 16, short, "strong") + label(x, 33, "call " + name.slice(blank + 1), "") + ranks.join("");
+// The head of a block of squares: what the script calls it, its communicator and number, and ranks.
+function blockHead(run, layout, { call, x, wide, ranks }) {
+  const letters = (size) => Math.floor((wide - 8) / size), name = nameIn(run.calls[call]), number = run.calls[call].slice(name.length + 1);
+  const title = callTitle(run, call), most = letters(6.4) - `call ${number} of `.length, end = name.slice(1 - Math.max(most, 2));
+  const short = name.length <= most ? name : "…" + end.slice(Math.max(0, end.indexOf("/")));
+  const every = Math.max(1, Math.ceil(16 / layout.side)), numbered = ranks.map((rank, place) => (place % (ranks.length <= 8 && every === 1 ? 1 : every === 1 ? 4 : every * 2 > 4 ? 8 : 4) ? "" : label(x + (place + 0.42) * layout.side, layout.top - 6, String(rank), "small middle")));
+  return `<g><title>${escaped(`${title ? title + ": " : ""}${callName(run, call)}`)}</title>` + label(x, 16, title ? shortened(title, letters(8.4)) : `call ${number}`, "strong") +
+    label(x, 33, title ? `call ${number} of ${short}` : short, "small") + numbered.join("") + "</g>";
 }
 
-// Behind a row: what the rank prints in this turn, and whose posts it lacks.
-function rowEnd(layout, process, turn, waits) {
+// Of a process: what it prints in this turn, and where it then is.
+function rowEnd(run, layout, process, turn) {
   const lines = run.turns[turn - 1] ? run.turns[turn - 1].results.filter(([rank]) => rank === process).map(([, line]) => line) : [];
-  const mine = waits.filter(([rank]) => rank === process);
-  const lacking = everyone.filter((other) => mine.some(([, , made, unmade]) => made.includes(other) || unmade.includes(other)));
-  const both = lines.length && lacking.length && layout.row > 30, y = middle(layout, process), x = layout.left, parts = [];
-  const most = Math.floor(layout.waits / 8), few = spoken(lacking);
-  const wait = (isSaid(turn) ? "waits for " : "lacks ") + (few.length > most - 10 ? lacking.length + " ranks" : few);
+  const status = statusOf(run, process, turn), isTwo = lines.length && status && !layout.isNarrow && layout.row > 40;
+  const y = textMiddle(layout, process), letter = layout.size * 0.61, most = Math.floor((layout.status - 12) / letter), parts = [];
+  const text = shortened(lines.join("; "), isTwo || !status ? most : Math.max(10, most - 4 - Math.ceil(status.length * 0.9))), wide = text.length * letter + 10;
   if (lines.length) {
-    const text = shortened(lines.join("; "), most - 2), here = both ? y - 10 : y, high = Math.min(layout.size * 1.35, layout.row - 2);
-    const box = `width="${text.length * layout.size * 0.61 + 10}" height="${high}" rx="3" class="result"`;
-    parts.push(`<rect x="${x - 5}" y="${here - high / 2}" ${box}/>` + label(x, here + layout.size * 0.35, text, "value"));
+    const here = isTwo ? y - 11 : y, high = Math.min(layout.size * 1.35, layout.row - 2);
+    parts.push(`<rect x="${layout.left - 5}" y="${here - high / 2}" width="${wide.toFixed(1)}" height="${high}" rx="3" class="result"/>` + label(layout.left, here + layout.size * 0.35, text, "value"));
   }
-  if (lacking.length && (!lines.length || both)) parts.push(label(x, (both ? y + 12 : y) + layout.size * 0.35, wait, "wait"));
-  return parts.join("");
+  const x = layout.left + (lines.length && !isTwo ? wide : 0), room = Math.floor((layout.left + layout.status - x) / (layout.size * 0.53));
+  const full = `<title>${escaped(`${nameOf(run, process)}: ${[...lines, status].join("; ")}`)}</title>`;
+  if (status) parts.push(label(x, (isTwo ? y + 12 : y) + layout.size * 0.35, shortened(status, room), status.includes("waits") ? "wait over-arrows" : "quiet over-arrows"));
+  return parts.length ? `<g>${full}${parts.join("")}</g>` : "";
 }
 
 // Each process's name, its dots, and a stripe where it is the chosen one.
-function rowStart(layout, process, chosen) {
+function rowStart(run, layout, process, chosen) {
   const y = middle(layout, process), stripe = process === chosen ? "chosen" : process % 2 ? "odd" : "even";
-  return `<g class="row" data-process="${process}"><rect x="0" y="${y - layout.row / 2}" width="${layout.wide}" height="${layout.row}" class="stripe ${stripe}"/>` +
-    label(6, y + layout.size * 0.35, nameOf(process), process === chosen ? "strong" : "") +
+  return `<g class="row" data-process="${process}"><rect x="0" y="${layout.top + layout.row * process}" width="${layout.wide}" height="${layout.row}" class="stripe ${stripe}"/>` +
+    (layout.isNarrow ? "" : nameMark(run, layout, process, chosen)) +
     `<circle cx="${layout.from}" cy="${y}" r="2.5" class="dot"/><circle cx="${layout.to}" cy="${y}" r="2.5" class="dot"/></g>`;
 }
 
-// The whole picture after a turn, as SVG.
-function pictureOf(layout, turn, process, call) {
-  const calls = shownCalls(layout, turn, call), waits = waitsNow(turn), processes = numbers(run.processes);
-  const head = label(layout.from - 4, 33, "frames of " + theTurn(turn), "strong") + label(layout.from - 4, layout.top - 6, "from", "small") +
-    label(layout.to - 10, layout.top - 6, "to", "small") + label(layout.left, 33, isSaid(turn) ? "prints, waits" : "prints, lacks", "strong") +
-    calls.map((shown, place) => blockHead(layout, shown, place)).join("");
-  const rows = processes.map((it) => rowStart(layout, it, process)).join("");
-  const boards = processes.map((it) => calls.map((shown, place) => boardMarks(layout, it, shown, place, turn)).join("")).join("");
-  const ends = processes.map((it) => rowEnd(layout, it, turn, waits)).join("");
-  const marks = head + rows + frameMarks(layout, turn, process) + boards + ends;
-  return drawing(layout.wide, layout.high, `<g style="font-size: ${layout.size}px">${marks}</g>`);
+function nameMark(run, layout, process, chosen) {
+  return label(6, textMiddle(layout, process) + layout.size * 0.35, nameOf(run, process), process === chosen ? "strong over-arrows" : "over-arrows");
 }
 
-// Who waits for whom as a ring of ranks: an arrow to each rank whose post is lacking; dashed where another process has that post.
-function ringOf(waits) {
-  const size = 250, at = (rank) => {
-    const turned = (2 * Math.PI * rank) / run.ranks - Math.PI / 2;
-    return [size / 2 + 100 * Math.cos(turned), size / 2 + 100 * Math.sin(turned)];
-  };
-  const high = Math.max(...everyone.map((rank) => at(rank)[1])) + 20;
-  const drawn = new Map();
-  for (const [rank, , made, unmade] of waits) {
-    for (const other of made) if (!drawn.has(rank + ">" + other)) drawn.set(rank + ">" + other, [rank, other, "wayward late"]);
-    for (const other of unmade) drawn.set(rank + ">" + other, [rank, other, "wayward"]);
-  }
-  const arrows = [...drawn.values()].map(([rank, other, kind]) => {
-    const [x1, y1] = at(rank), [x2, y2] = at(other), long = Math.hypot(x2 - x1, y2 - y1), dx = (x2 - x1) / long, dy = (y2 - y1) / long;
-    const bow = [(x1 + x2) / 2 - dy * 14, (y1 + y2) / 2 + dx * 14], end = [x2 - dx * 18 - dy * 3, y2 - dy * 18 + dx * 3];
-    const head = `${end[0]},${end[1]} ${end[0] - 9 * dx - 5 * dy},${end[1] - 9 * dy + 5 * dx} ${end[0] - 9 * dx + 4 * dy},${end[1] - 9 * dy - 4 * dx}`;
-    const line = `M${x1 + dx * 16} ${y1 + dy * 16}Q${bow[0]} ${bow[1]} ${end[0] - 6 * dx} ${end[1] - 6 * dy}`;
-    return `<path d="${line}" class="${kind}"/><polygon points="${head}" class="wayhead"/>`;
-  });
-  const knot = (rank, [x, y]) => `<circle cx="${x}" cy="${y}" r="14" class="knot"/>` + label(x, y + 5, String(rank), "middle");
-  return drawing(size, high, arrows.join("") + everyone.map((rank) => knot(rank, at(rank))).join(""));
+// The whole picture after a turn. In a narrow one names and texts are above the arrows.
+function pictureOf(run, layout, turn, chosen) {
+  const processes = numbers(run.processes);
+  const head = (layout.isNarrow ? "" : label(layout.from - 4, 33, "frames of " + theTurn(turn), "strong")) + label(layout.from - 4, layout.top - 6, "from", "small") +
+    label(layout.to - 10, layout.top - 6, "to", "small") + (layout.isNarrow ? "" : label(layout.left, 33, "prints, and where it is", "strong")) +
+    layout.blocks.map((block) => blockHead(run, layout, block)).join("");
+  const rows = processes.map((it) => rowStart(run, layout, it, chosen)).join("");
+  const boards = processes.map((it) => layout.blocks.map((block) => boardMarks(run, layout, it, block, turn)).join("")).join("");
+  const ends = processes.map((it) => (layout.isNarrow ? nameMark(run, layout, it, chosen) : "") + rowEnd(run, layout, it, turn)).join("");
+  const marks = head + rows + frameMarks(run, layout, turn, chosen) + boards + ends;
+  return drawing(layout.wide, layout.high, `<g style="font-size: ${layout.size}px"${layout.isNarrow ? ' class="narrow"' : ""}>${marks}</g>`);
 }

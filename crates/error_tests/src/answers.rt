@@ -48,8 +48,8 @@ fn calls(rt: HostRuntime) -> Result<(), Fail> {
     )?;
     call_shows(
         alloc,
-        CallError::GaveUp(request(alloc, &ops)?, 2),
-        "posted and not done, and rank 2 gave up",
+        CallError::GaveUp(request(alloc, &ops)?),
+        "posted and not done, and the host gave up",
     )
 }
 
@@ -64,8 +64,8 @@ fn waits(rt: HostRuntime) -> Result<(), Fail> {
     wait_shows(alloc, WaitError::OutOfMemory(()), "out of memory")?;
     wait_shows(
         alloc,
-        WaitError::GaveUp((), 2),
-        "not done, and rank 2 gave up",
+        WaitError::GaveUp(()),
+        "not done, and the host gave up",
     )?;
     wait_shows(alloc, WaitError::LetGo(()), "done, and its result let go")
 }

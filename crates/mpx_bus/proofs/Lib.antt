@@ -1,5 +1,6 @@
 pub mod Spelled
 pub mod Journals
+pub mod Counted
 pub mod Moves
 pub mod Makes
 pub mod Meets

@@ -17,6 +17,7 @@ use Rattle.mpx_bus.specs.Acts.{DidIn, at_start}
 use Rattle.mpx_bus.specs.Views.{no_setup, maker, maker_of, nobody, opened, seen_as}
 use Rattle.mpx_bus.specs.Rule.{Seating, IsPushed, planned_posts, world_of, FitsSeat, FitsView, SoundQueue}
 use Rattle.mpx_bus.specs.Ports.{PortView, IsNew, IsFleet}
+use Rattle.mpx_bus.proofs.Counted.{counted_forked}
 use Rattle.mpx_bus.proofs.Moves.{one_seat, Keeps, pushed_set, none_some}
 use Rattle.mpx_post.proofs.Lists.{slice_get-append}
 
@@ -62,6 +63,7 @@ begins =
       may = tt;
       planned = λ planned p. absurd (true≢false (sym planned));
       frames = λ k bytes e. absurd (nothing_there k bytes e);
+      counted = refl;
       passes = λ pass v e. let o = one_view maker v pass e in subst (λ (y : ℕ × View). FitsView W seat false no_setup 0 y.0 y.1) (λ i. (sym o.0 i, o.1 i))
           (record { makes = λ _. (refl, (λ p le. (refl, refl)), refl); names = λ n. absurd (true≢false (sym n)); seats = λ place s e'. absurd (nothing_there place s e') });
     }
@@ -97,6 +99,7 @@ names pass v setup is items views h at =
       may = tt;
       planned = λ planned p. nothing_begins (planned_posts setup p);
       frames = λ k bytes e. absurd (unpushed bytes (h.frames k bytes e));
+      counted = counted_forked items views pass v w nobody at none refl refl refl h.counted;
       passes = λ q u e. ⊎_elim
           (λ (old : get_elem? (set views pass w) q ≡ some u). ⊎_elim
           (λ (x : (q ≡ pass) × (w ≡ u)). subst (λ (y : ℕ × View). Fit y.0 y.1) (λ i. (sym x.0 i, x.1 i))
@@ -139,6 +142,7 @@ seats pass v setup made is items views h at =
       may = h.may;
       planned = h.planned;
       frames = λ k bytes e. pushed_fork views pass v w new bytes at none (h.frames k bytes e);
+      counted = counted_forked items views pass v w new at none refl refl refl h.counted;
       passes = λ q u e. ⊎_elim
           (λ (old : get_elem? (set views pass w) q ≡ some u). ⊎_elim
           (λ (x : (q ≡ pass) × (w ≡ u)). subst (λ (y : ℕ × View). Fit y.0 y.1) (λ i. (sym x.0 i, x.1 i))

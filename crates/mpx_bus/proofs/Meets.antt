@@ -19,6 +19,7 @@ use Rattle.mpx_bus.specs.Acts.{DidIn, IsAhead, process_at, start_of}
 use Rattle.mpx_bus.specs.Views.{standing, seat_of, nobody, met}
 use Rattle.mpx_bus.specs.Rule.{Seating, IsSent, IsPushed, world_of, FitsSeat, FitsView, SoundQueue, StandsForOneWorld}
 use Rattle.mpx_bus.specs.Ports.{IsPort, port_view, HaveMet}
+use Rattle.mpx_bus.proofs.Counted.{counted_merged}
 use Rattle.mpx_bus.proofs.Journals.{onward}
 use Rattle.mpx_bus.proofs.Moves.{at_here, my_seat, one_seat, none_some, pair_of_some, apart}
 use Rattle.mpx_post.proofs.Lists.{slice_get-append}
@@ -73,6 +74,7 @@ merges pass v other u is is' items views h at ne there =
       may = h.may;
       planned = h.planned;
       frames = λ k bytes e. pushed_join views pass other v u both bytes ne at at' is' all (h.frames k bytes e);
+      counted = counted_merged items views pass other v u at there h.counted;
       passes = λ q y e. ⊎_elim
           (λ (x : (q ≡ other) × (nobody ≡ y)). subst (λ (z : ℕ × View). Fit z.0 z.1) (λ i. (sym x.0 i, x.1 i))
           (record { makes = λ m. absurd (true≢false (sym m)); names = λ n. absurd (true≢false (sym n)); seats = λ place y' e'. absurd (nothing_there place y' e') }))

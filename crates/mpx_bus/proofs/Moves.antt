@@ -1,5 +1,5 @@
 -- Each step on the queue keeps the rule.
-use Rattle.std.proofs.Common.{◌≡◌, ◌≢◌, ℕ, zero, suc, List, [], ◌∷◌, ◌++◌, length, set, Some, None, true≢false, slice_get, refl, sym, ap, ◌∙◌, subst, ⊎_elim}
+use Rattle.std.proofs.Common.{◌≡◌, ◌≢◌, ℕ, zero, suc, ◌+◌, List, [], ◌∷◌, ◌++◌, length, set, Some, None, true≢false, slice_get, refl, sym, ap, ◌∙◌, subst, ⊎_elim, arith, length-append}
 use Rattle.std.proofs.lemmas.Bool.{cases_eq}
 use Rattle.std.proofs.lemmas.List.{append-nil}
 use mathlib.Core.Option.{some, some-injective, some-ne-none}
@@ -21,6 +21,8 @@ use Rattle.mpx_bus.specs.declared.act.View.{View}
 use Rattle.mpx_bus.specs.Acts.{DidIn, IsAhead, MaySendFrame, MayPush, at_start, process_at}
 use Rattle.mpx_bus.specs.Views.{standing, standing_as, seen_as, seat_of, after_push, after_pop}
 use Rattle.mpx_bus.specs.Rule.{Seating, IsSent, IsPushed, BeginsPlan, IsPlanned, planned_posts, world_of, Stood, FitsSeat, FitsView, SoundQueue}
+use Rattle.mpx_bus.specs.Counted.{pushes_by, pops_by, pushes_in, pops_in}
+use Rattle.mpx_bus.proofs.Counted.{ahead_moves_none, counted_moved, total_append}
 use Rattle.mpx_bus.proofs.Journals.{after-append, one_of, slice_get-append_cases, did_before, did_last, did_now, did_ahead, pushed_before, popped_before, sent_later, Onward, onward, onward_sends}
 
 -- of a list of one
@@ -72,8 +74,9 @@ pub moved : (items new : List (List ℕ)) (views : List View) (pass : ℕ) (v : 
     → ((bytes : List ℕ) → DidIn journal (A.Popped bytes) → IsSent ((world_of h.setup h.happenings).parts ++ more) bytes)
     → IsPlanned h.setup (seat_of v).me journal
     → ((k : ℕ) (bytes : List ℕ) → slice_get new k ≡ Some bytes → IsPushed (set views pass (standing_as v journal)) bytes)
+    → pushes_in journal + pops_in (seat_of v).journal + length items ≡ pops_in journal + pushes_in (seat_of v).journal + length new
     → SoundQueue new (set views pass (standing_as v journal)) × Stood h.setup (seat_of v).me journal
-moved items new views pass v journal more h at is o pushed popped plan frames =
+moved items new views pass v journal more h at is o pushed popped plan frames moves =
     let s : Seen = seat_of v in
     let t : Seen = seen_as s.me journal in
     let w : View = standing_as v journal in
@@ -96,6 +99,7 @@ moved items new views pass v journal more h at is o pushed popped plan frames =
         may = o.may;
         planned = planned;
         frames = frames;
+        counted = counted_moved items new views pass v journal at is moves h.counted;
         passes = λ q u e. ⊎_elim
             (λ (x : (q ≡ pass) × (w ≡ u)). subst (λ (y : ℕ × View). Fit y.0 y.1) (λ i. (sym x.0 i, x.1 i))
             (record {
@@ -209,7 +213,14 @@ pushes n pass v journal bytes is ahead plan may items views room h at =
     (still_planned h.setup s.me journal new same plan')
     (λ k b e. ⊎_elim (λ (old : slice_get items k ≡ Some b). pushed_set views pass v w b at keeps (h.frames k b old))
     (λ (last : (j : ℕ) × (slice_get (bytes ∷ []) j ≡ Some b)). record { pass = pass; view = w; here = at_here views pass v w at; place = 0; seen = seen_as s.me new; there = refl; pushed = subst (λ y. DidIn new (A.Pushed y)) (one_of bytes b last.0 last.1) (did_last journal (A.Pushed bytes)) })
-    (slice_get-append_cases items (bytes ∷ []) k b e)) in
+    (slice_get-append_cases items (bytes ∷ []) k b e))
+    (let none = ahead_moves_none v.setup s.me s.journal journal ahead in
+    let a = none.0 in
+    let b = none.1 in
+    let c : pushes_in new ≡ pushes_in journal + 1 = total_append pushes_by journal (A.Pushed bytes ∷ []) in
+    let d : pops_in new ≡ pops_in journal + 0 = total_append pops_by journal (A.Pushed bytes ∷ []) in
+    let e : length (items ++ bytes ∷ []) ≡ length items + 1 = length-append items (bytes ∷ []) in
+    omega (arith, a, b, c, d, e)) in
     (w, all.0, (refl, subst (λ (u : Setup). Stood u s.me new) (sym setup) all.1))
 
 pub pops : (pass : ℕ) (v : View) (journal : List Act) → v ≡ standing v.setup (seat_of v ∷ []) → IsAhead v.setup (seat_of v).me (seat_of v).journal journal
@@ -237,5 +248,12 @@ pops pass v journal is ahead plan bytes items views h at =
     (λ b d. ⊎_elim (λ (old : DidIn journal (A.Popped b)). sent_later W.parts [] b (mine.popped b (popped_before s.journal journal b ahead old)))
     (λ (last : A.Popped bytes ≡ A.Popped b). subst (IsSent (W.parts ++ [])) (same_popped bytes b last) (sent_later W.parts [] bytes was)) (did_now journal (A.Popped b) (A.Popped bytes) d))
     (still_planned h.setup s.me journal new same plan')
-    (λ k b e. pushed_set views pass v w b at keeps (h.frames (suc k) b e)) in
+    (λ k b e. pushed_set views pass v w b at keeps (h.frames (suc k) b e))
+    (let none = ahead_moves_none v.setup s.me s.journal journal ahead in
+    let a = none.0 in
+    let b = none.1 in
+    let c : pushes_in new ≡ pushes_in journal + 0 = total_append pushes_by journal (A.Popped bytes ∷ []) in
+    let d : pops_in new ≡ pops_in journal + 1 = total_append pops_by journal (A.Popped bytes ∷ []) in
+    let e : length (bytes ∷ items) ≡ length items + 1 = omega arith in
+    omega (arith, a, b, c, d, e)) in
     (w, all.0, (refl, subst (λ (u : Setup). Stood u s.me new) (sym setup) all.1, (was.view, was.spells)))

@@ -12,12 +12,20 @@ use Rattle.mpx_bus.specs.declared.port.Pop.{Pop}
 use Rattle.mpx_bus.specs.declared.port.Pop.TheVariants as O
 use Rattle.mpx_node.specs.Nodes.{NodeView, StopsTaking, learn}
 use Rattle.mpx_bus.specs.Acts.{part_of}
-use Rattle.mpx_bus.specs.Ports.{PortView, CanPush, HasListed, node_in}
+use Rattle.crossbeam_queue.specs.Fifo.{Held}
+use Rattle.mpx_bus.specs.Rule.{IsHeldAt}
+use Rattle.mpx_bus.specs.Ports.{PortView, CanPush, HasListed, node_in, view_in}
 
 -- the frame of these bytes is pushed; or it comes back, and the port has done nothing
 abbrev pub PushesOne : List ℕ → Push → PortView → PortView → Type 0
 PushesOne bytes P.Pushed old new = new.journal ≡ old.journal ++ A.Pushed bytes ∷ []
 PushesOne bytes (P.Full frame) old new = (frame ≡ bytes) × (new ≡ old)
+
+-- a frame comes back only where the queue had no room at a moment of the call: under its rule it held so many frames, while the port
+-- stood as the queue has seen it
+abbrev pub FoundNoRoom : (room : ℕ) → Push → PortView → Type 0
+FoundNoRoom room P.Pushed new = Unit {0}
+FoundNoRoom room (P.Full frame) new = Held room (IsHeldAt (view_in new))
 
 -- a frame of these bytes is popped, and a take is refused
 pub record Stopped (bytes : List ℕ) (old new : PortView) : Type 0 where

@@ -1,6 +1,7 @@
 pub mod Frames
 pub mod Acts
 pub mod Views
+pub mod Counted
 pub mod Rule
 pub mod Ports
 pub mod Answers

@@ -13,7 +13,7 @@ use Rattle.mpx_bus.specs.declared.act.Act.TheVariants as A
 use Rattle.mpx_bus.specs.declared.act.Setup.{Setup}
 use Rattle.mpx_bus.specs.declared.act.View.{View}
 use Rattle.mpx_bus.specs.Acts.{IsAhead, MayPush, part_of, process_at, node_at, start_of}
-use Rattle.mpx_bus.specs.Views.{standing, seat_of}
+use Rattle.mpx_bus.specs.Views.{standing, seat_of, seen_as}
 use Rattle.mpx_bus.specs.Rule.{Stood, IsPlanned, world_of}
 
 -- what a contract sees of a port: which process it is, all that it did, what of it the queue has seen, the frames that it keeps,
@@ -29,6 +29,10 @@ pub record PortView : Type 0 where
 
 abbrev pub port_view : View → List Act → List (List ℕ) → TableId → ℕ → PortView
 port_view v journal kept table pass = record { me = (seat_of v).me; setup = v.setup; journal = journal; published = (seat_of v).journal; kept = kept; table = table; pass = pass }
+
+-- what its pass knows
+abbrev pub view_in : PortView → View
+view_in b = standing b.setup (seen_as b.me b.published ∷ [])
 
 -- the process as it is
 abbrev pub process_in : PortView → ProcessView

@@ -1,5 +1,5 @@
 -- When the world that the queue and its passes show is one that can be reached.
-use Rattle.std.specs.Prelude.{◌≡◌, ℕ, ◌≤◌, List, [], map, true, Bool, Option, Some, None, slice_get}
+use Rattle.std.specs.Prelude.{◌≡◌, ℕ, ◌+◌, ◌≤◌, List, [], map, length, true, Bool, Option, Some, None, slice_get}
 use mathlib.Core.Option.{some}
 use mathlib.Core.List.{IsPrefix}
 use lib.ListN.{get_elem?, get_or}
@@ -17,6 +17,7 @@ use Rattle.mpx_bus.specs.declared.act.Setup.{Setup}
 use Rattle.mpx_bus.specs.declared.act.Seen.{Seen}
 use Rattle.mpx_bus.specs.declared.act.View.{View}
 use Rattle.mpx_bus.specs.Acts.{DidIn, at_start, process_at, start_of}
+use Rattle.mpx_bus.specs.Counted.{all_pushed, all_popped}
 
 -- which pass stands for a process, and at which place of its list
 abbrev pub Seating : Type 0
@@ -80,7 +81,7 @@ pub record FitsView (w : WorldView) (seat : Seating) (named : Bool) (setup : Set
   pub names : v.named ≡ true → (named ≡ true) × (v.setup ≡ setup)
   pub seats : (place : ℕ) (s : Seen) → slice_get v.seats place ≡ Some s → FitsSeat w seat setup pass place s
 
--- what can happen leads to the world that all this shows
+-- what can happen leads to the world that all this shows, and what was pushed was popped or is in the queue still, by their number
 pub record SoundQueue (items : List (List ℕ)) (views : List View) : Type 0 where
   pub happenings : List Happening
   pub seat : Seating
@@ -90,6 +91,7 @@ pub record SoundQueue (items : List (List ℕ)) (views : List View) : Type 0 whe
   pub may : MayGoOn (start_of setup) happenings
   pub planned : BeginsPlan setup (world_of setup happenings)
   pub frames : (k : ℕ) (bytes : List ℕ) → slice_get items k ≡ Some bytes → IsPushed views bytes
+  pub counted : all_pushed views ≡ all_popped views + length items
   pub passes : (pass : ℕ) (v : View) → get_elem? views pass ≡ some v → FitsView (world_of setup happenings) seat named setup maker pass v
 
 -- all processes of this view are of one world, and they are different processes
@@ -99,3 +101,10 @@ pub record StandsForOneWorld (v : View) : Type 0 where
   pub each : (place : ℕ) (s : Seen) → slice_get v.seats place ≡ Some s → (world_of v.setup happenings).each s.me ≡ process_at v.setup s.me s.journal
   pub sent : (place : ℕ) (s : Seen) → slice_get v.seats place ≡ Some s → (bytes : List ℕ) → DidIn s.journal (A.Popped bytes) → IsSent (world_of v.setup happenings).parts bytes
   pub apart : (i j : ℕ) (s t : Seen) → slice_get v.seats i ≡ Some s → slice_get v.seats j ≡ Some t → s.me ≡ t.me → i ≡ j
+
+-- under its rule the queue held these frames, while a pass knew so much
+pub record IsHeldAt (v : View) (items : List (List ℕ)) : Type 0 where
+  pub views : List View
+  pub sound : SoundQueue items views
+  pub pass : ℕ
+  pub here : get_elem? views pass ≡ some v

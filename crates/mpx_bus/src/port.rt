@@ -12,7 +12,7 @@ ghost use Rattle.mpx_bus.specs.Rule.{Stood};
 ghost use Rattle.mpx_bus.specs.Ports.{CanPush, PortGoes, PortGoesOn, HaveMet, IsFleet, IsSamePort, KeepsPlan, node_in};
 ghost use Rattle.mpx_bus.specs.Buses.{room_of, table_of};
 ghost use Rattle.mpx_bus.specs.Finished.{BothHaveFinished};
-ghost use Rattle.mpx_bus.specs.Answers.{HarvestsOne, PassesOn, PopsOne, PushesNext, PushesOne, PushesLast, TakesIn};
+ghost use Rattle.mpx_bus.specs.Answers.{FoundNoRoom, HarvestsOne, PassesOn, PopsOne, PushesNext, PushesOne, PushesLast, TakesIn};
 
 use crate::both::both_finished;
 use crate::frame::Frame;
@@ -158,6 +158,7 @@ impl Bus {
         requires most { limit ≤ 1048576 }
         ensures port { PortGoesOn port.old port.new }
         ensures next { IfOk result (λ push. PushesNext limit push port.old port.new) }
+        ensures full { IfOk result (λ push. FoundNoRoom (room_of self.now) push port.new) }
         ensures err { OnErr result (port.new ≡ port.old) }
         ensures memory { OnErr result (port.old.kept ≡ []) }
     {
@@ -172,6 +173,7 @@ impl Bus {
         requires some { port.old.kept ≢ [] }
         ensures port { PortGoesOn port.old port.new }
         ensures next { (bytes : List ℕ) × (port.old.kept ≡ port.new.kept ++ bytes ∷ []) × PushesLast bytes result port.old port.new }
+        ensures full { FoundNoRoom (room_of self.now) result port.new }
     {
         let Some(frame) = port.kept.pop() else {
             unreachable!()
@@ -187,6 +189,7 @@ impl Bus {
         ensures port { IsSamePort port.old port.new }
         ensures kept { port.new.kept ≡ port.old.kept }
         ensures answer { PushesOne frame result port.old port.new }
+        ensures full { FoundNoRoom (room_of self.now) result port.new }
     {
         let next = pushed::<Brand>(&port.empty, &mut port.line, &frame);
         match push_to::<Brand, R>(rt, &self.queue, &mut port.pass, &port.line, frame) {
@@ -207,6 +210,7 @@ impl Bus {
         ensures port { PortGoesOn port.old port.new }
         ensures kept { port.new.kept ≡ port.old.kept }
         ensures answer { PushesOne frame result port.old port.new }
+        ensures full { FoundNoRoom (room_of self.now) result port.new }
     {
         self.push(rt, port, frame)
     }

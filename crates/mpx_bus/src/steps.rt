@@ -1,10 +1,10 @@
 //! A process's steps at the queue, under its rule, and the list of what it did, which has none at first.
-ghost use Rattle.std.specs.Prelude.{◌≡◌, [], IfOk, MatchOption, MatchResult};
-ghost use Rattle.crossbeam_queue.specs.Fifo.{Pops, Pushes};
+ghost use Rattle.std.specs.Prelude.{◌≡◌, [], IfOk, OnErr, MatchOption, MatchResult};
+ghost use Rattle.crossbeam_queue.specs.Fifo.{Held, Pops, Pushes};
 ghost use Rattle.crossbeam_queue.specs.Passes.{IsPassOf, IsSamePass, ruled_capacity, view};
 ghost use Rattle.mpx_board.specs.Parts.{PartsView};
 ghost use Rattle.mpx_format.specs.Decoding.{IsSpelled};
-ghost use Rattle.mpx_bus.specs.Rule.{SoundQueue, Stood};
+ghost use Rattle.mpx_bus.specs.Rule.{IsHeldAt, SoundQueue, Stood};
 ghost use Rattle.mpx_bus.specs.Views.{after_pop, after_push, maker as first_view, maker_of, seat_of};
 
 use crate::frame::Frame;
@@ -29,6 +29,7 @@ pub(crate) fn push_to<M: Aim, R: Wait>(
     ensures rule { MatchResult result
         (λ _. (view pass.new ≡ after_push (view line.now) frame (view pass.old)) × Stood (view pass.old).setup (seat_of (view pass.old)).me (seat_of (view pass.new)).journal)
         (λ f. (f ≡ frame) × (view pass.new ≡ view pass.old)) }
+    ensures full { OnErr result (Held (ruled_capacity queue.now) (IsHeldAt (view pass.old))) }
 {
     let _ = line;
     queue.push_as::<Sends<M>, R>(rt, pass, frame)

@@ -225,7 +225,7 @@ const EXPLAIN: &str = "Say why ranks wait and what is wrong, on standard error";
 
 const EXPLAIN_CHECK: &str = "Say what is wrong with the script, on standard error";
 
-const TRACE: &str = "Print every post, frame and result, on standard error";
+const TRACE: &str = "Print every frame and result, on standard error";
 
 const TABLE: &str = "Print a table of turns, on standard error";
 
