@@ -1,5 +1,5 @@
 //! Tasks that are done at once, in threads that end before the call does.
-ghost use Rattle.std.specs.Prelude.{◌≡◌, IfOk, length, map};
+ghost use Rattle.std.specs.Prelude.{◌≡◌, IfOk, [], length, map};
 ghost use Rattle.std.specs.Fork.{AcceptsJobs, GivesJobs};
 ghost use Rattle.mpx_at_once.specs.declared.task.Calling.{Calling};
 ghost use Rattle.mpx_at_once.specs.Tasks.{AllCan, AllGive, beside, tasks_of};
@@ -43,7 +43,7 @@ impl From<AtOnceError> for OutOfMemory {
 
 /// Who stands by in the thread that has tasks done.
 pub trait Stop {
-    /// Tells the tasks under way that they are to end, since others couldn't begin, or there is no room for what they give.
+    /// Tells the tasks under way that they are to end, since others couldn't begin.
     fn stop(&self);
 
     /// What that thread does once all tasks have begun, before it joins them. It may wait for them.
@@ -77,8 +77,8 @@ pub fn both<
     )
 }
 
-/// Calls f with each job, each time in a thread of its own, and gives the results in their order. Where a thread is refused, or memory
-/// is wanting, the others are told to stop.
+/// Calls f with each job, each time in a thread of its own, and gives the results in their order. Where a thread is refused the others are
+/// told to stop.
 pub fn map_at_once<
     R: Threads + Wait,
     L: Listing + Sync,
@@ -110,8 +110,8 @@ fn calls_of<'a, J: Drop, F>(
     Ok(calls)
 }
 
-/// Does all tasks, each in a thread of its own, and gives what they gave, in their order. Where a thread is refused, or memory is wanting,
-/// the others are told to stop, and all of them are joined.
+/// Does all tasks, each in a thread of its own, and gives what they gave, in their order. Room for all is asked for before the first begins.
+/// Where a thread is refused the others are told to stop, and all of them are joined.
 pub fn all_at_once<
     R: Threads + Wait,
     L: Listing + Sync,
@@ -129,9 +129,12 @@ pub fn all_at_once<
             requires { AllCan T.can_run (L.operations ops.now) tasks.items }
             ensures { IfOk result (λ all. AllGive T.gives tasks.items all.items) }
         {
+            let Ok(room) = Vec::with_capacity(alloc, tasks.len()) else {
+                return Err(AtOnceError::OutOfMemory);
+            };
             let handles = start_all(scope, rt, alloc, tasks, ops, stop)?;
             stop.meanwhile(rt);
-            Ok(join_all(rt, alloc, handles, stop)?)
+            Ok(join_all(rt, handles, room)?)
         },
     )
 }
@@ -185,7 +188,9 @@ fn start_all<
     requires { AllCan T.can_run (L.operations ops.now) tasks.items }
     ensures { IfOk result (λ handles. tasks_of handles.items ≡ tasks.items) }
 {
-    let mut handles = Vec::new(alloc);
+    let Ok(mut handles) = Vec::with_capacity(alloc, tasks.len()) else {
+        return Err(AtOnceError::OutOfMemory);
+    };
     for task in tasks {
         let handle = match start(scope, task, ops) {
             Ok(handle) => handle,
@@ -215,20 +220,16 @@ fn let_go<R: Threads, L: Listing, A: Send + Drop, T: Task<L, Output = A>>(
     }
 }
 
-// What each thread gave. Room for it is asked for before the first is joined.
-fn join_all<R: Threads, L: Listing, A: Send + Drop, T: Task<L, Output = A>, S: Stop>(
+// What each thread gave, in the room for it.
+fn join_all<R: Threads, L: Listing, A: Send + Drop, T: Task<L, Output = A>>(
     rt: &R,
-    alloc: Global,
     handles: Vec<PromisedHandle<A, TaskPromise<L, T>>>,
-    stop: &S,
+    room: Vec<A>,
 ) -> Result<Vec<A>, OutOfMemory>
+    requires { room.items ≡ [] }
     ensures { IfOk result (λ all. AllGive T.gives (tasks_of handles.items) all.items) }
 {
-    let Ok(mut all) = Vec::with_capacity(alloc, handles.len()) else {
-        stop.stop();
-        let_go(rt, handles);
-        return Err(OutOfMemory);
-    };
+    let mut all = room;
     for handle in handles {
         all.push(handle.join(rt))?;
     }

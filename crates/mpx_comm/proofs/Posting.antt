@@ -302,8 +302,8 @@ module _ {H : Type 0} (ops : List Operation) (node : H → NodeView) (turned : H
   pub called_without_memory : (back : Request) → Waits node turned refused q turns (Err (W.OutOfMemory back)) mid new between after → Calls ops node turned refused name draft turns (Err (C.OutOfMemory back)) old new before after
   called_without_memory back waits = given_up T.OutOfMemory back waits
 
-  pub called_given_up : (back : Request) → Waits node turned refused q turns (Err (W.GaveUp back)) mid new between after → Calls ops node turned refused name draft turns (Err (C.GaveUp back)) old new before after
-  called_given_up back waits = given_up T.GaveUp back waits
+  pub called_given_up : (back : Request) (rank : ℕ) → Waits node turned refused q turns (Err (W.GaveUp back rank)) mid new between after → Calls ops node turned refused name draft turns (Err (C.GaveUp back rank)) old new before after
+  called_given_up back rank waits = given_up (T.GaveUp rank) back waits
 
 -- DRAFTS THAT ARE ROWS
 

@@ -76,9 +76,9 @@ Calls ops node turned refused name draft turns (Err (C.StillWaiting request)) ol
 Calls ops node turned refused name draft turns (Err (C.OutOfMemory request)) old new before after =
     (request ≡ next_call (node old) name) × HasPosted ops name draft (node old) (node new)
     × PostsAnd node turned name draft old (λ posted. GivesUpOne node turned refused request T.OutOfMemory turns posted new) × (after ≡ before ++ request ∷ [])
-Calls ops node turned refused name draft turns (Err (C.GaveUp request)) old new before after =
+Calls ops node turned refused name draft turns (Err (C.GaveUp request rank)) old new before after =
     (request ≡ next_call (node old) name) × HasPosted ops name draft (node old) (node new)
-    × PostsAnd node turned name draft old (λ posted. GivesUpOne node turned refused request T.GaveUp turns posted new) × (after ≡ before ++ request ∷ [])
+    × PostsAnd node turned name draft old (λ posted. GivesUpOne node turned refused request (T.GaveUp rank) turns posted new) × (after ≡ before ++ request ∷ [])
 
 -- the gathering isn't opened, and nothing changes
 abbrev pub IsNotGathered : {H : Type 0} → (node : H → NodeView) → (turned : H → ℕ → H → Type 0) → (parent : Name) → (tag : ℤ) → (ranks : List ℤ) → Result Finished CallError → (old new : H) → (before after : List Request) → Type 0

@@ -228,8 +228,8 @@ impl<H: Host> Desk<H> {
 
     /// Waits for the result (`MPI_WAIT`, MPI 4.1 section 3.7.3) while the host makes at most `turns` turns: it looks once before the
     /// first and once after each, and makes no turn after the look that finds it, which closes the request. An `Err` hands the request
-    /// back: `StillWaiting` after just `turns` turns; `OutOfMemory` at a look at what is at hand, or for a turn; `GaveUp` where the host
-    /// makes no turn any more; `LetGo`, at once, one that was closed before and whose result was let go.
+    /// back: `StillWaiting` after just `turns` turns; `OutOfMemory` at a look at what is at hand, or for a turn; `GaveUp` where a rank
+    /// gave up, which is named, and the host makes no turn any more; `LetGo`, at once, one that was closed before and whose result was let go.
     pub fn wait(
         &mut self,
         alloc: Global,
@@ -245,7 +245,7 @@ impl<H: Host> Desk<H> {
         }
         match await_one(alloc, &mut self.host, &request, turns, ops) {
             Err(TurnError::OutOfMemory) => Err(WaitError::OutOfMemory(request)),
-            Err(TurnError::GaveUp) => Err(WaitError::GaveUp(request)),
+            Err(TurnError::GaveUp(rank)) => Err(WaitError::GaveUp(request, rank)),
             Ok(None) => Err(WaitError::StillWaiting(request)),
             Ok(Some(finished)) => {
                 self.requests.shift_remove(&request);
@@ -274,7 +274,7 @@ impl<H: Host> Desk<H> {
         }
         match await_all(alloc, &mut self.host, &requests, turns, ops) {
             Err(TurnError::OutOfMemory) => Err(WaitError::OutOfMemory(requests)),
-            Err(TurnError::GaveUp) => Err(WaitError::GaveUp(requests)),
+            Err(TurnError::GaveUp(rank)) => Err(WaitError::GaveUp(requests, rank)),
             Ok(None) => Err(WaitError::StillWaiting(requests)),
             Ok(Some(all)) => {
                 close_each(&mut self.requests, &requests);
@@ -323,7 +323,7 @@ impl<H: Host> Desk<H> {
             Ok(finished) => Ok(finished),
             Err(WaitError::StillWaiting(request)) => Err(CallError::StillWaiting(request)),
             Err(WaitError::OutOfMemory(request)) => Err(CallError::OutOfMemory(request)),
-            Err(WaitError::GaveUp(request)) => Err(CallError::GaveUp(request)),
+            Err(WaitError::GaveUp(request, rank)) => Err(CallError::GaveUp(request, rank)),
             // The result of an open request isn't let go.
             Err(WaitError::LetGo(_)) => unreachable!(),
         }

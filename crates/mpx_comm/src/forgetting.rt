@@ -42,7 +42,7 @@ impl<H: Host> Desk<H> {
         }
         match await_one(alloc, &mut self.host, &request, turns, ops) {
             Err(TurnError::OutOfMemory) => Err(WaitError::OutOfMemory(request)),
-            Err(TurnError::GaveUp) => Err(WaitError::GaveUp(request)),
+            Err(TurnError::GaveUp(rank)) => Err(WaitError::GaveUp(request, rank)),
             Ok(None) => Err(WaitError::StillWaiting(request)),
             Ok(Some(finished)) => {
                 self.requests.shift_remove(&request);

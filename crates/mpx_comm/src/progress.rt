@@ -45,7 +45,7 @@ impl<H: Host> Desk<H> {
         }
         match await_any(alloc, &mut self.host, self.requests.as_slice(), turns, ops) {
             Err(TurnError::OutOfMemory) => Err(WaitError::OutOfMemory(())),
-            Err(TurnError::GaveUp) => Err(WaitError::GaveUp(())),
+            Err(TurnError::GaveUp(rank)) => Err(WaitError::GaveUp((), rank)),
             Ok(None) => Err(WaitError::StillWaiting(())),
             Ok(Some((place, finished))) => {
                 let request = self.requests.shift_remove_index(place).unwrap();
@@ -87,7 +87,7 @@ impl<H: Host> Desk<H> {
         }
         match await_some(alloc, &mut self.host, self.requests.as_slice(), turns, ops) {
             Err(TurnError::OutOfMemory) => Err(WaitError::OutOfMemory(())),
-            Err(TurnError::GaveUp) => Err(WaitError::GaveUp(())),
+            Err(TurnError::GaveUp(rank)) => Err(WaitError::GaveUp((), rank)),
             Ok(None) => Err(WaitError::StillWaiting(())),
             Ok(Some(done)) => {
                 close_done(&mut self.requests, &done);

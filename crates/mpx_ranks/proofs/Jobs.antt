@@ -1,5 +1,5 @@
 -- What comes of the work of all processes.
-use Rattle.std.proofs.Common.{◌≡◌, ℕ, zero, suc, ◌+◌, ◌<◌, ◌≤◌, List, [], ◌∷◌, ◌++◌, length, length-append, map, take, Option, Some, refl, sym, ap, ◌∙◌, subst, arith}
+use Rattle.std.proofs.Common.{◌≡◌, ℕ, Bool, zero, suc, ◌+◌, ◌<◌, ◌≤◌, List, [], ◌∷◌, ◌++◌, length, length-append, map, take, Option, Some, refl, sym, ap, ◌∙◌, subst, arith}
 use Rattle.std.specs.Prelude.{Err, IfOk, IfSome, Ok, OnOk, Result, remove, slice_get, slice_index_or}
 use Rattle.std.proofs.lemmas.List.{length-map}
 use Rattle.std.proofs.lemmas.Option.{same_Some}
@@ -13,6 +13,7 @@ use Rattle.mpx_bus.specs.Meetings.{HaveAllMet}
 use Rattle.mpx_bus.specs.Ports.{IsFleet, IsNew, PortView, node_in, process_in}
 use Rattle.mpx_bus.specs.Rule.{world_of}
 use Rattle.mpx_comm.specs.declared.comm.Comm.{Comm}
+use Rattle.mpx_request.proofs.Steps.{later_none}
 use Rattle.mpx_request.specs.Later.{Later}
 use Rattle.mpx_node.specs.Nodes.{NodeView, start_node}
 use Rattle.mpx_num.specs.declared.own.Operation.{Operation}
@@ -25,9 +26,9 @@ use Rattle.mpx_ranks.specs.declared.job.Ran.{Ran}
 use Rattle.mpx_ranks.specs.declared.work.Work.{Work}
 use Rattle.mpx_ranks.specs.declared.work.Worked.{Worked}
 use Rattle.mpx_ranks.proofs.Values.{had_value}
-use Rattle.mpx_ranks.specs.Had.{GoesOn, HadBy, HadIn}
+use Rattle.mpx_ranks.specs.Had.{GoesOn, HadBy, HadIn, goes_nowhere}
 use Rattle.mpx_ranks.specs.Members.{IsSeated, setup_of}
-use Rattle.mpx_ranks.specs.Ranks.{Answers, AreOfOneHistory, Gives, HasAnswered, HasWorked, HaveRun, IsReady, world_at, world_in}
+use Rattle.mpx_ranks.specs.Ranks.{Answers, AreOfOneHistory, AreQuitters, Gives, HasAnswered, HasGivenUp, HasWorked, HaveRun, IsReady, world_at, world_in}
 use Rattle.mpx_ranks.specs.Works.{AreOfBus, AreWorks, IsWork, answer_of, port_of}
 
 -- LISTS
@@ -58,13 +59,17 @@ one_work_more {K} {P} {R} program table ranks size ports works port work are is 
 }
 
 -- so each can begin
-pub ready_at : {K P R : Type 0} (program : P) (operations : List Operation) (ranks size : ℕ) (table : TableId) (ports : List PortView) (works : List (Work K P R)) → ranks ≤ 64 → IsFleet (setup_of operations ranks size) table size ports → AreWorks program table ranks size ports works
-    → (i : ℕ) (t : Work K P R) → slice_get works i ≡ Some t → (t.ranks ≤ 64) × IsReady operations t.ranks t.size t.me (table_of t.bus.now) t.port
-ready_at program operations ranks size table ports works few fleet are i t e =
+pub ready_at : {K P R A : Type 0} (gives : P → Gives A) (says : P → A → Type 0) (gave_up : ℕ → Type 0) (program : P) (operations : List Operation) (ranks size : ℕ) (table : TableId) (ports : List PortView) (works : List (Work K P R)) → ranks ≤ 64 → IsFleet (setup_of operations ranks size) table size ports → AreWorks program table ranks size ports works
+    → AreQuitters (gives program) (says program) (setup_of operations ranks size) gave_up
+    → (i : ℕ) (t : Work K P R) → slice_get works i ≡ Some t
+    → (t.ranks ≤ 64) × IsReady operations t.ranks t.size t.me (table_of t.bus.now) t.port × AreQuitters (gives t.program.now) (says t.program.now) (setup_of operations t.ranks t.size) gave_up
+ready_at {K} {P} {R} {A} gives says gave_up program operations ranks size table ports works few fleet are quitters i t e =
     let l = within_get works i t e in
     let p = get_within ports i (omega (arith, l, are.count)) in
     let is = are.each i p.0 t p.1 e in
-    subst (λ (z : ℕ × (ℕ × (ℕ × (TableId × PortView)))). (z.0 ≤ 64) × IsReady operations z.0 z.1.0 z.1.1.0 z.1.1.1.0 z.1.1.1.1) (λ k. (sym is.ranks_is k, (sym is.size_is k, (sym is.me_is k, (sym is.bus_is k, sym is.port_is k))))) (few, fleet.each i p.0 p.1)
+    let begins : (t.ranks ≤ 64) × IsReady operations t.ranks t.size t.me (table_of t.bus.now) t.port =
+    subst (λ (z : ℕ × (ℕ × (ℕ × (TableId × PortView)))). (z.0 ≤ 64) × IsReady operations z.0 z.1.0 z.1.1.0 z.1.1.1.0 z.1.1.1.1) (λ k. (sym is.ranks_is k, (sym is.size_is k, (sym is.me_is k, (sym is.bus_is k, sym is.port_is k))))) (few, fleet.each i p.0 p.1) in
+    (begins.0, begins.1, subst (λ (z : P × (ℕ × ℕ)). AreQuitters (gives z.0) (says z.0) (setup_of operations z.1.0 z.1.1) gave_up) (λ k. (sym is.program_is k, (sym is.ranks_is k, sym is.size_is k))) quitters)
 
 -- a list by its first and the others
 pub first_and_others : (ports others : List PortView) (first : PortView) → 0 < length ports → first ≡ slice_index_or ports 0 first → others ≡ remove ports 0 → first ∷ others ≡ ports
@@ -95,6 +100,14 @@ has_answered gives setup table me ranks port before returned last world answer n
           (λ k. (ops k, (all k, (began k, (its k, own k))))) gave;
       later = subst (λ (z : (Setup × ℕ) × (Setup × ℕ)). Later (node_at z.0.0 z.0.1 returned.journal) (node_at z.1.0 z.1.1 last.journal)) (λ k. ((its k, own k), (setup_is k, me_is k))) later;
     }
+
+-- and so it has given up, where the program says so
+pub quits : {A : Type 0} (gives : Gives A) (says : A → Type 0) (setup : Setup) (table : TableId) (me ranks : ℕ) (port before returned : PortView) (world : Comm) (answer : A) → IsNew setup table me port → setup.ranks ≡ ranks
+    → before ≡ port → world ≡ world_at ranks me → gives before.setup.operations world (node_in before) (node_in returned) (HadIn returned) answer
+    → returned.setup ≡ setup → returned.me ≡ me → says answer → HasGivenUp gives says setup me
+quits gives says setup table me ranks port before returned world answer new count same is gave setup_is me_is said =
+    let a = has_answered gives setup table me ranks port before returned returned world answer new count same is gave (goes_nowhere returned) setup_is me_is (later_none (node_in returned)) in
+    record { answer = answer; did = a.did; gave = a.gave; said = said }
 
 -- its port and its answer, by what is lent
 pub has_worked : {A : Type 0} (gives : Gives A) (operations : List Operation) (ranks size me : ℕ) (table : TableId) (port b : PortView) (answer : Option A) → IsNew (setup_of operations ranks size) table me port → IsSeated port.table port.setup me b

@@ -28,7 +28,7 @@ module _ {H : Type 0} (node : H → NodeView) (turned : H → ℕ → H → Type
   had_waits request turns (Ok finished) a b before after (found, (n, within, awaits), closed) h = later a b n awaits.0 h
   had_waits request turns (Err (W.StillWaiting back)) a b before after (is, lacking, awaits, open') h = later a b turns awaits.0 h
   had_waits request turns (Err (W.OutOfMemory back)) a b before after (is, gives_up, open') h = had_given_up (λ seen. IsPending seen request.name request.call) (λ seen. IsAtHand seen request.name request.call) T.OutOfMemory turns a b gives_up h
-  had_waits request turns (Err (W.GaveUp back)) a b before after (is, gives_up, open') h = had_given_up (λ seen. IsPending seen request.name request.call) (λ seen. IsAtHand seen request.name request.call) T.GaveUp turns a b gives_up h
+  had_waits request turns (Err (W.GaveUp back rank)) a b before after (is, gives_up, open') h = had_given_up (λ seen. IsPending seen request.name request.call) (λ seen. IsAtHand seen request.name request.call) (T.GaveUp rank) turns a b gives_up h
   had_waits request turns (Err (W.LetGo back)) a b before after (is, gone, same, open') h = subst had (sym same) h
 
   pub had_waits_and_forgets : (request : Request) (turns : ℕ) (r : Result Finished (WaitError Request)) (a b : H) (before after : List Request) → WaitsAndForgets node turned refused request turns r a b before after → had a → had b
@@ -40,4 +40,4 @@ module _ {H : Type 0} (node : H → NodeView) (turned : H → ℕ → H → Type
   had_calls ops name draft turns (Err (C.Refused e)) a b before after (asks, none) h = later a b 0 none h
   had_calls ops name draft turns (Err (C.StillWaiting request)) a b before after (is, made, lacking, (posted, none, node_is, awaits), open') h = later posted b turns awaits.0 (later a posted 0 none h)
   had_calls ops name draft turns (Err (C.OutOfMemory request)) a b before after (is, made, (posted, none, node_is, gives_up), open') h = had_given_up (λ seen. IsPending seen request.name request.call) (λ seen. IsAtHand seen request.name request.call) T.OutOfMemory turns posted b gives_up (later a posted 0 none h)
-  had_calls ops name draft turns (Err (C.GaveUp request)) a b before after (is, made, (posted, none, node_is, gives_up), open') h = had_given_up (λ seen. IsPending seen request.name request.call) (λ seen. IsAtHand seen request.name request.call) T.GaveUp turns posted b gives_up (later a posted 0 none h)
+  had_calls ops name draft turns (Err (C.GaveUp request rank)) a b before after (is, made, (posted, none, node_is, gives_up), open') h = had_given_up (λ seen. IsPending seen request.name request.call) (λ seen. IsAtHand seen request.name request.call) (T.GaveUp rank) turns posted b gives_up (later a posted 0 none h)

@@ -1,4 +1,5 @@
 pub mod Quiet
+pub mod Due
 pub mod Keeping
 pub mod More
 pub mod Values

@@ -121,16 +121,12 @@ heard_prune (Err e) name n a b same ok err = heard_itself a b err
 
 -- WHAT A TURN DOES
 
-pub turn_of : {A : Type 0} (r : Result A OutOfMemory) (pop : Pop) (push : Result Push OutOfMemory) (a popped pruned b : PortView) → is_err r ≡ (wanted_memory pop || is_err push) → PopsOne pop a popped → popped.kept ≡ a.kept → Prunes popped pruned → PushesAnother push pruned b
+pub turn_of : {A : Type 0} (r : Result A OutOfMemory) (pop : Pop) (prune : Result (Unit {0}) OutOfMemory) (push : Result Push OutOfMemory) (a popped pruned b : PortView) → is_err r ≡ (wanted_memory pop || (is_err prune || is_err push)) → PopsOne pop a popped → popped.kept ≡ a.kept → Prunes prune popped pruned → PushesAnother push pruned b
     → OnOk r (Turns false a b) × OnErr r (Turns true a b)
-turn_of (Ok u) pop push a popped pruned b told pops keeps prunes pushes =
-    (record { pop = pop; popped = popped; pops = pops; keeps = keeps; pruned = pruned; prunes = prunes; push = push; pushes = pushes; told = told }, tt)
-turn_of (Err e) pop push a popped pruned b told pops keeps prunes pushes =
-    (tt, record { pop = pop; popped = popped; pops = pops; keeps = keeps; pruned = pruned; prunes = prunes; push = push; pushes = pushes; told = told })
-
-pub prunes_or_not : (r : Result (Unit {0}) PruneError) (name : Name) (n : ℕ) (a b : PortView) → b.kept ≡ a.kept → OnOk r (b.journal ≡ a.journal ++ A.Pruned name n ∷ []) → OnErr r (b ≡ a) → Prunes a b
-prunes_or_not (Ok u) name n a b kept ok err = inr (name, n, ok, kept)
-prunes_or_not (Err e) name n a b kept ok err = inl err
+turn_of (Ok u) pop prune push a popped pruned b told pops keeps prunes pushes =
+    (record { pop = pop; popped = popped; pops = pops; keeps = keeps; pruned = pruned; prune = prune; prunes = prunes; push = push; pushes = pushes; told = told }, tt)
+turn_of (Err e) pop prune push a popped pruned b told pops keeps prunes pushes =
+    (tt, record { pop = pop; popped = popped; pops = pops; keeps = keeps; pruned = pruned; prune = prune; prunes = prunes; push = push; pushes = pushes; told = told })
 
 pub pushes_or_not : (r : Result Push OutOfMemory) (a b : PortView) → IfOk r (λ push. PushesNext 1048576 push a b) → OnErr r (b ≡ a) → OnErr r (a.kept ≡ []) → PushesAnother r a b
 pushes_or_not (Ok push) a b next same none = next

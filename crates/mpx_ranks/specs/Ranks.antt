@@ -1,5 +1,5 @@
 -- A job whose ranks all run one program.
-use Rattle.std.specs.Prelude.{◌≡◌, ◌++◌, ℕ, List, [], Some, Option, IfSome, length, slice_get}
+use Rattle.std.specs.Prelude.{◌≡◌, ◌++◌, ℕ, Bool, true, List, [], Some, Option, IfSome, length, slice_get}
 use Rattle.atomic_table.specs.Seated.{TableId}
 use Rattle.mpx_name.specs.Name.{Name}
 use Rattle.mpx_num.specs.declared.own.Operation.{Operation}
@@ -56,6 +56,19 @@ pub record HaveRun {A : Type 0} (gives : Gives A) (operations : List Operation) 
   pub one : AreOfOneHistory operations ranks size nodes
   pub each : (rank : ℕ) (answer : A) (node : NodeView) → slice_get answers rank ≡ Some answer → slice_get nodes rank ≡ Some node
       → Answers gives (setup_of operations ranks size) rank answer (world_in operations ranks size nodes one) node
+
+-- GIVING UP
+
+-- a rank has given up: it gave an answer of which the program says so
+pub record HasGivenUp {A : Type 0} (gives : Gives A) (says : A → Type 0) (setup : Setup) (rank : ℕ) : Type 0 where
+  pub answer : A
+  pub did : List Act
+  pub gave : Gave gives setup rank did answer
+  pub said : says answer
+
+-- this is said of just those ranks that have given up
+abbrev pub AreQuitters : {A : Type 0} → Gives A → (says : A → Type 0) → Setup → (gave_up : ℕ → Type 0) → Type 0
+AreQuitters gives says setup gave_up = (rank : ℕ) → (HasGivenUp gives says setup rank → gave_up rank) × (gave_up rank → HasGivenUp gives says setup rank)
 
 -- ONE PROCESS
 

@@ -1,13 +1,14 @@
 //! What a member's turn does to its port.
-ghost use Rattle.std.specs.Prelude.{◌≡◌, ◌||◌, false, is_err, true, OnErr, OnOk};
+ghost use Rattle.std.specs.Prelude.{◌≡◌, ◌||◌, Some, false, is_err, true, OnErr, OnOk};
 ghost use Rattle.mpx_bus.specs.Answers.{PopsOne};
 ghost use Rattle.mpx_bus.specs.Buses.{table_of};
 ghost use Rattle.mpx_bus.specs.Ports.{IsSamePort, node_in};
+ghost use Rattle.mpx_node.specs.Settling.{IsToDrop};
+ghost use Rattle.mpx_node.specs.Shown.{node_of};
 ghost use Rattle.mpx_ranks.specs.Had.{DoesMore};
-ghost use Rattle.mpx_ranks.specs.Members.{HasHeard, Prunes, PushesAnother, Turns, wanted_memory};
+ghost use Rattle.mpx_ranks.specs.Members.{DropsOne, FindsOne, HasHeard, Prunes, PushesAnother, Turns, wanted_memory};
 
 use join_core::{Exact, OutOfMemory};
-use mpx_board::PruneError;
 use mpx_bus::{Bus, Pop, Port, Push};
 use mpx_name::Name;
 use mpx_node::Node;
@@ -34,17 +35,24 @@ pub(crate) fn gossip<R: Wait>(
     ensures wanted { OnErr result (Turns true port.old port.new) }
 {
     let popped = pull(rt, alloc, bus, port);
-    prune(alloc, port);
+    let pruned = prune(alloc, port);
     let pushed = push(rt, alloc, bus, port);
-    came_to(popped, pushed)
+    came_to(popped, pruned, pushed)
 }
 
-// Want of memory, where it was wanting for either, and only then.
-fn came_to(popped: Pop, pushed: Result<Push, OutOfMemory>) -> Result<(), OutOfMemory>
-    ensures { is_err result ≡ (wanted_memory popped || is_err pushed) }
+// Want of memory, where it was wanting for one of them, and only then.
+fn came_to(
+    popped: Pop,
+    pruned: Result<(), OutOfMemory>,
+    pushed: Result<Push, OutOfMemory>,
+) -> Result<(), OutOfMemory>
+    ensures { is_err result ≡ (wanted_memory popped || (is_err pruned || is_err pushed)) }
 {
     if let Pop::OutOfMemory(_) = popped {
         return Err(OutOfMemory);
+    }
+    if pruned.is_err() {
+        return pruned;
     }
     match pushed {
         Ok(_) => Ok(()),
@@ -77,40 +85,40 @@ fn push<R: Wait>(rt: &R, alloc: Global, bus: &Bus, port: &mut Port) -> Result<Pu
     bus.push_own(rt, alloc, port, LIMIT)
 }
 
-// Drops the posts of one context that every member has harvested, where there are any.
-fn prune(alloc: Global, port: &mut Port)
+// Drops the posts of one context that every member has harvested, where there are any. An `Err` is want of memory for that one's name.
+fn prune(alloc: Global, port: &mut Port) -> Result<(), OutOfMemory>
     ensures same { IsSamePort port.old port.new }
     ensures more { DoesMore port.old port.new }
     ensures heard { HasHeard (node_in port.old) (node_in port.new) }
-    ensures prunes { Prunes port.old port.new }
+    ensures prunes { Prunes result port.old port.new }
 {
-    let Some((name, floor)) = first_to_drop(alloc, port.node()) else {
-        return;
+    let Some((name, number)) = first_to_drop(alloc, port.node())? else {
+        return Ok(());
     };
-    let _ = prune_on(port, &name, floor);
+    prune_on(port, &name, number);
+    Ok(())
 }
 
-// Drops posts of one context, where that may be.
-fn prune_on(port: &mut Port, name: &Name, number: u32) -> Result<(), PruneError>
+// Drops the posts of one context that every member has harvested.
+fn prune_on(port: &mut Port, name: &Name, number: u32)
+    requires { IsToDrop name.now (node_in port.old) (Some number) }
     ensures same { IsSamePort port.old port.new }
     ensures more { DoesMore port.old port.new }
     ensures heard { HasHeard (node_in port.old) (node_in port.new) }
-    ensures prunes { Prunes port.old port.new }
+    ensures drops { DropsOne port.old port.new }
 {
-    port.prune(name, number)
+    let _pruned = port.prune(name, number);
 }
 
-// A context of which every member has harvested a call that isn't dropped, with the number of those calls; none where memory is wanting
-// for its name.
-fn first_to_drop(alloc: Global, node: &Node) -> Option<(Name, u32)> {
-    let board = node.board();
-    for (name, _known) in board.pair().first.entries() {
-        let Some(floor) = board.floor(name) else {
-            continue;
-        };
-        if floor > board.dropped(name) || node.is_past_free(name, floor) {
-            return Some((name.copy(alloc).ok()?, floor));
+// The first context of which every member has harvested a call that isn't dropped, or a free, with the number of those calls; none where
+// there is none. An `Err` is want of memory for its name.
+fn first_to_drop(alloc: Global, node: &Node) -> Result<Option<(Name, u32)>, OutOfMemory>
+    ensures { FindsOne result (node_of node.now) }
+{
+    for (name, _) in node.board().pair().first.entries() {
+        if let Some(number) = node.to_drop(name) {
+            return Ok(Some((name.copy(alloc)?, number)));
         }
     }
-    None
+    Ok(None)
 }

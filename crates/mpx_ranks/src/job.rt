@@ -5,10 +5,10 @@ ghost use Rattle.mpx_bus.specs.Meetings.{HaveAllMet};
 ghost use Rattle.mpx_bus.specs.Ports.{IsFleet, node_in};
 ghost use Rattle.mpx_node.specs.Shown.{node_of};
 ghost use Rattle.mpx_ranks.specs.Members.{setup_of};
-ghost use Rattle.mpx_ranks.specs.Ranks.{HaveRun};
+ghost use Rattle.mpx_ranks.specs.Ranks.{AreQuitters, HaveRun};
 ghost use Rattle.mpx_ranks.specs.Works.{AreOfBus, AreWorks, answer_of, port_of};
 
-use crate::crew::Crew;
+use crate::crew::{Crew, Job};
 use crate::program::Program;
 use crate::start::{Places, Start};
 use crate::work::{Work, Worked};
@@ -20,7 +20,7 @@ use mpx_num::{Listing, Ops};
 use std::alloc::Global;
 use std::marker::Brand;
 use std::sync::Wait;
-use std::sync::ledger::{Blank, Ledger};
+use std::sync::ledger::Blank;
 use std::thread::Threads;
 use thiserror::Error;
 
@@ -105,7 +105,7 @@ where
 }
 
 // Runs it by what all agree on, and on a ledger of its threads; the call picks both.
-fn run_by<N: Named, K: Ledger + Send + Sync, P: Program + Sync, R: Threads + Wait + Sync>(
+fn run_by<N: Named, K: Job + Send + Sync, P: Program + Sync, R: Threads + Wait + Sync>(
     rt: &R,
     alloc: Global,
     blank: Blank,
@@ -122,11 +122,12 @@ where
     requires setup { N.setup ≡ setup_of (⟦<Ops as Listing>⟧.operations ops.now) ranks (ranks + relays) }
     requires ledger { (blank.name ≡ K.name) × (blank.parts ≡ K.parts) }
     requires parts { K.parts ≡ ranks + relays }
+    requires quitters { AreQuitters (P.gives program.now) (P.has_given_up program.now) N.setup K.gave_up }
     ensures { IfOk result (λ ran. HaveRun (P.gives program.now) (⟦<Ops as Listing>⟧.operations ops.now) ranks (ranks + relays) ran.answers.items (map node_of ran.nodes.items)) }
 {
     let size = ranks + relays;
     let (bus, ports) = Bus::new::<N>(alloc, ROOM, ranks, size)?;
-    let crew = Crew::new(ranks);
+    let crew = Crew::<K>::new(ranks);
     let (start, places) = Start::<K>::new(blank, u64::from(size));
     let works = works_of(
         rt, alloc, &bus, &crew, &start, places, program, ranks, size, ports,
@@ -156,11 +157,11 @@ fn told_of<N: Named, A: Drop>(
 }
 
 // The work of each process, whose port is at its place.
-fn works_of<'a, K: Ledger, P, R>(
+fn works_of<'a, K: Job, P, R>(
     rt: &'a R,
     alloc: Global,
     bus: &'a Bus,
-    crew: &'a Crew,
+    crew: &'a Crew<K>,
     start: &'a Start<K>,
     places: Places<K>,
     program: &'a P,

@@ -1,5 +1,6 @@
 //! A member of a job: the host of a rank's desk in a thread of its own.
-ghost use Rattle.std.specs.Prelude.{◌≡◌, IfErr, IfSome, OnOk, false, is_some};
+ghost use Rattle.std.specs.Prelude.{◌≡◌, IfErr, IfSome, IsSome, None, OnOk, false, option_and_then};
+ghost use Rattle.std.specs.Option.{option_map};
 ghost use Rattle.std.proofs.Props.{props};
 ghost use Rattle.mpx_board.specs.Looks.{look};
 ghost use Rattle.mpx_bus.specs.Buses.{table_of};
@@ -8,7 +9,7 @@ ghost use Rattle.mpx_request.specs.Later.{Later};
 ghost use Rattle.mpx_ranks.specs.Had.{GoesOn};
 ghost use Rattle.mpx_ranks.specs.Members.{RefusesTurn, Turns};
 
-use crate::crew::{Crew, Halt};
+use crate::crew::{Crew, Halt, Job};
 use crate::folds::Folds;
 use crate::gossip::gossip;
 use crate::news::News;
@@ -24,25 +25,24 @@ use mpx_num::Ops;
 use mpx_post::{Draft, PostError};
 use std::alloc::Global;
 use std::marker::PhantomData;
-use std::sync::ledger::Ledger;
 use std::sync::{OnceToken, Wait};
 
 /// A port on a bus that is lent, with the job's own operations, what the threads tell each other, and the right to wait. It has what shows
 /// that all threads have come, so there is none before that, and no desk over one. A turn takes a frame out of the queue and puts one in,
-/// drops posts that every member has harvested, and rests, longer while it hears nothing new. Once all are to stop it makes none any more,
-/// and has seen why.
+/// drops posts that every member has harvested, and rests, longer while it hears nothing new. Once it has heard that a rank gave up it makes
+/// none any more, and knows which.
 #[derive(Drop)]
-pub(crate) struct Member<'a, L: Seat, O: Folds, K: Ledger, R: Wait> {
+pub(crate) struct Member<'a, L: Seat, O: Folds, K: Job, R: Wait> {
     pub(crate) rt: &'a R,
     pub(crate) bus: &'a Bus,
     pub(crate) ops: &'a O,
-    pub(crate) crew: &'a Crew,
+    pub(crate) crew: &'a Crew<K>,
     pub(crate) start: &'a Start<K>,
     pub(crate) came: OnceToken<'a, AllCame<K>>,
     pub(crate) port: Port,
     pub(crate) news: News,
     pub(crate) seat: PhantomData<L>,
-    pub(crate) halt: Option<OnceToken<'a, Halt>>,
+    pub(crate) halt: Option<OnceToken<'a, Halt<K>>>,
     ghost list_is: { O.operations ops.now ≡ L.setup.operations },
     ghost bus_is: { table_of bus.now ≡ L.table },
     ghost free: { L.setup.planned ≡ false },
@@ -54,13 +54,13 @@ pub(crate) struct Member<'a, L: Seat, O: Folds, K: Ledger, R: Wait> {
     ghost halt_is: { IfSome halt (λ token. token.of ≡ crew.now.halt.id) } by { Prim.hlevel props },
 }
 
-impl<'a, L: Seat, O: Folds, K: Ledger, R: Wait> Member<'a, L, O, K, R> {
+impl<'a, L: Seat, O: Folds, K: Job, R: Wait> Member<'a, L, O, K, R> {
     /// Whoever has this port, once all threads have come. By its number it rests at other times than the others.
     pub(crate) fn new(
         rt: &'a R,
         bus: &'a Bus,
         ops: &'a O,
-        crew: &'a Crew,
+        crew: &'a Crew<K>,
         start: &'a Start<K>,
         came: OnceToken<'a, AllCame<K>>,
         me: u8,
@@ -99,6 +99,17 @@ impl<'a, L: Seat, O: Folds, K: Ledger, R: Wait> Member<'a, L, O, K, R> {
         self.port
     }
 
+    // The rank of which it has heard that it gave up, where it has.
+    fn quitter(&self) -> Option<u8>
+        ensures { result ≡ option_and_then (λ token. option_map (λ q. q.rank) token.value.quitter) self.now.halt }
+    {
+        let token = self.halt.as_ref()?;
+        match &self.crew.halt.value(token).quitter {
+            Some(quitter) => Some(quitter.rank),
+            None => None,
+        }
+    }
+
     /// Makes turns for the others, until none needs them more.
     pub(crate) fn gossip_on(&mut self, alloc: Global)
         ensures later { Later (node_in self.old.port) (node_in self.new.port) }
@@ -115,9 +126,10 @@ impl<'a, L: Seat, O: Folds, K: Ledger, R: Wait> Member<'a, L, O, K, R> {
     }
 }
 
-impl<'a, L: Seat, O: Folds, K: Ledger, R: Wait> Host for Member<'a, L, O, K, R> {
+impl<'a, L: Seat, O: Folds, K: Job, R: Wait> Host for Member<'a, L, O, K, R> {
     ghost use Rattle.mpx_ranks.specs.Bounded.{port_bounded};
     ghost use Rattle.mpx_ranks.specs.Had.{GoesOn, HadIn, goes_nowhere, goes_then, has_had_later, has_had_now};
+    ghost use Rattle.std.specs.Option.{option_map};
     ghost use Rattle.mpx_ranks.specs.Members.{RefusesTurn, by_port, same_operations};
 
     ghost node = { λ m. node_in m.port };
@@ -127,7 +139,7 @@ impl<'a, L: Seat, O: Folds, K: Ledger, R: Wait> Host for Member<'a, L, O, K, R> 
 
     ghost turned = { λ a n b. GoesOn a.port b.port };
 
-    ghost turn_refused = { λ a why b. GoesOn a.port b.port × RefusesTurn why (is_some b.halt) a.port b.port };
+    ghost turn_refused = { λ a why b. GoesOn a.port b.port × RefusesTurn K.gave_up why (option_and_then (λ token. option_map (λ q. q.rank) token.value.quitter) b.halt) a.port b.port };
 
     // All that its port did tells which.
     ghost has_had = { λ m. HadIn m.port };
@@ -182,13 +194,17 @@ impl<'a, L: Seat, O: Folds, K: Ledger, R: Wait> Host for Member<'a, L, O, K, R> 
         ensures later { Later (node_in self.old.port) (node_in self.new.port) }
         ensures opened { (node_in self.new.port).opened ≡ (node_in self.old.port).opened }
         ensures counted { OnOk result (GoesOn self.old.port self.new.port) }
-        ensures refused { IfErr result (λ why. GoesOn self.old.port self.new.port × RefusesTurn why (is_some self.new.halt) self.old.port self.new.port) }
+        ensures refused { IfErr result (λ why. GoesOn self.old.port self.new.port × RefusesTurn K.gave_up why (option_and_then (λ token. option_map (λ q. q.rank) token.value.quitter) self.new.halt) self.old.port self.new.port) }
         ensures turns { OnOk result (Turns false self.old.port self.new.port) }
+        ensures none { OnOk result (option_and_then (λ token. option_map (λ q. q.rank) token.value.quitter) self.new.halt ≡ None) }
+        ensures stays { IsSome self.old.halt → self.new.halt ≡ self.old.halt }
     {
         let crew = self.crew;
-        self.halt = crew.halt();
-        if self.halt.is_some() {
-            return Err(TurnError::GaveUp);
+        if self.halt.is_none() {
+            self.halt = crew.halt();
+        }
+        if let Some(rank) = self.quitter() {
+            return Err(TurnError::GaveUp(rank));
         }
         let turned = gossip(self.rt, alloc, self.bus, &mut self.port);
         self.news.note(self.port.node().board());

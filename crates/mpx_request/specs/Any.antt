@@ -55,7 +55,7 @@ WaitsAny ops node turned refused turns (Ok (Some done)) old new before after =
 WaitsAny {H} ops node turned refused turns (Err (StillWaiting u)) old new before after =
     (before ≢ []) × ((look : H) × AwaitsAny ops node turned before old turns look × LooksInVain ops node turned before look new) × (after ≡ before)
 WaitsAny ops node turned refused turns (Err (NoMemory u)) old new before after = GivesUpAny ops node turned refused before T.OutOfMemory turns old new × (after ≡ before)
-WaitsAny ops node turned refused turns (Err (GaveUp u)) old new before after = GivesUpAny ops node turned refused before T.GaveUp turns old new × (after ≡ before)
+WaitsAny ops node turned refused turns (Err (GaveUp u rank)) old new before after = GivesUpAny ops node turned refused before (T.GaveUp rank) turns old new × (after ≡ before)
 WaitsAny ops node turned refused turns (Err (LetGo u)) old new before after = ⊥
 
 -- SOME

@@ -113,7 +113,7 @@ Waits node turned refused request turns (Ok finished) old new before after =
 Waits node turned refused request turns (Err (StillWaiting back)) old new before after =
     (back ≡ request) × IsPending (node new) request.name request.call × AwaitsOne node turned request old turns new × (after ≡ before)
 Waits node turned refused request turns (Err (NoMemory back)) old new before after = (back ≡ request) × GivesUpOne node turned refused request T.OutOfMemory turns old new × (after ≡ before)
-Waits node turned refused request turns (Err (GaveUp back)) old new before after = (back ≡ request) × GivesUpOne node turned refused request T.GaveUp turns old new × (after ≡ before)
+Waits node turned refused request turns (Err (GaveUp back rank)) old new before after = (back ≡ request) × GivesUpOne node turned refused request (T.GaveUp rank) turns old new × (after ≡ before)
 Waits node turned refused request turns (Err (LetGo back)) old new before after = (back ≡ request) × (has_let_go (node old) request ≡ true) × (new ≡ old) × (after ≡ before)
 
 -- so does a wait for many. Where the result of one of them was let go it says so, whatever the others are
@@ -123,5 +123,5 @@ WaitsAll node turned refused requests turns (Ok all) old new before after =
 WaitsAll node turned refused requests turns (Err (StillWaiting back)) old new before after =
     (back.items ≡ requests) × AreKept (node new) requests × OneIsPending (node new) requests × AwaitsAll node turned requests old turns new × (after ≡ before)
 WaitsAll node turned refused requests turns (Err (NoMemory back)) old new before after = (back.items ≡ requests) × AreKept (node new) requests × GivesUpAll node turned refused requests T.OutOfMemory turns old new × (after ≡ before)
-WaitsAll node turned refused requests turns (Err (GaveUp back)) old new before after = (back.items ≡ requests) × AreKept (node new) requests × GivesUpAll node turned refused requests T.GaveUp turns old new × (after ≡ before)
+WaitsAll node turned refused requests turns (Err (GaveUp back rank)) old new before after = (back.items ≡ requests) × AreKept (node new) requests × GivesUpAll node turned refused requests (T.GaveUp rank) turns old new × (after ≡ before)
 WaitsAll node turned refused requests turns (Err (LetGo back)) old new before after = (back.items ≡ requests) × (list_any (has_let_go (node old)) requests ≡ true) × (new ≡ old) × (after ≡ before)

@@ -10,9 +10,9 @@ pub enum TurnError {
     /// Memory was wanting. A later turn may be made.
     #[error("out of memory")]
     OutOfMemory,
-    /// The host gave up, or was told to end: it makes no turn any more.
-    #[error("the host gave up")]
-    GaveUp,
+    /// This rank gave up: the host makes no turn any more.
+    #[error("rank {0} gave up")]
+    GaveUp(u8),
 }
 
 impl From<join_core::OutOfMemory> for TurnError {
@@ -41,9 +41,9 @@ pub enum WaitError<R> {
     /// Memory was wanting, for what is at hand or for a turn.
     #[error("out of memory")]
     OutOfMemory(R),
-    /// It isn't done, and the host makes no turn any more: [`TurnError::GaveUp`].
-    #[error("not done, and the host gave up")]
-    GaveUp(R),
+    /// It isn't done, and this rank gave up: [`TurnError::GaveUp`].
+    #[error("not done, and rank {1} gave up")]
+    GaveUp(R, u8),
     /// The result, or one of them, was let go: [`Host::forget`](crate::Host::forget).
     #[error("done, and its result let go")]
     LetGo(R),

@@ -150,7 +150,7 @@ fn sum_of<H: Host>(
     None
 }
 
-// Whether a wait without end is ended since a rank gave up. It is made again where memory was wanting.
+// Whether a wait without end is ended since rank 1 gave up. It is made again where memory was wanting.
 fn hears_of_it<H: Host>(alloc: Global, desk: &mut Desk<H>, world: &Comm, ops: &Ops) -> bool {
     let Some(mut request) = posted(alloc, desk, world, ops) else {
         return false;
@@ -158,7 +158,7 @@ fn hears_of_it<H: Host>(alloc: Global, desk: &mut Desk<H>, world: &Comm, ops: &O
     for _ in 0..3 {
         match desk.wait(alloc, request, u64::MAX, ops) {
             Err(WaitError::OutOfMemory(again)) => request = again,
-            Err(WaitError::GaveUp(_)) => return true,
+            Err(WaitError::GaveUp(_, rank)) => return rank == 1,
             Ok(_) | Err(_) => return false,
         }
     }
@@ -222,6 +222,38 @@ fn count_let_go<R: Threads + Wait + Sync>(
     Ok(count)
 }
 
+// Whether each of three ranks has dropped posts in the end.
+fn all_drop_posts<R: Threads + Wait + Sync>(
+    rt: &R,
+    alloc: Global,
+    calls: u32,
+) -> Result<bool, RanksError> {
+    let ops = Ops::none(alloc);
+    let ran = ranks(rt, alloc, 3, 0, &LetsGo { calls }, &ops)?;
+    let world = Name::world(alloc);
+    for node in ran.nodes.iter() {
+        if node.board().dropped(&world) == 0 {
+            return Ok(false);
+        }
+    }
+    Ok(true)
+}
+
+// Whether each rank of a job but rank 1, which gives up, is told so, and of which.
+fn all_hear_of_rank_1<R: Threads + Wait + Sync>(
+    rt: &R,
+    alloc: Global,
+    counts: (u8, u8),
+) -> Result<bool, RanksError> {
+    let answers = answers_of(rt, alloc, counts, &GivesUp)?;
+    for (rank, heard) in answers.iter().enumerate() {
+        if *heard != (rank != 1) {
+            return Ok(false);
+        }
+    }
+    Ok(answers.len() == usize::from(counts.0))
+}
+
 // Whether a board has a post of a first call, or had one.
 fn has_heard(board: &Board, name: &Name) -> bool {
     for rank in 0..4 {
@@ -275,9 +307,9 @@ fn a_relay_hears_of_a_call(rt: HostRuntime) -> Result<(), Fail> {
 
 #[test]
 fn nobody_waits_for_one_that_gives_up(rt: HostRuntime) -> Result<(), Fail> {
-    let answers = answers_of(&rt, rt.alloc(), (4, 1), &GivesUp);
-    let wanted = vec![in rt.alloc(); true, false, true, true]?;
-    assert_eq!(rt; answers, Ok(wanted));
+    for counts in [(4u8, 1u8), (40, 0)] {
+        assert_eq!(rt; all_hear_of_rank_1(&rt, rt.alloc(), counts), Ok(true));
+    }
     Ok(())
 }
 
@@ -292,6 +324,12 @@ fn a_rank_that_gives_up_at_once_is_no_refused_thread(rt: HostRuntime) -> Result<
 #[test]
 fn ranks_let_results_go(rt: HostRuntime) -> Result<(), Fail> {
     assert_eq!(rt; count_let_go(&rt, rt.alloc(), 20), Ok(57));
+    Ok(())
+}
+
+#[test]
+fn ranks_drop_posts(rt: HostRuntime) -> Result<(), Fail> {
+    assert_eq!(rt; all_drop_posts(&rt, rt.alloc(), 20), Ok(true));
     Ok(())
 }
 

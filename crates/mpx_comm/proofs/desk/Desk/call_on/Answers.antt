@@ -15,7 +15,7 @@ returns-in-Err-OutOfMemory g c = called_without_memory _ g.H.Host.node g.H.Host.
 
 pub returns-in-Err-GaveUp : goal.returns-in-Err-GaveUp
 returns-in-Err-GaveUp g c = called_given_up _ g.H.Host.node g.H.Host.turned g.H.Host.turn_refused c.args.name.now c.args.draft c.args.self.now.host c.post_on.new.self.host c.wait.new.self.host c.args.self.now.requests.keys c.post_on.new.self.requests.keys c.wait.new.self.requests.keys c.args.turns
-    c.in-Ok.request c.in-Ok.ensures.asks c.post_on.ensures.no_turn c.wait.ensures.later c.in-Err-GaveUp.request (rw c.in-Err-GaveUp.field-0-is at c.in-Err-GaveUp.ensures.waits)
+    c.in-Ok.request c.in-Ok.ensures.asks c.post_on.ensures.no_turn c.wait.ensures.later c.in-Err-GaveUp.request c.in-Err-GaveUp.rank (rw c.in-Err-GaveUp.field-0-is at c.in-Err-GaveUp.ensures.waits)
 
 pub unreachable-requires : goal.unreachable-requires
 unreachable-requires g c =

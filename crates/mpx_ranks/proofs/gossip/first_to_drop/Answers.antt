@@ -1,0 +1,18 @@
+use Rattle.std.proofs.Common.{◌≡◌, ℕ, ◌<◌, ◌∙◌, Some, ap, arith, sym}
+use Rattle.std.specs.FinMap.{entries}
+use Rattle.mpx_at_once.proofs.Tasks.{within_get}
+use Rattle.mpx_board.specs.Looks.{parts_of}
+use Rattle.mpx_board.specs.Parts.{PartsView}
+use Rattle.mpx_board.specs.Views.{view_of_lifted}
+use Rattle.mpx_node.specs.Shown.{node_of}
+use Rattle.mpx_ranks.proofs.Due.{none_due}
+use Rattle.mpx_ranks.proofs.gossip.first_to_drop.Goals as goal
+
+pub loop-name-init : goal.loop-name-init
+loop-name-init c = λ i e l. absurd (omega (arith, l))
+
+pub returns : goal.returns
+returns c =
+    none_due view_of_lifted (node_of c.args.node.now) (parts_of c.board.result.now) c.entries-name-items.result.now (sym c.board.ensures)
+    (c.entries-name-items.ensures.entries ∙ ap (λ (v : PartsView). entries v.0) c.pair.ensures.value)
+    (λ i e at. let l = within_get c.entries-name-items.result.now i e at in let last = c.loop-name-test.false in c.loop-name.invariant i e (omega (arith, l, last)) at)
