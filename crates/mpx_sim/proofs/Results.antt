@@ -24,7 +24,7 @@ use Rattle.mpx_meaning.proofs.Reports.{which_same}
 use Rattle.mpx_system.proofs.Settled.{stuck_ends}
 use Rattle.mpx_sim.specs.Ends.{AllLack, RestsBy, nodes_of}
 use Rattle.mpx_sim.specs.Draws.{first_schedule}
-use Rattle.mpx_sim.specs.Turns.{Alone, AreAfter, AreTurns, FrameView, IsLeft, Moment}
+use Rattle.mpx_sim.specs.Turns.{Alone, AreAfter, AreTurns, FrameView, IsLeft, Moment, first_moment}
 use Rattle.mpx_sim.specs.Running.{IsUnderWay, ProcessView, is_waiting_at}
 use Rattle.mpx_sim.proofs.Ends.{which_none}
 use Rattle.mpx_sim.proofs.Resting.{no_move, rests_ends}
@@ -97,7 +97,7 @@ module _ (ops : List Operation) (script : ScriptView) (relays : ℕ) (begun : Mo
   is_over loss (inr (inl rest)) = record { run = is_run; over = inr (inl rest.0, all_wait rest.1) }
   is_over loss (inr (inr lost)) = record { run = is_run; over = inr (inr lost.0, all_wait lost.1) }
 
-  pub is_after : (told : List NodeView) → told ≡ nodes_of processes → (seed loss turns : ℕ) → AreTurns turns script.ranks (script.ranks + relays) (record { system = start_system ops script.statements script.ranks (script.ranks + relays); frames = []; schedule = first_schedule (script.ranks + relays) seed loss }) begun
+  pub is_after : (told : List NodeView) → told ≡ nodes_of processes → (seed loss turns : ℕ) → AreTurns turns script.ranks (script.ranks + relays) (first_moment ops script.statements script.ranks (script.ranks + relays) (first_schedule (script.ranks + relays) seed loss)) begun
       → AreAfter ops script relays seed loss turns told
   is_after told same seed loss turns made = record {
     begun = begun;

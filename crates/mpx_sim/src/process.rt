@@ -45,6 +45,7 @@ impl<'a> Process<'a> {
     ghost use Rattle.mpx_sim.specs.Running.{Keeps, Moves};
     ghost use Rattle.mpx_sim.specs.SideBySide.{GoesOn, IsReady, Makes, taken, took};
     ghost use Rattle.mpx_sim.specs.Shown.{process_of};
+    ghost use Rattle.mpx_sim.specs.Senders.{first_sender, receiver};
     ghost use Rattle.mpx_sim.specs.Turns.{Alone, IsListOf, Saying};
 
     /// Process `me` of so many, of which the first are ranks, before its statements.
@@ -62,6 +63,7 @@ impl<'a> Process<'a> {
         ensures me { IfOk result (λ process. (process_of process).rank.me ≡ me) }
         ensures node { IfOk result (λ process. (process_of process).node ≡ start_node me ranks processes) }
         ensures ready { IfOk result (λ process. IsReady process) }
+        ensures sender { IfOk result (λ process. (process_of process).sender ≡ first_sender) }
         ensures stands { IfOk result (λ process. (script : Statements) → me < ranks → slice_get script me ≡ Some todo.now → StandsBy (process_of process).rank (start_state script ranks me)) }
     {
         let world = world_of(alloc, me, ranks);
@@ -149,25 +151,19 @@ impl<'a> Process<'a> {
     /// Says what the process has, and gives the frames of what others may lack of its board: its next list, which goes out from this turn
     /// on. They are those that were made ahead, or are made now, into spare room. Where it kept the one frame of its last list, the next list is
     /// that frame again.
-    pub(crate) fn make_list(
-        &mut self,
-        alloc: Global,
-        turn: u64,
-        keeps: bool,
-    ) -> Result<Vec<Rope>, OutOfMemory>
+    pub(crate) fn make_list(&mut self, alloc: Global, keeps: bool) -> Result<Vec<Rope>, OutOfMemory>
         requires { IsReady self.old }
         ensures keeps { OnOk result ((operations : List Operation) → Keeps Saying operations (process_of self.old) (process_of self.new)) }
         ensures frames { IfOk result (λ made. AreLacked 1048576 (process_of self.new).node made.items) }
         ensures ready { OnOk result (IsReady self.new) }
+        ensures sender { self.new.sender ≡ self.old.sender }
+        ensures rank { self.new.rank ≡ self.old.rank }
     {
         let ahead = self.notes.ahead.take();
         if let Some(last) = &self.notes.last {
-            let again = one_frame(alloc, last)?;
-            self.sender.sends(turn, 1);
-            return Ok(again);
+            return one_frame(alloc, last);
         }
         let list = new_list(alloc, &mut self.carrier.node, ahead, &mut self.notes.spare)?;
-        self.sender.sends(turn, list.len());
         let last = kept_of(alloc, list.as_slice(), keeps)?;
         self.notes.last = last;
         Ok(list)
@@ -184,11 +180,13 @@ impl<'a> Process<'a> {
         requires turn { turn < 4294967296 }
         requires ready { IsReady self.old }
         ensures keeps { OnOk result ((operations : List Operation) → Keeps Saying operations (process_of self.old) (process_of self.new)) }
-        ensures list { IfOk result (λ made. (size : ℕ) → to < size → IsListOf size turn (process_of self.new).rank.me (process_of self.new).node (map frame_of made.items)) }
+        ensures list { IfOk result (λ made. (shifts : List ℕ) (size : ℕ) → self.old.sender.out ≤ turn → to ≡ receiver shifts size (process_of self.new).rank.me self.old.sender.place → IsListOf shifts size turn (process_of self.new).rank.me (process_of self.old).sender (process_of self.new).node (map frame_of made.items)) }
+        ensures sender { self.new.sender ≡ self.old.sender }
+        ensures rank { self.new.rank ≡ self.old.rank }
         ensures join { IfOk result (λ made. join_all (map part_of made.items) ≡ lacking_on (process_of self.new).node) }
         ensures ready { OnOk result (IsReady self.new) }
     {
-        let list = self.make_list(alloc, turn, keeps)?;
+        let list = self.make_list(alloc, keeps)?;
         frames_with(alloc, list, self.me(), to, turn)
     }
 
@@ -197,22 +195,22 @@ impl<'a> Process<'a> {
     pub(crate) fn say(
         &mut self,
         alloc: Global,
-        place: usize,
         processes: usize,
         schedule: &Schedule,
         turn: u64,
     ) -> Result<(), OutOfMemory>
-        requires place { place < processes }
+        requires some { 0 < processes }
         requires turn { turn < 4294967296 }
         requires ready { IsReady self.old }
-        ensures { OnOk result (Makes processes turn self.old self.new) }
+        ensures { OnOk result (Makes schedule.now.shifts.items processes turn self.old self.new) }
     {
         if !self.sender.has_sent(turn) {
             self.notes.made = Vec::new(alloc);
             return Ok(());
         }
-        let to = schedule.receiver(place, self.sender.lists(), processes);
+        let to = schedule.receiver(self.me(), self.sender.place(), processes);
         let made = self.make_frames(alloc, to, turn, schedule.loses_some())?;
+        self.sender.sends(turn, made.len(), schedule.shifts());
         self.notes.made = made;
         Ok(())
     }
@@ -334,7 +332,7 @@ impl<'a> Process<'a> {
         alloc: Global,
         frame: &FrameUnderWay,
     ) -> Result<(), OutOfMemory>
-        ensures took { OnOk result (process_of self.new ≡ record { rank = (process_of self.old).rank; node = learn (part_of frame.now) (process_of self.old).node }) }
+        ensures took { OnOk result (process_of self.new ≡ record { rank = (process_of self.old).rank; node = learn (part_of frame.now) (process_of self.old).node; sender = (process_of self.old).sender }) }
         ensures ready { IsReady self.new }
     {
         self.notes.ahead = None;

@@ -4,9 +4,10 @@ ghost use Rattle.mpx_num.specs.declared.own.Operation.{Operation};
 ghost use Rattle.mpx_system.specs.Systems.{start_system};
 ghost use Rattle.mpx_sim.specs.Draws.{ScheduleView};
 ghost use Rattle.mpx_sim.specs.Running.{IsAt, IsUnderWay};
+ghost use Rattle.mpx_sim.specs.Senders.{first_sender};
 ghost use Rattle.mpx_sim.specs.Shown.{process_of};
 ghost use Rattle.mpx_sim.specs.SideBySide.{AreReady, IsReady};
-ghost use Rattle.mpx_sim.specs.Turns.{Alone};
+ghost use Rattle.mpx_sim.specs.Turns.{Alone, first_moment};
 
 use crate::process::Process;
 use join_core::OutOfMemory;
@@ -24,6 +25,7 @@ fn start_at<'a>(
     requires ranks { script.now.ranks ≤ size }
     requires few { size ≤ 64 }
     ensures ready { IfOk result (λ process. IsReady process) }
+    ensures sender { IfOk result (λ process. (process_of process).sender ≡ first_sender) }
     ensures at { IfOk result (λ process. (operations : List Operation) → IsAt script.now.ranks (start_system operations script.now.statements script.now.ranks size) me (process_of process)) }
 {
     let ranks = script.ranks();
@@ -42,7 +44,7 @@ pub(crate) fn start<'a>(
     requires { script.now.ranks + relays ≤ 64 }
     ensures ready { IfOk result (λ processes. AreReady processes.items) }
     ensures run { IfOk result (λ processes. (operations : List Operation) (first : ScheduleView)
-        → IsUnderWay operations script.now.statements script.now.ranks (script.now.ranks + relays) (record { system = start_system operations script.now.statements script.now.ranks (script.now.ranks + relays); frames = []; schedule = first }) Alone (map process_of processes.items) []) }
+        → IsUnderWay operations script.now.statements script.now.ranks (script.now.ranks + relays) (first_moment operations script.now.statements script.now.ranks (script.now.ranks + relays) first) Alone (map process_of processes.items) []) }
 {
     let mut processes = Vec::new(alloc);
     let ranks = script.ranks();
