@@ -35,20 +35,33 @@ pub(crate) struct Posted {
     pub(crate) call: u32,
 }
 
-/// A process's node, and the contexts that it looks at.
+/// A call that was posted, and by which of its rank's posting statements, from 0 on.
+#[derive(Drop)]
+pub(crate) struct Noted {
+    pub(crate) name: Name,
+    pub(crate) call: u32,
+    pub(crate) nth: usize,
+}
+
+/// A process's node, the contexts that it looks at, how many posts were tried, and which were made, where that is noted.
 #[derive(Drop)]
 pub(crate) struct RunDesk {
     pub(crate) node: Node,
     contexts: Vec<Name>,
+    tried: usize,
+    notes: bool,
+    pub(crate) noted: Vec<Noted>,
 }
 
 impl RunDesk {
-    /// The desk of process `me` of so many, of which the first are ranks, before any post. It looks at the world.
+    /// The desk of process `me` of so many, of which the first are ranks, before any post. It looks at the world, and notes posts where that is
+    /// asked for.
     pub(crate) fn new(
         alloc: Global,
         me: Proc,
         ranks: u8,
         processes: u8,
+        notes: bool,
     ) -> Result<RunDesk, OutOfMemory>
         requires some { 0 < ranks }
         requires ranks { ranks ≤ processes }
@@ -58,7 +71,13 @@ impl RunDesk {
     {
         let contexts = contexts_at_start(alloc)?;
         match Node::new(alloc, me, ranks, processes) {
-            Ok(node) => Ok(RunDesk { node, contexts }),
+            Ok(node) => Ok(RunDesk {
+                node,
+                contexts,
+                tried: 0,
+                notes,
+                noted: Vec::new(alloc),
+            }),
             Err(e) => {
                 drop(contexts);
                 Err(e)
@@ -70,8 +89,14 @@ impl RunDesk {
     pub(crate) fn into_node(self) -> Node
         ensures { result ≡ self.node }
     {
-        let RunDesk { node, contexts } = self;
+        let RunDesk {
+            node,
+            contexts,
+            noted,
+            ..
+        } = self;
         drop(contexts);
+        drop(noted);
         node
     }
 
@@ -172,7 +197,12 @@ impl Carrier for RunDesk {
         posting: &Posting,
         ops: &Ops,
     ) -> Result<Option<Posted>, PostError> {
+        let nth = self.tried;
+        self.tried = nth.saturating_add(1);
         let posted = attempt(alloc, &mut self.node, on, posting, ops)?;
+        if self.notes {
+            note(alloc, &mut self.noted, &posted, nth);
+        }
         match look_at_gathering(alloc, &mut self.contexts, &posted) {
             Ok(()) => Ok(Some(posted)),
             Err(_) => {
@@ -267,6 +297,15 @@ fn look_at_given(
         contexts.push(name.copy(alloc)?)?;
     }
     Ok(())
+}
+
+// Notes a call that was posted. Where memory for that is refused, it isn't noted.
+fn note(alloc: Global, noted: &mut Vec<Noted>, posted: &Posted, nth: usize) {
+    let Ok(name) = posted.name.copy(alloc) else {
+        return;
+    };
+    let call = posted.call;
+    let _ = noted.push(Noted { name, call, nth });
 }
 
 // So is a gathering, with the first call on it.

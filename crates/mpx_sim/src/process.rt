@@ -14,6 +14,7 @@ use crate::frame_under_way::FrameUnderWay;
 use crate::frames::frames_with;
 use crate::lists::{MOST_BYTES, kept_of, new_list, one_frame};
 use crate::notes::Notes;
+use crate::observer::Observer;
 use crate::schedule::Schedule;
 use crate::sender::Sender;
 use join_core::OutOfMemory;
@@ -32,6 +33,7 @@ use std::alloc::Global;
 #[derive(Drop)]
 pub(crate) struct Process<'a> {
     carrier: RunDesk,
+    statements: &'a [Statement],
     rank: Interpreter<'a, RunDesk>,
     sender: Sender,
     pub(crate) notes: Notes,
@@ -55,6 +57,7 @@ impl<'a> Process<'a> {
         ranks: u8,
         processes: u8,
         todo: &'a [Statement],
+        notes: bool,
     ) -> Result<Process<'a>, OutOfMemory>
         requires some { 0 < ranks }
         requires ranks { ranks ≤ processes }
@@ -68,7 +71,7 @@ impl<'a> Process<'a> {
     {
         let world = world_of(alloc, me, ranks);
         let me = Proc::new(me);
-        let carrier = match RunDesk::new(alloc, me, ranks, processes) {
+        let carrier = match RunDesk::new(alloc, me, ranks, processes, notes) {
             Ok(carrier) => carrier,
             Err(e) => {
                 drop(world);
@@ -78,6 +81,7 @@ impl<'a> Process<'a> {
         match Interpreter::new(alloc, me, world, todo) {
             Ok(rank) => Ok(Process {
                 carrier,
+                statements: todo,
                 rank,
                 sender: Sender::new(),
                 notes: Notes::new(alloc),
@@ -254,6 +258,7 @@ impl<'a> Process<'a> {
         ensures { self.new.notes.failed ≡ false → GoesOn (⟦<Ops as Listing>⟧.operations ops.now) ranks place (taken place turn frames.now (process_of self.old)) (process_of self.new) × IsReady self.new }
     {
         self.notes.told = self.lines().len();
+        self.notes.posts = self.carrier.noted.len();
         match self.take_then_step(alloc, place, ranks, frames, turn, ops) {
             Ok(changed) => {
                 self.notes.changed = changed;
@@ -357,6 +362,15 @@ impl<'a> Process<'a> {
         self.rank.lines()
     }
 
+    /// Tells of the calls that it has posted since that was last noted, where posts are followed.
+    pub(crate) fn tell_posts(&self, turn: u32, observer: &mut dyn Observer) {
+        let new = self.carrier.noted.get(self.notes.posts..).unwrap_or(&[]);
+        for post in new {
+            let statement = place_of_post(self.statements, post.nth);
+            observer.posted(turn, self.me(), &post.name, post.call, statement);
+        }
+    }
+
     /// How many statements are left, with the one whose outcome it waits for.
     pub(crate) fn left(&self) -> usize {
         self.rank.left()
@@ -384,6 +398,20 @@ impl<'a> Process<'a> {
         let Process { carrier, rank, .. } = self;
         (carrier.into_node(), rank.lines)
     }
+}
+
+// The place of the posting statement with this number.
+fn place_of_post(statements: &[Statement], nth: usize) -> usize {
+    let mut left = nth;
+    for place in 0..statements.len() {
+        if matches!(statements[place], Statement::Post(_)) {
+            if left == 0 {
+                return place;
+            }
+            left -= 1;
+        }
+    }
+    statements.len()
 }
 
 // The world as a rank has it. A relay has none.

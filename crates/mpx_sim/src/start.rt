@@ -20,6 +20,7 @@ fn start_at<'a>(
     script: &'a Script,
     me: u8,
     size: u8,
+    notes: bool,
 ) -> Result<Process<'a>, OutOfMemory>
     requires me { me < size }
     requires ranks { script.now.ranks ≤ size }
@@ -30,16 +31,17 @@ fn start_at<'a>(
 {
     let ranks = script.ranks();
     if me >= ranks {
-        return Process::new(alloc, me, ranks, size, &script.statements(0)[..0]);
+        return Process::new(alloc, me, ranks, size, &script.statements(0)[..0], notes);
     }
-    Process::new(alloc, me, ranks, size, script.statements(me))
+    Process::new(alloc, me, ranks, size, script.statements(me), notes)
 }
 
-/// The processes before the first turn, when no frame is under way.
+/// The processes before the first turn, when no frame is under way. They note posts where that is asked for.
 pub(crate) fn start<'a>(
     alloc: Global,
     script: &'a Script,
     relays: u8,
+    notes: bool,
 ) -> Result<Vec<Process<'a>>, OutOfMemory>
     requires { script.now.ranks + relays ≤ 64 }
     ensures ready { IfOk result (λ processes. AreReady processes.items) }
@@ -49,7 +51,7 @@ pub(crate) fn start<'a>(
     let mut processes = Vec::new(alloc);
     let ranks = script.ranks();
     for me in 0..ranks + relays {
-        processes.push(start_at(alloc, script, me, ranks + relays)?)?;
+        processes.push(start_at(alloc, script, me, ranks + relays, notes)?)?;
     }
     Ok(processes)
 }

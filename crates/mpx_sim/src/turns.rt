@@ -43,7 +43,7 @@ pub(crate) fn simulate<'a, R: Threads + Sync>(
     ensures run { IfOk result (λ ran. AreOfRun (⟦<Ops as Listing>⟧.operations ops.now) script.now options.now.relays options.now.seed options.now.loss ran.1 (map process_of ran.0.items)) }
     ensures ended { IfOk result (λ ran. AllMadeOr ran.1 options.now.turns (RestsBy options.now.loss script.now.ranks (map process_of ran.0.items))) }
 {
-    let mut processes = start(alloc, script, options.relays)?;
+    let mut processes = start(alloc, script, options.relays, observer.follows_posts())?;
     let mut network = Network::new(alloc, options, processes.len())?;
     let plan = Plan {
         workers: workers_of(rt, options, processes.len()),
@@ -205,10 +205,13 @@ fn go_further<R: Threads + Sync>(
     Ok(changed)
 }
 
-// Tells whoever looks on of ranks' new lines, in the turn behind so many.
+// Tells whoever looks on of ranks' new posts and lines, in the turn after so many.
 fn tell_more(processes: &[Process<'_>], ranks: usize, turns: u32, observer: &mut dyn Observer)
     requires { ranks ≤ length processes.now }
 {
+    for p in 0..ranks {
+        processes[p].tell_posts(turns.saturating_add(1), observer);
+    }
     for p in 0..ranks {
         let lines = processes[p].lines();
         if lines.len() > processes[p].notes.told {
