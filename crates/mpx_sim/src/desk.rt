@@ -14,6 +14,7 @@ ghost use Rattle.mpx_sim.specs.Running.{KeepsNode};
 ghost use Rattle.mpx_sim.specs.Shown.{call_in, call_of};
 ghost use Rattle.mpx_sim.specs.Turns.{Alone};
 
+use crate::posts::Posts;
 use join_core::{Exact, OutOfMemory};
 use mpx_birth::Birth;
 use mpx_group::Proc;
@@ -35,22 +36,12 @@ pub(crate) struct Posted {
     pub(crate) call: u32,
 }
 
-/// A call that was posted, and by which of its rank's posting statements, from 0 on.
-#[derive(Drop)]
-pub(crate) struct Noted {
-    pub(crate) name: Name,
-    pub(crate) call: u32,
-    pub(crate) nth: usize,
-}
-
-/// A process's node, the contexts that it looks at, how many posts were tried, and which were made, where that is noted.
+/// A process's node, the contexts that it looks at, and its posts, for who looks on.
 #[derive(Drop)]
 pub(crate) struct RunDesk {
     pub(crate) node: Node,
     contexts: Vec<Name>,
-    tried: usize,
-    notes: bool,
-    pub(crate) noted: Vec<Noted>,
+    pub(crate) posts: Posts,
 }
 
 impl RunDesk {
@@ -74,9 +65,7 @@ impl RunDesk {
             Ok(node) => Ok(RunDesk {
                 node,
                 contexts,
-                tried: 0,
-                notes,
-                noted: Vec::new(alloc),
+                posts: Posts::new(alloc, notes),
             }),
             Err(e) => {
                 drop(contexts);
@@ -92,11 +81,10 @@ impl RunDesk {
         let RunDesk {
             node,
             contexts,
-            noted,
-            ..
+            posts,
         } = self;
         drop(contexts);
-        drop(noted);
+        drop(posts);
         node
     }
 
@@ -197,12 +185,9 @@ impl Carrier for RunDesk {
         posting: &Posting,
         ops: &Ops,
     ) -> Result<Option<Posted>, PostError> {
-        let nth = self.tried;
-        self.tried = nth.saturating_add(1);
+        self.posts.tries();
         let posted = attempt(alloc, &mut self.node, on, posting, ops)?;
-        if self.notes {
-            note(alloc, &mut self.noted, &posted, nth);
-        }
+        self.posts.note(alloc, &posted.name, posted.call);
         match look_at_gathering(alloc, &mut self.contexts, &posted) {
             Ok(()) => Ok(Some(posted)),
             Err(_) => {
@@ -297,15 +282,6 @@ fn look_at_given(
         contexts.push(name.copy(alloc)?)?;
     }
     Ok(())
-}
-
-// Notes a call that was posted. Where memory for that is refused, it isn't noted.
-fn note(alloc: Global, noted: &mut Vec<Noted>, posted: &Posted, nth: usize) {
-    let Ok(name) = posted.name.copy(alloc) else {
-        return;
-    };
-    let call = posted.call;
-    let _ = noted.push(Noted { name, call, nth });
 }
 
 // So is a gathering, with the first call on it.

@@ -17,10 +17,10 @@ use crate::notes::Notes;
 use crate::observer::Observer;
 use crate::schedule::Schedule;
 use crate::sender::Sender;
+use crate::start::world_of;
 use join_core::OutOfMemory;
 use mpx_board::Board;
 use mpx_group::Proc;
-use mpx_name::Name;
 use mpx_node::Node;
 use mpx_num::{Listing, Ops};
 use mpx_rank::Interpreter;
@@ -258,7 +258,7 @@ impl<'a> Process<'a> {
         ensures { self.new.notes.failed ≡ false → GoesOn (⟦<Ops as Listing>⟧.operations ops.now) ranks place (taken place turn frames.now (process_of self.old)) (process_of self.new) × IsReady self.new }
     {
         self.notes.told = self.lines().len();
-        self.notes.posts = self.carrier.noted.len();
+        self.notes.posts = self.carrier.posts.count();
         match self.take_then_step(alloc, place, ranks, frames, turn, ops) {
             Ok(changed) => {
                 self.notes.changed = changed;
@@ -364,11 +364,8 @@ impl<'a> Process<'a> {
 
     /// Tells of the calls that it has posted since that was last noted, where posts are followed.
     pub(crate) fn tell_posts(&self, turn: u32, observer: &mut dyn Observer) {
-        let new = self.carrier.noted.get(self.notes.posts..).unwrap_or(&[]);
-        for post in new {
-            let statement = place_of_post(self.statements, post.nth);
-            observer.posted(turn, self.me(), &post.name, post.call, statement);
-        }
+        let (posts, told) = (&self.carrier.posts, self.notes.posts);
+        posts.tell(told, turn, self.me(), self.statements, observer);
     }
 
     /// How many statements are left, with the one whose outcome it waits for.
@@ -398,28 +395,4 @@ impl<'a> Process<'a> {
         let Process { carrier, rank, .. } = self;
         (carrier.into_node(), rank.lines)
     }
-}
-
-// The place of the posting statement with this number.
-fn place_of_post(statements: &[Statement], nth: usize) -> usize {
-    let mut left = nth;
-    for place in 0..statements.len() {
-        if matches!(statements[place], Statement::Post(_)) {
-            if left == 0 {
-                return place;
-            }
-            left -= 1;
-        }
-    }
-    statements.len()
-}
-
-// The world as a rank has it. A relay has none.
-fn world_of(alloc: Global, me: u8, ranks: u8) -> Option<Name>
-    ensures { me < ranks → result ≡ Some [] }
-{
-    if me >= ranks {
-        return None;
-    }
-    Some(Name::world(alloc))
 }

@@ -1,5 +1,5 @@
 //! The processes of a run before its first turn.
-ghost use Rattle.std.specs.Prelude.{◌≡◌, ◌<◌, ◌≤◌, ◌+◌, [], IfOk, map, List, ℕ};
+ghost use Rattle.std.specs.Prelude.{◌≡◌, ◌<◌, ◌≤◌, ◌+◌, [], IfOk, map, List, Some, ℕ};
 ghost use Rattle.mpx_num.specs.declared.own.Operation.{Operation};
 ghost use Rattle.mpx_system.specs.Systems.{start_system};
 ghost use Rattle.mpx_sim.specs.Draws.{ScheduleView};
@@ -11,6 +11,7 @@ ghost use Rattle.mpx_sim.specs.Turns.{Alone, first_moment};
 
 use crate::process::Process;
 use join_core::OutOfMemory;
+use mpx_name::Name;
 use mpx_script::Script;
 use std::alloc::Global;
 
@@ -54,4 +55,14 @@ pub(crate) fn start<'a>(
         processes.push(start_at(alloc, script, me, ranks + relays, notes)?)?;
     }
     Ok(processes)
+}
+
+/// The world as a rank has it. A relay has none.
+pub(crate) fn world_of(alloc: Global, me: u8, ranks: u8) -> Option<Name>
+    ensures { me < ranks → result ≡ Some [] }
+{
+    if me >= ranks {
+        return None;
+    }
+    Some(Name::world(alloc))
 }
