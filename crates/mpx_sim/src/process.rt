@@ -1,5 +1,5 @@
 //! A process of a run: a rank, which goes on with its statements, or a relay, which has none.
-ghost use Rattle.std.specs.Prelude.{◌≡◌, ◌<◌, ◌≤◌, [], List, IfOk, OnOk, Some, false, map, slice_get, string_bytes, true, ℕ};
+ghost use Rattle.std.specs.Prelude.{◌≡◌, ◌<◌, ◌≤◌, List, IfOk, OnOk, Some, false, map, slice_get, string_bytes, true, ℕ};
 ghost use Rattle.mpx_num.specs.declared.own.Operation.{Operation};
 ghost use Rattle.mpx_board.specs.Boards.{join_all};
 ghost use Rattle.mpx_node.specs.Deltas.{AreLacked, lacking_on};
