@@ -1,6 +1,7 @@
 //! The posts of a run's rank, for who looks on.
 
 use crate::observer::Observer;
+use join_core::Exact;
 use mpx_name::Name;
 use mpx_statement::Statement;
 use std::alloc::Global;
