@@ -52,6 +52,7 @@ pub fn run_job<T: Threads + Sync, R: Read, W: Write, E: Write>(
 {
     match prepare(alloc, call, reader, ops) {
         Ok(prepared) => {
+            observer.begins(&prepared.text);
             let printed = print_job(rt, alloc, &call.job, &prepared.script, observer, ops);
             answer(alloc, call, &prepared, printed, out, err, ops)
         }

@@ -126,7 +126,7 @@ module _ (ops : List Operation) (options : Options) (script : ScriptView) (trans
 
 module _ (ops : List Operation) (options : Options) (script : ScriptView) (nodes : List NodeView) (transcripts : List (List (List ℕ))) (waiting : List ℕ) (turns : ℕ)
     (run : IsRun ops script options.relays nodes transcripts waiting) (after : AreAfter ops script options.relays options.seed options.loss turns nodes)
-    (ended : AllMadeOr turns options.turns (IsOver options.loss nodes waiting)) (alone : options.threads ≡ false)
+    (ended : AllMadeOr turns options.turns (IsOver ops script options.relays options.loss nodes transcripts waiting)) (alone : options.threads ≡ false)
     (begins : (e : State) → IsEvaluationOf ops script e → Begin transcripts e) (done : (e : State) → IsEvaluationOf ops script e → AreWhole transcripts waiting e)
     (all : turns < options.turns → options.loss < 100 → (e : State) → IsEvaluationOf ops script e → AreAll transcripts waiting script.ranks e)
     (end : End) (text : List ℕ) (lines : text ≡ text_upto (lines_at transcripts) script.ranks) (ends : EndsSo end waiting) (by : IsBy (cause_of turns options) end) where

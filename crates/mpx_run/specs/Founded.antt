@@ -34,7 +34,7 @@ pub record IsSimulatedBy (nodes : List NodeView) (transcripts : List (List (List
   pub run : IsRun ops script options.relays nodes transcripts waiting
   pub prints : IsOfRun ops options script transcripts waiting end text
   pub after : AreAfter ops script options.relays options.seed options.loss turns nodes
-  pub ended : AllMadeOr turns options.turns (IsOver options.loss nodes waiting)
+  pub ended : AllMadeOr turns options.turns (IsOver ops script options.relays options.loss nodes transcripts waiting)
   pub cause : IsBy (cause_of turns options) end
 
 -- of a simulated run, with its nodes and its lines

@@ -155,6 +155,7 @@ fn run_bytes<T: Threads + Wait + Sync, W: Write, G: Gate + Sync>(
     ensures founded { Prints IsFounded (⟦<Ops as Listing>⟧.operations ops.now) (G.gives_up gate.now) job.now text.now (W.contents writer.old) (W.contents writer.new) result }
 {
     let script = read_script(alloc, text, ops)?;
+    observer.begins(text);
     let printed = match printed_by(rt, alloc, job, &script, observer, gate, ops) {
         Ok(printed) => printed,
         Err(error) => return Err(error),

@@ -3,6 +3,7 @@ ghost use Rattle.std.specs.Prelude.{◌≡◌, ◌&&◌, not};
 ghost use Rattle.mpx_shell.specs.Showing.{shown_on, shows_lines, shows_rows};
 
 use crate::progress::HowFar;
+use mpx_name::Name;
 use mpx_node::Node;
 use mpx_sim::{FrameSeen, Observer, Progress};
 use mpx_trace::{Table, Trace};
@@ -49,6 +50,14 @@ impl<'a, C: Clock, S: Write + IsTerminal> Seen<'a, C, S> {
 }
 
 impl<C: Clock, S: Write + IsTerminal + Drop> Observer for Seen<'_, C, S> {
+    fn begins(&mut self, text: &[u8]) {
+        match self {
+            Seen::Lines(trace) => trace.begins(text),
+            Seen::Rows(table) => table.begins(text),
+            Seen::Progress(far) => far.begins(text),
+        }
+    }
+
     fn turn(&mut self, number: u32, progress: Progress) {
         match self {
             Seen::Lines(trace) => trace.turn(number, progress),
@@ -78,6 +87,22 @@ impl<C: Clock, S: Write + IsTerminal + Drop> Observer for Seen<'_, C, S> {
             Seen::Lines(trace) => trace.taken(frame, again, node),
             Seen::Rows(table) => table.taken(frame, again, node),
             Seen::Progress(far) => far.taken(frame, again, node),
+        }
+    }
+
+    fn follows_posts(&self) -> bool {
+        match self {
+            Seen::Lines(trace) => trace.follows_posts(),
+            Seen::Rows(table) => table.follows_posts(),
+            Seen::Progress(far) => far.follows_posts(),
+        }
+    }
+
+    fn posted(&mut self, turn: u32, rank: u8, name: &Name, call: u32, statement: usize) {
+        match self {
+            Seen::Lines(trace) => trace.posted(turn, rank, name, call, statement),
+            Seen::Rows(table) => table.posted(turn, rank, name, call, statement),
+            Seen::Progress(far) => far.posted(turn, rank, name, call, statement),
         }
     }
 

@@ -39,6 +39,7 @@ use Rattle.mpx_system.proofs.Posting.{IsBoundSo, driven_bound, not_same}
 use Rattle.mpx_sim.specs.declared.desk.RunDesk.{RunDesk}
 use Rattle.mpx_sim.specs.Carrying.{Tries, desk_terms, hears_more, hears_nothing, known_to, new_name, outcomes_on, tried_on}
 use Rattle.mpx_sim.specs.Turns.{Alone, FrameView, Moment}
+use Rattle.mpx_sim.specs.Senders.{SenderView}
 use Rattle.mpx_sim.specs.Running.{IsUnderWay, Moves, ProcessView, StandsBy, name_of, with_births}
 use Rattle.mpx_sim.proofs.Posting.{IsTried, answered_err, answered_ok, found_there, tried_bound, answered as answered_so}
 use Rattle.mpx_sim.proofs.Running.{couples, moves_node, moves_then, run_on}
@@ -138,7 +139,7 @@ module _ (bound : List ℕ → Option (Option Name)) (seen : List ℕ → Option
 
 -- ONE MOVE
 
-module _ (ops : List Operation) (script : Script) (ranks size : ℕ) (begun : Moment) (processes : List ProcessView) (frames : List FrameView) (p : ℕ) (l : p < ranks) (r : RankView Name) (node : NodeView) (at : slice_get processes p ≡ Some (record { rank = r; node = node })) (run : IsUnderWay ops script ranks size begun Alone processes frames) where
+module _ (ops : List Operation) (script : Script) (ranks size : ℕ) (begun : Moment) (processes : List ProcessView) (frames : List FrameView) (p : ℕ) (l : p < ranks) (r : RankView Name) (c : SenderView) (node : NodeView) (at : slice_get processes p ≡ Some (record { rank = r; node = node; sender = c })) (run : IsUnderWay ops script ranks size begun Alone processes frames) where
   abbrev coupled : Couples ops script ranks run.system
   coupled = couples ops script ranks size begun Alone processes frames run
 
@@ -149,10 +150,10 @@ module _ (ops : List Operation) (script : Script) (ranks size : ℕ) (begun : Mo
   local = run.system.ranks p
 
   node_is : node ≡ (w.each p).node
-  node_is = (run.each p (record { rank = r; node = node }) at).node
+  node_is = (run.each p (record { rank = r; node = node; sender = c }) at).node
 
   stands : StandsBy r local
-  stands = (run.each p (record { rank = r; node = node }) at).stands l
+  stands = (run.each p (record { rank = r; node = node; sender = c }) at).stands l
 
   abbrev seen : RankView CommunicatorView
   seen = with_births stands.bound r
@@ -165,14 +166,14 @@ module _ (ops : List Operation) (script : Script) (ranks size : ℕ) (begun : Mo
   IsMoved m = m ≡ ((goes_on_world w (posts_of w.operations p (w.each p).made local.bound local.todo)).each p).node
 
   moves : (s : RankView Name) (bound : List ℕ → Option (Option CommunicatorView)) (m : NodeView) → s.me ≡ r.me → ((word : List ℕ) → s.bound word ≡ option_map name_of (bound word)) → Move (node_terms ops (births w)) seen node (with_births bound s) m → IsMoved m
-      → IsUnderWay ops script ranks size begun Alone (set processes p (record { rank = s; node = m })) frames
+      → IsUnderWay ops script ranks size begun Alone (set processes p (record { rank = s; node = m; sender = c })) frames
   moves s bound m me names move is =
-      let a = run.each p (record { rank = r; node = node }) at in
+      let a = run.each p (record { rank = r; node = node; sender = c }) at in
       let by : w.operations ≡ ops = coupled.operations in
       let one = move_steps ops (node_terms ops (births w)) (world_tells w p) seen local stands.stands (each-me ops script ranks run.system.ranks coupled.reached p ∙ sym a.me) (λ n. n ≡ (w.each p).node) (λ t n. Unit {0})
       (subst (λ q. GoesBy ops (node_terms ops (births w)) (world_tells w p) q local (λ n. n ≡ (w.each p).node) (λ t n. Unit {0})) (sym a.me) (goes_by ops script ranks run.system coupled p l)) node (with_births bound s) m node_is move in
       let others = apart ops script ranks run.system coupled p l local.todo in
-      run_on ops script ranks size begun Alone processes frames run p (record { rank = s; node = m }) (Drives p) tt l (record {
+      run_on ops script ranks size begun Alone processes frames run p (record { rank = r; node = node; sender = c }) (record { rank = s; node = m; sender = c }) at refl (Drives p) tt l (record {
         at = record {
           me = me ∙ a.me;
           node = is;
@@ -188,7 +189,7 @@ module _ (ops : List Operation) (script : Script) (ranks size : ℕ) (begun : Mo
   rests todo e none = node_is ∙ ap (λ hs. ((goes_on_world w hs).each p).node) (sym (ap (posts_of w.operations p (w.each p).made local.bound) e ∙ none))
 
   hears_next : (wait : WaitView) (outcome : Outcome) (text : List ℕ) (to : Option Name) (f : Finished) → r.waits ≡ Some wait → outcomes_on node wait.name wait.call ≡ Some outcome → text ≡ outcome_text outcome → result_on node wait.name wait.call ≡ Some f → to ≡ new_name f.outcome
-      → IsUnderWay ops script ranks size begun Alone (set processes p (record { rank = heard r wait text to; node = node })) frames
+      → IsUnderWay ops script ranks size begun Alone (set processes p (record { rank = heard r wait text to; node = node; sender = c })) frames
   hears_next wait outcome text to f waits tells said held gives =
       let answer : Answer = answer_with (births w) f.outcome in
       let b = bound_by answer.outcome answer.born in
@@ -215,26 +216,26 @@ module _ (ops : List Operation) (script : Script) (ranks size : ℕ) (begun : Mo
         ∙ ap (λ todo. ((goes_on_world w (posts_of w.operations p (w.each p).made local.bound todo)).each p).node) (sym (todo_is None (Post posting ∷ rest) waits todo))
 
     posts_next : (name : Name) (call : ℕ) (m : NodeView) → started_as posting ≡ None → Tries (tried_on ops posting (communicator_in (r.bound (communicator_word posting))) node) (Ok (name, call)) m
-        → IsUnderWay ops script ranks size begun Alone (set processes p (record { rank = posted r posting rest name call; node = m })) frames
+        → IsUnderWay ops script ranks size begun Alone (set processes p (record { rank = posted r posting rest name call; node = m; sender = c })) frames
     posts_next name call m none tries =
         let tried : Tries (tried_on ops posting (name_of on) node) (Ok (name, call)) m = subst (λ o. Tries (tried_on ops posting o node) (Ok (name, call)) m) on_is tries in
         moves (posted r posting rest name call) stands.bound m refl stands.names (posts posting rest name call waits todo none tried) (tried.1 ∙ tried_next)
 
     starts_next : (word : List ℕ) (name : Name) (call : ℕ) (m : NodeView) → started_as posting ≡ Some word → Tries (tried_on ops posting (communicator_in (r.bound (communicator_word posting))) node) (Ok (name, call)) m
-        → IsUnderWay ops script ranks size begun Alone (set processes p (record { rank = started r word rest name call; node = m })) frames
+        → IsUnderWay ops script ranks size begun Alone (set processes p (record { rank = started r word rest name call; node = m; sender = c })) frames
     starts_next word name call m open_as tries =
         let tried : Tries (tried_on ops posting (name_of on) node) (Ok (name, call)) m = subst (λ o. Tries (tried_on ops posting o node) (Ok (name, call)) m) on_is tries in
         moves (started r word rest name call) stands.bound m refl stands.names (starts posting rest word name call waits todo open_as tried) (tried.1 ∙ tried_next)
 
     refused_next : (refusal : PostError) (text : List ℕ) (m : NodeView) → (refusal ≡ OutOfMemory → ⊥) → Tries (tried_on ops posting (communicator_in (r.bound (communicator_word posting))) node) (Err refusal) m → text ≡ line_text (Refused refusal)
-        → IsUnderWay ops script ranks size begun Alone (set processes p (record { rank = refused r posting rest text; node = m })) frames
+        → IsUnderWay ops script ranks size begun Alone (set processes p (record { rank = refused r posting rest text; node = m; sender = c })) frames
     refused_next refusal text m other tries said =
         let tried : Tries (tried_on ops posting (name_of on) node) (Err refusal) m = subst (λ o. Tries (tried_on ops posting o node) (Err refusal) m) on_is tries in
         moves (refused r posting rest text) (binds (bound_to posting) None stands.bound) m refl (names_bound r.bound stands.bound stands.names (bound_to posting) None None refl)
         (is_refused posting rest refusal text waits todo other tried said) ((tried other).1 ∙ tried_next)
 
   passes_next : (words : List (List ℕ)) (rest : List Statement) → r.waits ≡ None → r.todo ≡ Wait words ∷ rest → are_done (outcomes_on node) r.requests words ≡ true
-      → IsUnderWay ops script ranks size begun Alone (set processes p (record { rank = waited r words rest (outcomes_on node); node = node })) frames
+      → IsUnderWay ops script ranks size begun Alone (set processes p (record { rank = waited r words rest (outcomes_on node); node = node; sender = c })) frames
   passes_next words rest waits todo done =
       moves (waited r words rest (outcomes_on node)) stands.bound node refl stands.names (passes words rest waits todo refl done refl)
       (rests (todo_of None (Wait words ∷ rest)) (todo_is None (Wait words ∷ rest) waits todo) refl)
@@ -255,39 +256,39 @@ module _ (ops : List Operation) (script : Script) (ranks size : ℕ) (begun : Mo
 
   asks_next : (question : Question) (rest : List Statement) (text : List ℕ) → r.waits ≡ None → r.todo ≡ Ask question ∷ rest
       → text ≡ line_text (answered_by r.me (λ word. found_in (λ k. freed_on node k) (λ k. known_to node k) (communicator_in (r.bound word))) question)
-      → IsUnderWay ops script ranks size begun Alone (set processes p (record { rank = answered r rest text; node = node })) frames
+      → IsUnderWay ops script ranks size begun Alone (set processes p (record { rank = answered r rest text; node = node; sender = c })) frames
   asks_next question rest text waits todo said =
       moves (answered r rest text) stands.bound node refl stands.names (asks question rest text waits todo (said ∙ λ i. line_text (answered_by r.me (λ word. found_so word i) question)))
       (rests (todo_of None (Ask question ∷ rest)) (todo_is None (Ask question ∷ rest) waits todo) refl)
 
 -- MOVES
 
-module _ (ops : List Operation) where
+module _ (ops : List Operation) (sender : SenderView) where
   abbrev beside : RankView Name → RunDesk → ProcessView
-  beside r d = record { rank = r; node = node_of d.node }
+  beside r d = record { rank = r; node = node_of d.node; sender = sender }
 
   -- the desk hears of others
   hears_of : (r : RankView Name) (c d : RunDesk) → (desk_terms ops).hears c d → Moves ops (beside r c) (beside r d)
-  hears_of r c d h = moves_node ops r (node_of c.node) (node_of d.node) h.0
+  hears_of r c d h = moves_node ops r sender (node_of c.node) (node_of d.node) h.0
 
   -- a move of the rank is one of its process
   move_is : (r : RankView Name) (c : RunDesk) (s : RankView Name) (d : RunDesk) → Move (desk_terms ops) r c s d → Moves ops (beside r c) (beside s d)
   move_is r c s d (hears wait outcome text to waits before tells said gives) =
       moves_then ops (beside r c) (beside r d) (beside s d) (hears_of r c d before)
-      (λ script ranks size begun processes frames p l at run. hears_next ops script ranks size begun processes frames p l r (node_of d.node) at run wait outcome text to gives.0 waits tells said gives.1 gives.2)
+      (λ script ranks size begun processes frames p l at run. hears_next ops script ranks size begun processes frames p l r sender (node_of d.node) at run wait outcome text to gives.0 waits tells said gives.1 gives.2)
   move_is r c s d (posts posting rest name call waits todo none tries) = λ script ranks size begun processes frames p l at run.
-      posts_next ops script ranks size begun processes frames p l r (node_of c.node) at run posting rest waits todo name call (node_of d.node) none tries
+      posts_next ops script ranks size begun processes frames p l r sender (node_of c.node) at run posting rest waits todo name call (node_of d.node) none tries
   move_is r c s d (starts posting rest word name call waits todo open_as tries) = λ script ranks size begun processes frames p l at run.
-      starts_next ops script ranks size begun processes frames p l r (node_of c.node) at run posting rest waits todo word name call (node_of d.node) open_as tries
+      starts_next ops script ranks size begun processes frames p l r sender (node_of c.node) at run posting rest waits todo word name call (node_of d.node) open_as tries
   move_is r c s d (is_refused posting rest refusal text waits todo other tries said) = λ script ranks size begun processes frames p l at run.
-      refused_next ops script ranks size begun processes frames p l r (node_of c.node) at run posting rest waits todo refusal text (node_of d.node) other tries said
+      refused_next ops script ranks size begun processes frames p l r sender (node_of c.node) at run posting rest waits todo refusal text (node_of d.node) other tries said
   move_is r c s d (passes {mid = between} words rest waits todo before done after) =
       moves_then ops (beside r c) (beside r between) (beside s d) (hears_of r c between before)
       (moves_then ops (beside r between) (beside s between) (beside s d)
-      (λ script ranks size begun processes frames p l at run. passes_next ops script ranks size begun processes frames p l r (node_of between.node) at run words rest waits todo done)
+      (λ script ranks size begun processes frames p l at run. passes_next ops script ranks size begun processes frames p l r sender (node_of between.node) at run words rest waits todo done)
       (hears_of s between d after))
   move_is r c s d (asks question rest text waits todo said) = λ script ranks size begun processes frames p l at run.
-      asks_next ops script ranks size begun processes frames p l r (node_of c.node) at run question rest text waits todo said
+      asks_next ops script ranks size begun processes frames p l r sender (node_of c.node) at run question rest text waits todo said
 
   -- without a move it harvests at most
   still_is : (r : RankView Name) (c d : RunDesk) → Still (desk_terms ops) r c d → Moves ops (beside r c) (beside r d)

@@ -15,18 +15,19 @@ use Rattle.mpx_meaning.proofs.Ways.{Way, way-adds}
 use Rattle.mpx_meaning.proofs.Ahead.{confluent, on_way-reached, finished}
 use Rattle.mpx_meaning.proofs.Steps.{step_ends}
 use Rattle.mpx_meaning.specs.Standing.{WaitView, todo_of, has_statements}
-use Rattle.mpx_system.specs.Runs.{AreAll, IsRun, Begin, AreWhole}
+use Rattle.mpx_system.specs.Runs.{AllWait, AreAll, IsOver, IsRun, Begin, AreWhole}
 use Rattle.mpx_system.specs.Systems.{System, IsOfHappenings, start_system}
 use Rattle.mpx_system.proofs.Happenings.{of_happenings}
 use Rattle.mpx_system.proofs.Coupling.{tells_results}
 use Rattle.mpx_system.proofs.Results.{length_taken, mapped_at, nothing_left, prefix_map, some_at, taken_at, which_has}
 use Rattle.mpx_meaning.proofs.Reports.{which_same}
 use Rattle.mpx_system.proofs.Settled.{stuck_ends}
-use Rattle.mpx_sim.specs.Ends.{RestsBy, nodes_of}
+use Rattle.mpx_sim.specs.Ends.{AllLack, RestsBy, nodes_of}
 use Rattle.mpx_sim.specs.Draws.{first_schedule}
-use Rattle.mpx_sim.specs.Turns.{Alone, AreAfter, AreTurns, FrameView, IsLeft, Moment}
+use Rattle.mpx_sim.specs.Turns.{Alone, AreAfter, AreTurns, FrameView, IsLeft, Moment, first_moment}
 use Rattle.mpx_sim.specs.Running.{IsUnderWay, ProcessView, is_waiting_at}
-use Rattle.mpx_sim.proofs.Resting.{rests_ends}
+use Rattle.mpx_sim.proofs.Ends.{which_none}
+use Rattle.mpx_sim.proofs.Resting.{no_move, rests_ends}
 use Rattle.mpx_sim.proofs.Running.{couples}
 
 left_doing : (todo : List Statement) → has_statements todo ≡ is_left (doing todo)
@@ -85,7 +86,18 @@ module _ (ops : List Operation) (script : ScriptView) (relays : ℕ) (begun : Mo
         waiting_are = waiting_so;
       }
 
-  pub is_after : (told : List NodeView) → told ≡ nodes_of processes → (seed loss turns : ℕ) → AreTurns turns script.ranks (script.ranks + relays) (record { system = start_system ops script.statements script.ranks (script.ranks + relays); frames = []; schedule = first_schedule (script.ranks + relays) seed loss }) begun
+  -- where each rank lacks a call or has nothing left, it waits
+  all_wait : AllLack script.ranks processes → AllWait ops script.ranks run.system
+  all_wait lack p l told hand =
+      let v = some_at processes p (omega (arith, l, run.count)) in
+      no_move ops script.ranks run.system p l v.0 (run.each p v.0 v.1) told hand (lack p v.0 l v.1)
+
+  pub is_over : (loss : ℕ) → RestsBy loss script.ranks processes → IsOver ops script relays loss (nodes_of processes) transcripts waiting
+  is_over loss (inl finished) = record { run = is_run; over = inl (which_none (λ p. is_waiting_at (slice_get processes p)) script.ranks finished) }
+  is_over loss (inr (inl rest)) = record { run = is_run; over = inr (inl rest.0, all_wait rest.1) }
+  is_over loss (inr (inr lost)) = record { run = is_run; over = inr (inr lost.0, all_wait lost.1) }
+
+  pub is_after : (told : List NodeView) → told ≡ nodes_of processes → (seed loss turns : ℕ) → AreTurns turns script.ranks (script.ranks + relays) (first_moment ops script.statements script.ranks (script.ranks + relays) (first_schedule (script.ranks + relays) seed loss)) begun
       → AreAfter ops script relays seed loss turns told
   is_after told same seed loss turns made = record {
     begun = begun;
@@ -132,6 +144,9 @@ module _ (ops : List Operation) (script : ScriptView) (relays ranks : ℕ) (same
 
   pub run_said : IsRun ops script relays told said wait
   run_said = subst (λ ns. IsRun ops script relays ns said wait) (sym nodes_so) (subst (λ ls. IsRun ops script relays (nodes_of processes) ls wait) said_so (subst (IsRun ops script relays (nodes_of processes) (transcripts ops script relays begun processes frames run)) waiting_is (is_run ops script relays begun processes frames run)))
+
+  pub over_said : (loss : ℕ) → RestsBy loss script.ranks processes → IsOver ops script relays loss told said wait
+  over_said loss rest = subst (λ ns. IsOver ops script relays loss ns said wait) (sym nodes_so) (subst (λ ls. IsOver ops script relays loss (nodes_of processes) ls wait) said_so (subst (IsOver ops script relays loss (nodes_of processes) (transcripts ops script relays begun processes frames run)) waiting_is (is_over ops script relays begun processes frames run loss rest)))
 
   pub begin_said : (e : State) → IsEvaluation ops script.statements script.ranks e → Begin said e
   begin_said e is = subst (λ ls. Begin ls e) said_so (begin ops script relays begun processes frames run e is)

@@ -1,5 +1,5 @@
 -- Frames, and the board whose bytes they are.
-use Rattle.std.proofs.Common.{◌≡◌, ◌+◌, ◌<◌, ◌≤◌, ℕ, zero, suc, Bool, true, false, get_or, take, drop, List, [], ◌∷◌, ◌++◌, length, map, set, Some, refl, sym, ap, ◌∙◌, inl, subst, arith}
+use Rattle.std.proofs.Common.{◌≡◌, ◌+◌, ◌<◌, ◌≤◌, ℕ, zero, suc, Bool, true, false, get_or, take, drop, List, [], ◌∷◌, ◌++◌, length, map, set, Option, Some, None, refl, sym, ap, ◌∙◌, inl, subst, arith}
 use Rattle.std.specs.Prelude.{All, nat_eq, nat_lt, slice_get, if◌then◌else◌}
 use Rattle.std.proofs.lemmas.Bool.Decides.{nat_tests}
 use Rattle.std.proofs.lemmas.List.{append-nil, append_assoc}
@@ -27,6 +27,7 @@ use Rattle.mpx_system.proofs.Results.{some_at}
 use Rattle.mpx_sim.specs.declared.frame_under_way.FrameUnderWay.{FrameUnderWay}
 use Rattle.mpx_sim.specs.declared.schedule.Schedule.{Schedule}
 use Rattle.mpx_sim.specs.Draws.{ScheduleView, draw, drawn, drawn_again, drawn_once, drawn_times}
+use Rattle.mpx_sim.specs.Senders.{SenderView, first_sender, next_place, receiver, then_by}
 use Rattle.mpx_sim.specs.Turns.{Coming, FrameView, IsListOf, Moment, Saying, a_list, asked, drawn_again_for, drawn_for, joined, no_list, one_a_turn, sends_each, those_out}
 use Rattle.mpx_sim.specs.Running.{IsAmong, IsAt, IsUnderWay, ProcessView}
 use Rattle.mpx_sim.specs.Shown.{frame_of, part_of, schedule_of, shown}
@@ -94,9 +95,9 @@ parts_say processes p v at to turn (part ∷ parts) h =
     All-cons (Says processes) (record { from = p; to = to; turn = turn; part = part }) (one_a_turn p to (suc turn) parts) (v, at, All-head (λ b. OnlyFactsOf b v.node.board) part parts h)
     (parts_say processes p v at to (suc turn) parts (All-tail (λ b. OnlyFactsOf b v.node.board) part parts h))
 
-list_says : (processes : List ProcessView) (size turn p : ℕ) (v : ProcessView) → slice_get processes p ≡ Some v → (list : List FrameView) → IsListOf size turn p v.node list → All (Says processes) list
-list_says processes size turn p v at list no_list = All-nil (Says processes)
-list_says processes size turn p v at list (a_list to parts within facts whole fit few) = parts_say processes p v at to turn (map look parts) (All-map (λ b. OnlyFactsOf b v.node.board) look parts facts)
+list_says : (processes : List ProcessView) (shifts : List ℕ) (size turn p : ℕ) (sender : SenderView) (v : ProcessView) → slice_get processes p ≡ Some v → (list : List FrameView) → IsListOf shifts size turn p sender v.node list → All (Says processes) list
+list_says processes shifts size turn p sender v at list (no_list out) = All-nil (Says processes)
+list_says processes shifts size turn p sender v at list (a_list parts due facts whole fit few) = parts_say processes p v at (receiver shifts size p sender.place) turn (map look parts) (All-map (λ b. OnlyFactsOf b v.node.board) look parts facts)
 
 module _ (ops : List Operation) (script : Script) (ranks size : ℕ) (processes : List ProcessView) where
   -- a system in which these frames are under way
@@ -127,19 +128,33 @@ module _ (ops : List Operation) (script : Script) (ranks size : ℕ) (processes 
       subst (λ fs. Sent fs (does_all t (sends_each more))) (append_assoc frames (f ∷ []) more)
       (each_sent more (frames ++ f ∷ []) t (one_sent frames s h f (All-head (Says processes) f more says)) (All-tail (Says processes) f more says))
 
+-- how far each process has come with sending
+abbrev sender_at : Option ProcessView → SenderView
+sender_at None = first_sender
+sender_at (Some v) = v.sender
+
+abbrev senders_at : List ProcessView → ℕ → SenderView
+senders_at processes p = sender_at (slice_get processes p)
+
+-- one whose last list isn't out stays as it is
+pub asked_not_out : (shifts : List ℕ) (turn frames : ℕ) (s : SenderView) → turn < s.out → then_by shifts turn frames s ≡ s
+asked_not_out shifts turn frames s early =
+    let is : nat_lt turn s.out ≡ true = grind (arith, nat_tests, early) in
+    ap (λ b. if b then s else record { place = next_place shifts s.place; out = turn + frames }) is
+
 -- once processes have said what they have, the lists that they have made go out
 pub run_out : (ops : List Operation) (script : Script) (ranks size : ℕ) (begun : Moment) (turn : ℕ) (processes : List ProcessView) (frames : List FrameView) (run : IsUnderWay ops script ranks size begun Saying processes frames) (lists : List (List FrameView))
-    → length lists ≡ length processes → ((p : ℕ) (list : List FrameView) → slice_get lists p ≡ Some list → (v : ProcessView) → slice_get processes p ≡ Some v → IsListOf size turn v.rank.me v.node list)
+    → length lists ≡ length processes → ((p : ℕ) (list : List FrameView) → slice_get lists p ≡ Some list → (v : ProcessView) → slice_get processes p ≡ Some v → IsListOf begun.schedule.shifts size turn v.rank.me (begun.senders p) v.node list × (v.sender ≡ then_by begun.schedule.shifts turn (length list) (begun.senders p)))
     → IsUnderWay ops script ranks size begun (Coming turn (drawn_for (frames ++ those_out begun.schedule (joined lists)) (drawn_for (joined lists) begun.schedule))) processes (frames ++ those_out begun.schedule (joined lists))
 run_out ops script ranks size begun turn processes frames run lists many are =
     let s = run.system in
     let made = joined lists in
     let out = those_out begun.schedule made in
-    let list_at = λ (p : ℕ) (list : List FrameView) (e : slice_get lists p ≡ Some list) (v : ProcessView) (at : slice_get processes p ≡ Some v). subst (λ q. IsListOf size turn q v.node list) (run.each p v at).me (are p list e v at) in
+    let list_at = λ (p : ℕ) (list : List FrameView) (e : slice_get lists p ≡ Some list) (v : ProcessView) (at : slice_get processes p ≡ Some v). subst (λ q. IsListOf begun.schedule.shifts size turn q (begun.senders p) v.node list) (run.each p v at).me (are p list e v at).0 in
     let there = λ (p : ℕ) (list : List FrameView) (e : slice_get lists p ≡ Some list). some_at processes p (omega (arith, slice_get_within lists p list e, many)) in
-    let says : All (Says processes) made = all_joined (Says processes) lists (λ p list e. let v = there p list e in list_says processes size turn p v.0 v.1 list (list_at p list e v.0 v.1)) in
+    let says : All (Says processes) made = all_joined (Says processes) lists (λ p list e. let v = there p list e in list_says processes begun.schedule.shifts size turn p (begun.senders p) v.0 v.1 list (list_at p list e v.0 v.1)) in
     let h = each_sent ops script ranks size processes out frames s (record { led = run.led; each = run.each; sent = run.sent }) (all_out (Says processes) begun.schedule made says) in
-    let sent : Moment = record { system = does_all s (sends_each out); frames = frames ++ out; schedule = drawn_for made begun.schedule } in
+    let sent : Moment = record { system = does_all s (sends_each out); frames = frames ++ out; schedule = drawn_for made begun.schedule; senders = senders_at processes } in
     record {
       system = sent.system;
       led = h.led;
@@ -148,7 +163,8 @@ run_out ops script ranks size begun turn processes frames run lists many are =
         before = run.since.0;
         lists = lists;
         count = many ∙ run.count;
-        made = λ p list e. let v = there p list e in subst (λ n. IsListOf size turn p n list) (run.each p v.0 v.1).node (list_at p list e v.0 v.1);
+        made = λ p list e. let v = there p list e in subst (λ n. IsListOf begun.schedule.shifts size turn p (begun.senders p) n list) (run.each p v.0 v.1).node (list_at p list e v.0 v.1);
+        senders_are = λ p list e. let v = there p list e in ap sender_at v.1 ∙ (are p list e v.0 v.1).1;
         system_is = refl;
         frames_are = ap (λ fs. fs ++ out) run.since.1;
         schedule_is = refl;
@@ -156,6 +172,7 @@ run_out ops script ranks size begun turn processes frames run lists many are =
       count = run.count;
       each = h.each;
       sent = h.sent;
+      senders = λ p v at. sym (ap sender_at at);
     }
 
 -- THE CODE'S FRAMES
@@ -205,8 +222,8 @@ written_back (suc len) (y ∷ ys) (x ∷ xs) e f = ap (λ zs. x ∷ zs) (written
 -- THE CODE'S SCHEDULE
 
 -- once a number is drawn
-pub drawn_of : (old new : Schedule) → new.loss ≡ old.loss → new.words ≡ drawn old.words → schedule_of new ≡ drawn_once (schedule_of old)
-drawn_of old new loss words = λ i. record { loss = loss i; draws = words i }
+pub drawn_of : (old new : Schedule) → new.loss ≡ old.loss → new.words ≡ drawn old.words → new.shifts ≡ old.shifts → schedule_of new ≡ drawn_once (schedule_of old)
+drawn_of old new loss words shifts = λ i. record { loss = loss i; draws = words i; shifts = (shifts i).items }
 
 -- one number first, and then the others
 drawn_first : (n : ℕ) (g : Lcg) → drawn_times n (drawn g) ≡ drawn (drawn_times n g)
@@ -217,14 +234,14 @@ pub drawn_more : (n m : ℕ) (g : Lcg) → m ≡ n + 1 → drawn_times m g ≡ d
 drawn_more n m g e = let same : m ≡ suc n = omega (arith, e) in ap (λ k. drawn_times k g) same
 
 -- a number for each frame is as many as there are frames
-for_each : (frames : List FrameView) (s : ScheduleView) → drawn_for frames s ≡ record { loss = s.loss; draws = drawn_times (length frames) s.draws }
+for_each : (frames : List FrameView) (s : ScheduleView) → drawn_for frames s ≡ record { loss = s.loss; draws = drawn_times (length frames) s.draws; shifts = s.shifts }
 for_each [] s = refl
-for_each (f ∷ frames) s = for_each frames (drawn_once s) ∙ ap (λ g. let t : ScheduleView = record { loss = s.loss; draws = g } in t) (drawn_first (length frames) s.draws)
+for_each (f ∷ frames) s = for_each frames (drawn_once s) ∙ ap (λ g. let t : ScheduleView = record { loss = s.loss; draws = g; shifts = s.shifts } in t) (drawn_first (length frames) s.draws)
 
-pub mixed_of : (old new : Schedule) (frames : List FrameView) (n : ℕ) → n ≡ length frames → new.loss ≡ old.loss → new.words ≡ drawn_times n old.words → drawn_for frames (schedule_of old) ≡ schedule_of new
-mixed_of old new frames n many loss words =
+pub mixed_of : (old new : Schedule) (frames : List FrameView) (n : ℕ) → n ≡ length frames → new.loss ≡ old.loss → new.words ≡ drawn_times n old.words → new.shifts ≡ old.shifts → drawn_for frames (schedule_of old) ≡ schedule_of new
+mixed_of old new frames n many loss words shifts =
     let same : new.words ≡ drawn_times (length frames) old.words = words ∙ ap (λ k. drawn_times k old.words) many in
-    for_each frames (schedule_of old) ∙ (λ i. let t : ScheduleView = record { loss = sym loss i; draws = sym same i } in t)
+    for_each frames (schedule_of old) ∙ (λ i. let t : ScheduleView = record { loss = sym loss i; draws = sym same i; shifts = (sym shifts i).items } in t)
 
 -- it is drawn whether a frame comes again
 pub again_is : (s : ScheduleView) → draw 4 s.draws ≡ 0 → drawn_again s ≡ drawn_once (drawn_once s)

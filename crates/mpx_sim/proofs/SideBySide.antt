@@ -22,6 +22,7 @@ use Rattle.mpx_sim.specs.Draws.{ScheduleView}
 use Rattle.mpx_sim.specs.Running.{HasCome, HaveCome, HaveGrown, IsUnderWay, Keeps, Moves, ProcessView}
 use Rattle.mpx_sim.specs.Shown.{frame_of, part_of, process_of}
 use Rattle.mpx_sim.specs.SideBySide.{AllGoOn, AllMake, AreMade, AreReady, GoesOn, IsReady, Makes, all_taken, comes, taken, to_send, took}
+use Rattle.mpx_sim.specs.Senders.{SenderView, then_by}
 use Rattle.mpx_sim.specs.Turns.{Alone, Coming, FrameView, IsListOf, Moment, Saying}
 use Rattle.mpx_sim.proofs.Running.{read_at, run_takes}
 
@@ -66,13 +67,13 @@ none_taken from turn (v ∷ vs) = ap (λ ws. v ∷ ws) (none_taken (suc from) tu
 -- what a frame says stands on the board of the process that took it, with all that stood there
 took_grows : (place turn : ℕ) (f : FrameUnderWay) (v : ProcessView) → IsBoardBelow v.node.board (took place turn f v).node.board
 took_grows place turn f v = by_test (comes place turn f) where
-  by_test : (is : Bool) → IsBoardBelow v.node.board (if is then record { rank = v.rank; node = learn (part_of f) v.node } else v).node.board
+  by_test : (is : Bool) → IsBoardBelow v.node.board (if is then record { rank = v.rank; node = learn (part_of f) v.node; sender = v.sender } else v).node.board
   by_test true = (join_is_least v.node.board (part_of f)).left
   by_test false = facts_below v.node.board v.node.board (under_itself v.node.board)
 
 took_has : (place turn : ℕ) (f : FrameUnderWay) (v : ProcessView) → comes place turn f ≡ true → IsBoardBelow (part_of f) (took place turn f v).node.board
 took_has place turn f v is =
-    subst (λ b. IsBoardBelow (part_of f) (if b then record { rank = v.rank; node = learn (part_of f) v.node } else v).node.board) (sym is) (join_is_least v.node.board (part_of f)).right
+    subst (λ b. IsBoardBelow (part_of f) (if b then record { rank = v.rank; node = learn (part_of f) v.node; sender = v.sender } else v).node.board) (sym is) (join_is_least v.node.board (part_of f)).right
 
 taken_grows : (place turn : ℕ) (fs : List FrameUnderWay) (v : ProcessView) → IsBoardBelow v.node.board (taken place turn fs v).node.board
 taken_grows place turn [] v = facts_below v.node.board v.node.board (under_itself v.node.board)
@@ -102,8 +103,8 @@ taken_come turn all old k d l is v at =
 
 module _ (ops : List Operation) (script : Script) (ranks size : ℕ) (begun : Moment) (now : ℕ) (t : ScheduleView) (frames : List FrameView) where
   one_taken : (processes : List ProcessView) (place : ℕ) (v : ProcessView) (i : ℕ) (f : FrameView) → slice_get processes place ≡ Some v → slice_get frames i ≡ Some f → (is : Bool) → IsUnderWay ops script ranks size begun (Coming now t) processes frames
-      → IsUnderWay ops script ranks size begun (Coming now t) (set processes place (if is then record { rank = v.rank; node = learn f.part v.node } else v)) frames
-  one_taken processes place v i f at got true run = run_takes ops script ranks size begun (Coming now t) processes frames run (λ q n. tt) place v.rank v.node i f at got
+      → IsUnderWay ops script ranks size begun (Coming now t) (set processes place (if is then record { rank = v.rank; node = learn f.part v.node; sender = v.sender } else v)) frames
+  one_taken processes place v i f at got true run = run_takes ops script ranks size begun (Coming now t) processes frames run (λ q n. tt) place v.rank v.sender v.node i f at got
   one_taken processes place v i f at got false run = subst (λ rs. IsUnderWay ops script ranks size begun (Coming now t) rs frames) (sym (set_same processes place v at)) run
 
   -- each of these frames is one of those under way
@@ -150,9 +151,9 @@ come_later turn f old new same grown come is w at =
     below_through f.part v.0.node.board w.node.board (come is v.0 v.1) (grown f.to v.0 w v.1 at)
 
 -- where one process takes a part, its board grows
-pub grown_at : (old : List ProcessView) (p : ℕ) (v : ProcessView) (part : Look) → slice_get old p ≡ Some v → HaveGrown old (set old p (record { rank = v.rank; node = learn part v.node }))
+pub grown_at : (old : List ProcessView) (p : ℕ) (v : ProcessView) (part : Look) → slice_get old p ≡ Some v → HaveGrown old (set old p (record { rank = v.rank; node = learn part v.node; sender = v.sender }))
 grown_at old p v part here q u w at now =
-    let new : ProcessView = record { rank = v.rank; node = learn part v.node } in
+    let new : ProcessView = record { rank = v.rank; node = learn part v.node; sender = v.sender } in
     set_cases old p q new w (λ x. IsBoardBelow u.node.board x.node.board) now
     (λ same.
     let is : v ≡ u = same_Some v u (sym here ∙ ap (slice_get old) (sym same) ∙ at) in
@@ -228,26 +229,34 @@ pub ready_set : (xs : List Process) (p : ℕ) (x : Process) → AreReady xs → 
 ready_set xs p x all one q y at = set_cases xs p q x y IsReady at (λ here. one) (λ old other. all q y old)
 
 -- each that has made its list is ready
-pub ready_made : (count turn : ℕ) (old new : List Process) → AllMake count turn old new → AreReady new
-ready_made count turn old new all place q at =
+pub ready_made : (shifts : List ℕ) (count turn : ℕ) (old new : List Process) → AllMake shifts count turn old new → AreReady new
+ready_made shifts count turn old new all place q at =
     let before = some_at old place (omega (arith, slice_get_within new place q at, all.0)) in
     (all.1 place before.0 q before.1 at).ready
 
-pub run_made : (count turn : ℕ) (old new : List Process) → AllMake count turn old new → (ops : List Operation) (script : Script) (ranks size : ℕ) (begun : Moment) (frames : List FrameView) → IsUnderWay ops script ranks size begun Saying (map process_of old) frames
+pub run_made : (shifts : List ℕ) (count turn : ℕ) (old new : List Process) → AllMake shifts count turn old new → (ops : List Operation) (script : Script) (ranks size : ℕ) (begun : Moment) (frames : List FrameView) → IsUnderWay ops script ranks size begun Saying (map process_of old) frames
     → IsUnderWay ops script ranks size begun Saying (map process_of new) frames
-run_made count turn old new all ops script ranks size begun frames run =
-    one_by_one (λ ps. IsUnderWay ops script ranks size begun Saying (map process_of ps) frames) (λ place. Makes count turn)
+run_made shifts count turn old new all ops script ranks size begun frames run =
+    one_by_one (λ ps. IsUnderWay ops script ranks size begun Saying (map process_of ps) frames) (λ place. Makes shifts count turn)
     (λ place ps p q makes at h.
     subst (λ rs. IsUnderWay ops script ranks size begun Saying rs frames) (written process_of ps place q)
     (makes.says ops script ranks size begun (map process_of ps) frames place (slice_get-map process_of ps place ∙ ap (option_map process_of) at) h))
     old new all.0 all.1 run
 
--- each has made a list
-pub all_lists : (count turn : ℕ) (old new : List Process) → AllMake count turn old new → (p : ℕ) (list : List FrameView) → slice_get (map to_send new) p ≡ Some list → (v : ProcessView) → slice_get (map process_of new) p ≡ Some v → IsListOf count turn v.rank.me v.node list
-all_lists count turn old new all p list made v at =
+-- each has made a list, by how far it had come with sending, and has come further then
+pub record Listed (shifts : List ℕ) (count turn : ℕ) (sender : SenderView) (v : ProcessView) (list : List FrameView) : Type 0 where
+  pub is_list : IsListOf shifts count turn v.rank.me sender v.node list
+  pub sender_is : v.sender ≡ then_by shifts turn (length list) sender
+
+pub all_lists : (shifts : List ℕ) (senders : ℕ → SenderView) (count turn : ℕ) (old new : List Process) → AllMake shifts count turn old new → HaveSent senders (map process_of old) → (p : ℕ) (list : List FrameView) → slice_get (map to_send new) p ≡ Some list → (v : ProcessView) → slice_get (map process_of new) p ≡ Some v
+    → Listed shifts count turn (senders p) v list
+all_lists shifts senders count turn old new all have p list made v at =
     let q = mapped_at to_send new p list made in
     let u = mapped_at process_of new p v at in
     let before = some_at old p (omega (arith, slice_get_within new p q.0 q.1, all.0)) in
     let same : u.0 ≡ q.0 = same_Some u.0 q.0 (sym u.1 ∙ q.1) in
     let is : process_of q.0 ≡ v = ap process_of (sym same) ∙ u.2 in
-    subst (λ (w : ProcessView). IsListOf count turn w.rank.me w.node list) is (subst (λ fs. IsListOf count turn (process_of q.0).rank.me (process_of q.0).node fs) q.2 (all.1 p before.0 q.0 before.1 q.1).list)
+    let makes = all.1 p before.0 q.0 before.1 q.1 in
+    let sent : (process_of before.0).sender ≡ senders p = have p (process_of before.0) (slice_get-map process_of old p ∙ ap (option_map process_of) before.1) in
+    let here : Listed shifts count turn (process_of before.0).sender (process_of q.0) (to_send q.0) = record { is_list = makes.list; sender_is = makes.sender } in
+    subst (λ (w : ProcessView). Listed shifts count turn (senders p) w list) is (subst (Listed shifts count turn (senders p) (process_of q.0)) q.2 (subst (λ x. Listed shifts count turn x (process_of q.0) (to_send q.0)) sent here))

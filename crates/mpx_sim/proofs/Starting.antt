@@ -14,7 +14,8 @@ use Rattle.mpx_system.specs.Systems.{start_system}
 use Rattle.mpx_system.proofs.Leading.{leads_nowhere}
 use Rattle.mpx_world.proofs.Lists.{slice_get-push_cases}
 use Rattle.mpx_sim.specs.Draws.{ScheduleView}
-use Rattle.mpx_sim.specs.Turns.{Alone}
+use Rattle.mpx_sim.specs.Senders.{first_sender}
+use Rattle.mpx_sim.specs.Turns.{Alone, first_moment}
 use Rattle.mpx_sim.proofs.Phases.{begins}
 use Rattle.mpx_sim.specs.Running.{IsAt, IsUnderWay, ProcessView, StandsBy, name_of}
 
@@ -55,12 +56,17 @@ one_more ops script ranks size processes v n count at each p x e =
     let s = start_system ops script ranks size in
     slice_get-push_cases (λ y j. IsAt ranks s j y) processes v p x e (each p x) (λ same last. subst (IsAt ranks s p) same (subst (λ j. IsAt ranks s j v) (sym (last ∙ count)) at))
 
-pub run_starts : (ops : List Operation) (script : Script) (ranks size : ℕ) (first : ScheduleView) (processes : List ProcessView) → length processes ≡ size → ((p : ℕ) (v : ProcessView) → slice_get processes p ≡ Some v → IsAt ranks (start_system ops script ranks size) p v) → IsUnderWay ops script ranks size (record { system = start_system ops script ranks size; frames = []; schedule = first }) Alone processes []
-run_starts ops script ranks size first processes count each = record {
+-- which has sent nothing
+pub one_more_first : (processes : List ProcessView) (v : ProcessView) → v.sender ≡ first_sender → ((p : ℕ) (x : ProcessView) → slice_get processes p ≡ Some x → x.sender ≡ first_sender) → (p : ℕ) (x : ProcessView) → slice_get (processes ++ v ∷ []) p ≡ Some x → x.sender ≡ first_sender
+one_more_first processes v first each p x e = slice_get-push_cases (λ (y : ProcessView) j. y.sender ≡ first_sender) processes v p x e (each p x) (λ same last. subst (λ (y : ProcessView). y.sender ≡ first_sender) same first)
+
+pub run_starts : (ops : List Operation) (script : Script) (ranks size : ℕ) (first : ScheduleView) (processes : List ProcessView) → length processes ≡ size → ((p : ℕ) (v : ProcessView) → slice_get processes p ≡ Some v → IsAt ranks (start_system ops script ranks size) p v) → ((p : ℕ) (v : ProcessView) → slice_get processes p ≡ Some v → v.sender ≡ first_sender) → IsUnderWay ops script ranks size (first_moment ops script ranks size first) Alone processes []
+run_starts ops script ranks size first processes count each none = record {
   system = start_system ops script ranks size;
   led = leads_nowhere ranks (start_system ops script ranks size);
-  since = begins ranks size (record { system = start_system ops script ranks size; frames = []; schedule = first });
+  since = begins ranks size (first_moment ops script ranks size first);
   count = count;
   each = each;
   sent = λ k d l. absurd (omega (arith, l));
+  senders = none;
 }

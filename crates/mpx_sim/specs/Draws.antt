@@ -1,5 +1,6 @@
 -- What is drawn of a seed.
-use Rattle.std.specs.Prelude.{ℕ, zero, suc, ◌%◌, ◌^◌, nat_eq, nat_lt, if◌then◌else◌}
+use Rattle.std.specs.Prelude.{ℕ, zero, suc, ◌+◌, ◌%◌, ◌^◌, ◌++◌, ◌∷◌, [], List, nat_eq, nat_lt, if◌then◌else◌}
+use Rattle.std.specs.List.{swap}
 use Rattle.rand_pcg.specs.Lcg.{Lcg, increment_of, started}
 use Rattle.rand_pcg.specs.Pcg.{multiplier_64, pcg32}
 
@@ -19,13 +20,14 @@ abbrev pub drawn_times : (times : ℕ) → Lcg → Lcg
 drawn_times zero g = g
 drawn_times (suc n) g = drawn (drawn_times n g)
 
--- a schedule: of a hundred frames so many are lost, and the generator is there
+-- a schedule: of a hundred frames so many are lost, the generator is there, and lists go by these shifts, one after the other and from the first again
 pub record ScheduleView : Type 0 where
   pub loss : ℕ
   pub draws : Lcg
+  pub shifts : List ℕ
 
 abbrev pub drawn_once : ScheduleView → ScheduleView
-drawn_once s = record { loss = s.loss; draws = drawn s.draws }
+drawn_once s = record { loss = s.loss; draws = drawn s.draws; shifts = s.shifts }
 
 -- for a frame that has come: a number below four, and where that is 0, so that the frame comes again, one more
 abbrev pub drawn_again : ScheduleView → ScheduleView
@@ -36,6 +38,20 @@ abbrev pub powers_below : (powers limit : ℕ) → ℕ
 powers_below zero limit = 0
 powers_below (suc n) limit = if nat_lt (2 ^ n) limit then suc (powers_below n limit) else powers_below n limit
 
--- the schedule of a seed before the first turn: for each power of two from 1 to 32 below the number of processes a number is drawn
+-- and which these are, in rising order
+abbrev pub all_below : (powers limit : ℕ) → List ℕ
+all_below zero limit = []
+all_below (suc n) limit = if nat_lt (2 ^ n) limit then (all_below n limit ++ 2 ^ n ∷ []) else all_below n limit
+
+-- items in an order that is drawn: each place from this one on, of which so many are left, gets one of the items that the places before it left
+abbrev pub shuffled : {A : Type 0} (place left : ℕ) → Lcg → List A → List A
+shuffled place zero g items = items
+shuffled place (suc n) g items = shuffled (suc place) n (drawn g) (swap items place (place + draw (suc n) g))
+
+-- the schedule of a seed before the first turn: the shifts are the powers of two from 1 to 32 below the number of processes, in an order that is drawn once
 abbrev pub first_schedule : (processes seed loss : ℕ) → ScheduleView
-first_schedule processes seed loss = record { loss = loss; draws = drawn_times (powers_below 6 processes) (generator seed) }
+first_schedule processes seed loss = record {
+  loss = loss;
+  draws = drawn_times (powers_below 6 processes) (generator seed);
+  shifts = shuffled 0 (powers_below 6 processes) (generator seed) (all_below 6 processes);
+}

@@ -8,11 +8,11 @@ use Rattle.mpx_sim.specs.Running.{IsUnderWay, KeepsNode, ProcessView}
 use Rattle.mpx_sim.specs.Turns.{Phase}
 
 pub keeps_node_itself : (phase : Phase) (ops : List Operation) (old new : NodeView) → new ≡ old → KeepsNode phase ops old new
-keeps_node_itself phase ops old new e r script ranks size begun processes frames p at run =
-    subst (λ rs. IsUnderWay ops script ranks size begun phase rs frames) (sym (set_same processes p (record { rank = r; node = old }) at) ∙ ap (λ n. set processes p (record { rank = r; node = n })) (sym e)) run
+keeps_node_itself phase ops old new e r t script ranks size begun processes frames p at run =
+    subst (λ rs. IsUnderWay ops script ranks size begun phase rs frames) (sym (set_same processes p (record { rank = r; node = old; sender = t }) at) ∙ ap (λ n. set processes p (record { rank = r; node = n; sender = t })) (sym e)) run
 
 pub keeps_node_then : (phase : Phase) (ops : List Operation) (a b c : NodeView) → KeepsNode phase ops a b → KeepsNode phase ops b c → KeepsNode phase ops a c
-keeps_node_then phase ops a b c f g r script ranks size begun processes frames p at run =
-    let mid : ProcessView = record { rank = r; node = b } in
-    subst (λ rs. IsUnderWay ops script ranks size begun phase rs frames) (set_twice processes p mid (record { rank = r; node = c }))
-    (g r script ranks size begun (set processes p mid) frames p (set_has processes p (record { rank = r; node = a }) mid at) (f r script ranks size begun processes frames p at run))
+keeps_node_then phase ops a b c f g r t script ranks size begun processes frames p at run =
+    let mid : ProcessView = record { rank = r; node = b; sender = t } in
+    subst (λ rs. IsUnderWay ops script ranks size begun phase rs frames) (set_twice processes p mid (record { rank = r; node = c; sender = t }))
+    (g r t script ranks size begun (set processes p mid) frames p (set_has processes p (record { rank = r; node = a; sender = t }) mid at) (f r t script ranks size begun processes frames p at run))

@@ -14,12 +14,14 @@ use Rattle.mpx_rank.specs.Moves.{RankView, is_waiting}
 use Rattle.mpx_rank.specs.Places.{CommunicatorView, StandsInScript}
 use Rattle.mpx_system.specs.Systems.{System, Leads, start_system}
 use Rattle.mpx_sim.specs.Draws.{ScheduleView, first_schedule}
-use Rattle.mpx_sim.specs.Turns.{Alone, AreTurns, FrameView, IsTurn, Moment, Phase, Since}
+use Rattle.mpx_sim.specs.Senders.{SenderView}
+use Rattle.mpx_sim.specs.Turns.{Alone, AreTurns, Coming, FrameView, IsTurn, Moment, Phase, Saying, Since, first_moment}
 
--- a process: its rank, and its node
+-- a process: its rank, its node, and how far it has come with sending
 pub record ProcessView : Type 0 where
   pub rank : RankView Name
   pub node : NodeView
+  pub sender : SenderView
 
 -- whether there is one whose rank waits for an outcome, or has statements left
 abbrev pub is_waiting_at : Option ProcessView → Bool
@@ -49,6 +51,16 @@ pub record IsAt (ranks : ℕ) (s : System) (p : ℕ) (v : ProcessView) : Type 0 
 abbrev pub IsAmong : List Look → Look → Type 0
 IsAmong parts b = (place : ℕ) × (slice_get parts place ≡ Some b)
 
+-- each process has come so far with sending
+abbrev pub HaveSent : (ℕ → SenderView) → List ProcessView → Type 0
+HaveSent senders processes = (p : ℕ) (v : ProcessView) → slice_get processes p ≡ Some v → v.sender ≡ senders p
+
+-- that is so before the lists of a turn are made, and after it; while they are made, one process after the other, nothing is said of it
+abbrev pub SendBy : (ranks size : ℕ) (begun : Moment) (phase : Phase) (frames : List FrameView) (system : System) → Since ranks size begun phase frames system → List ProcessView → Type 0
+SendBy ranks size begun Alone frames system since processes = HaveSent begun.senders processes
+SendBy ranks size begun Saying frames system since processes = Unit {0}
+SendBy ranks size begun (Coming turn s) frames system since processes = HaveSent since.0.sent.senders processes
+
 -- the processes and frames under way of a run of the script, in a phase of a turn: the processes of a system to which doings lead from the start, and
 -- which is in this phase of the turn that began there; and frames of which each was sent there
 pub record IsUnderWay (ops : List Operation) (script : Script) (ranks size : ℕ) (begun : Moment) (phase : Phase) (processes : List ProcessView) (frames : List FrameView) : Type 0 where
@@ -58,6 +70,7 @@ pub record IsUnderWay (ops : List Operation) (script : Script) (ranks size : ℕ
   pub count : length processes ≡ size
   pub each : (p : ℕ) (v : ProcessView) → slice_get processes p ≡ Some v → IsAt ranks system p v
   pub sent : All (λ (f : FrameView). IsAmong system.world.parts f.part) frames
+  pub senders : SendBy ranks size begun phase frames system since processes
 
 -- where a frame is one of this turn, what it says stands on its process's board
 abbrev pub HasCome : (turn : ℕ) → List ProcessView → FrameView → Type 0
@@ -74,7 +87,7 @@ HaveGrown old new = (place : ℕ) (v w : ProcessView) → slice_get old place �
 -- more, whatever its frames are
 pub record AreOfRun (ops : List Operation) (script : ScriptView) (relays seed loss turns : ℕ) (processes : List ProcessView) : Type 0 where
   pub begun : Moment
-  pub made : AreTurns turns script.ranks (script.ranks + relays) (record { system = start_system ops script.statements script.ranks (script.ranks + relays); frames = []; schedule = first_schedule (script.ranks + relays) seed loss }) begun
+  pub made : AreTurns turns script.ranks (script.ranks + relays) (first_moment ops script.statements script.ranks (script.ranks + relays) (first_schedule (script.ranks + relays) seed loss)) begun
   pub frames : List FrameView
   pub run : IsUnderWay ops script.statements script.ranks (script.ranks + relays) begun Alone processes frames
 
@@ -92,7 +105,7 @@ Keeps phase ops old new = (script : Script) (ranks size : ℕ) (begun : Moment) 
 
 -- the same of a process whose node alone changes
 abbrev pub KeepsNode : Phase → List Operation → (old new : NodeView) → Type 0
-KeepsNode phase ops old new = (r : RankView Name) → Keeps phase ops (record { rank = r; node = old }) (record { rank = r; node = new })
+KeepsNode phase ops old new = (r : RankView Name) (s : SenderView) → Keeps phase ops (record { rank = r; node = old; sender = s }) (record { rank = r; node = new; sender = s })
 
 -- the same of a process that is a rank, and goes on by itself
 abbrev pub Moves : List Operation → (old new : ProcessView) → Type 0

@@ -11,6 +11,7 @@ use Rattle.mpx_meaning.specs.Evaluation.{Script}
 use Rattle.mpx_sim.specs.declared.frame_under_way.FrameUnderWay.{FrameUnderWay}
 use Rattle.mpx_sim.specs.declared.process.Process.{Process}
 use Rattle.mpx_sim.specs.Running.{IsUnderWay, Keeps, ProcessView}
+use Rattle.mpx_sim.specs.Senders.{then_by}
 use Rattle.mpx_sim.specs.Shown.{frame_of, part_of, process_of}
 use Rattle.mpx_sim.specs.Turns.{Alone, FrameView, IsListOf, Moment, Saying}
 
@@ -22,7 +23,7 @@ comes place turn f = nat_eq f.to place && nat_eq f.turn turn
 
 -- the process of this number once the frame has come, where it comes to it in this turn
 abbrev pub took : (place turn : ℕ) → FrameUnderWay → ProcessView → ProcessView
-took place turn f v = if comes place turn f then record { rank = v.rank; node = learn (part_of f) v.node } else v
+took place turn f v = if comes place turn f then record { rank = v.rank; node = learn (part_of f) v.node; sender = v.sender } else v
 
 -- the same of each of these frames, one after the other
 abbrev pub taken : (place turn : ℕ) → List FrameUnderWay → ProcessView → ProcessView
@@ -68,12 +69,13 @@ to_send p = map frame_of p.notes.made.items
 
 -- a process says what it has, and makes a list of frames, or none; one whose last list is out makes frames of all that others may lack of its board. What
 -- it keeps of the list is that of its board
-pub record Makes (size turn : ℕ) (old new : Process) : Type 0 where
+pub record Makes (shifts : List ℕ) (size turn : ℕ) (old new : Process) : Type 0 where
   pub says : (ops : List Operation) → Keeps Saying ops (process_of old) (process_of new)
-  pub list : IsListOf size turn (process_of new).rank.me (process_of new).node (to_send new)
+  pub list : IsListOf shifts size turn (process_of new).rank.me (process_of old).sender (process_of new).node (to_send new)
+  pub sender : (process_of new).sender ≡ then_by shifts turn (length (to_send new)) (process_of old).sender
   pub whole : old.sender.out ≤ turn → join_all (map part_of new.notes.made.items) ≡ lacking_on (process_of new).node
   pub ready : IsReady new
 
 -- each process does
-abbrev pub AllMake : (size turn : ℕ) → (old new : List Process) → Type 0
-AllMake size turn old new = (length new ≡ length old) × ((place : ℕ) (p q : Process) → slice_get old place ≡ Some p → slice_get new place ≡ Some q → Makes size turn p q)
+abbrev pub AllMake : (shifts : List ℕ) (size turn : ℕ) → (old new : List Process) → Type 0
+AllMake shifts size turn old new = (length new ≡ length old) × ((place : ℕ) (p q : Process) → slice_get old place ≡ Some p → slice_get new place ≡ Some q → Makes shifts size turn p q)

@@ -1,5 +1,5 @@
 -- What a turn of a run is.
-use Rattle.std.specs.Prelude.{◌≡◌, ℕ, zero, suc, ◌<◌, ◌+◌, ◌++◌, All, true, nat_lt, List, [], ◌∷◌, length, map, Some, slice_get, nat_eq, ◌&&◌, if◌then◌else◌}
+use Rattle.std.specs.Prelude.{◌≡◌, ℕ, zero, suc, ◌<◌, ◌≤◌, ◌+◌, ◌++◌, All, true, nat_lt, List, [], ◌∷◌, length, map, Some, slice_get, nat_eq, ◌&&◌, if◌then◌else◌}
 use Rattle.std.specs.List.{filter}
 use Rattle.std.specs.List.Sorted.{IsPermutation}
 use Rattle.mpx_num.specs.declared.own.Operation.{Operation}
@@ -12,10 +12,11 @@ use Rattle.mpx_node.specs.Deltas.{lacking_on}
 use Rattle.mpx_node.specs.Nodes.{NodeView}
 use Rattle.mpx_script.specs.ScriptView.{ScriptView}
 use Rattle.mpx_world.specs.Worlds.{Posts, Harvests, Gathers, Prunes, Sends, Takes, TakesPartly, Acknowledges, Forgets}
-use Rattle.mpx_meaning.specs.Evaluation.{State}
+use Rattle.mpx_meaning.specs.Evaluation.{State, Script}
 use Rattle.mpx_meaning.specs.Reports.{is_left}
 use Rattle.mpx_system.specs.Systems.{System, Doing, Nets, Drives, MayDoAll, does_all, start_system}
 use Rattle.mpx_sim.specs.Draws.{ScheduleView, draw, drawn, drawn_again, drawn_once, first_schedule}
+use Rattle.mpx_sim.specs.Senders.{SenderView, first_sender, receiver, then_by}
 
 -- what goes on in a process by itself: its rank moves, it stores a result, or it drops posts
 abbrev pub IsOwn : Doing → Type 0
@@ -87,12 +88,12 @@ abbrev pub one_a_turn : (from to turn : ℕ) → List Look → List FrameView
 one_a_turn from to turn [] = []
 one_a_turn from to turn (part ∷ parts) = record { from = from; to = to; turn = turn; part = part } ∷ one_a_turn from to (suc turn) parts
 
--- what a process makes in a turn: nothing, or the frames of a list, which say only what its board has, and together all that others may lack of it. Each has
--- a mebibyte at most, and no two neighbours would fit into one
-pub data IsListOf (size turn p : ℕ) (node : NodeView) : List FrameView → Type 0 where
-  no_list : IsListOf size turn p node []
-  a_list : (to : ℕ) (parts : List Board) → to < size → All (λ part. OnlyFactsOf (look part) node.board) parts → join_all (map look parts) ≡ lacking_on node → AllFit 1048576 parts → NoNeighboursFit 1048576 parts
-      → IsListOf size turn p node (one_a_turn p to turn (map look parts))
+-- what a process makes in a turn: nothing where its last list isn't out; else the frames of a list, which say only what its board has, and together all that
+-- others may lack of it. All go to the process that is next by the shifts. Each has a mebibyte at most, and no two neighbours would fit into one
+pub data IsListOf (shifts : List ℕ) (size turn p : ℕ) (sender : SenderView) (node : NodeView) : List FrameView → Type 0 where
+  no_list : turn < sender.out → IsListOf shifts size turn p sender node []
+  a_list : (parts : List Board) → sender.out ≤ turn → All (λ part. OnlyFactsOf (look part) node.board) parts → join_all (map look parts) ≡ lacking_on node → AllFit 1048576 parts → NoNeighboursFit 1048576 parts
+      → IsListOf shifts size turn p sender node (one_a_turn p (receiver shifts size p sender.place) turn (map look parts))
 
 -- the frames of all these lists, one behind the other
 abbrev pub joined : List (List FrameView) → List FrameView
@@ -139,11 +140,16 @@ IsUnder frames f = (place : ℕ) × (slice_get frames place ≡ Some f)
 
 -- TURNS
 
--- a system, the frames that are under way in it, and the schedule that drives it
+-- a system, the frames that are under way in it, the schedule that drives it, and how far each process has come with sending
 pub record Moment : Type 0 where
   pub system : System
   pub frames : List FrameView
   pub schedule : ScheduleView
+  pub senders : ℕ → SenderView
+
+-- the one before the first turn: no frame is under way, and nothing was sent
+abbrev pub first_moment : List Operation → Script → (ranks size : ℕ) → ScheduleView → Moment
+first_moment ops script ranks size first = record { system = start_system ops script ranks size; frames = []; schedule = first; senders = λ p. first_sender }
 
 -- what goes on in each process by itself, if anything, has gone on; some rank has something left then; and processes, if any, have said what they have
 pub record HasSaid (ranks : ℕ) (from : System) (to : System) : Type 0 where
@@ -158,7 +164,8 @@ pub record HasSent (ranks size turn : ℕ) (from to : Moment) : Type 0 where
   pub before : HasSaid ranks from.system said
   pub lists : List (List FrameView)
   pub count : length lists ≡ size
-  pub made : (p : ℕ) (list : List FrameView) → slice_get lists p ≡ Some list → IsListOf size turn p (said.world.each p).node list
+  pub made : (p : ℕ) (list : List FrameView) → slice_get lists p ≡ Some list → IsListOf from.schedule.shifts size turn p (from.senders p) (said.world.each p).node list
+  pub senders_are : (p : ℕ) (list : List FrameView) → slice_get lists p ≡ Some list → to.senders p ≡ then_by from.schedule.shifts turn (length list) (from.senders p)
   pub system_is : to.system ≡ does_all said (sends_each (those_out from.schedule (joined lists)))
   pub frames_are : to.frames ≡ from.frames ++ those_out from.schedule (joined lists)
   pub schedule_is : to.schedule ≡ drawn_for (joined lists) from.schedule
@@ -179,6 +186,7 @@ pub record IsTurn (ranks size turn : ℕ) (from to : Moment) : Type 0 where
   pub ordered : IsPermutation coming.sent.frames order
   pub frames_are : to.frames ≡ those_left turn order mixed
   pub schedule_is : to.schedule ≡ drawn_again_for turn order mixed
+  pub senders_are : to.senders ≡ coming.sent.senders
   pub came : All (λ (f : FrameView). f.turn ≡ turn → f.to < size → IsBoardBelow f.part (to.system.world.each f.to).node.board) coming.sent.frames
   pub still : All (λ (f : FrameView). turn < f.turn → IsUnder to.frames f) coming.sent.frames
 
@@ -208,7 +216,7 @@ Since ranks size begun (Coming turn s) frames to = (coming : IsComing ranks size
 -- many relays to processes with these nodes. No frame is under way before the first turn
 pub record AreAfter (ops : List Operation) (script : ScriptView) (relays seed loss turns : ℕ) (nodes : List NodeView) : Type 0 where
   pub begun : Moment
-  pub made : AreTurns turns script.ranks (script.ranks + relays) (record { system = start_system ops script.statements script.ranks (script.ranks + relays); frames = []; schedule = first_schedule (script.ranks + relays) seed loss }) begun
+  pub made : AreTurns turns script.ranks (script.ranks + relays) (first_moment ops script.statements script.ranks (script.ranks + relays) (first_schedule (script.ranks + relays) seed loss)) begun
   pub system : System
   pub own : LeadsBy IsOwn script.ranks begun.system system
   pub nodes_are : (p : ℕ) (node : NodeView) → slice_get nodes p ≡ Some node → node ≡ (system.world.each p).node

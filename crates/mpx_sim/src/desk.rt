@@ -14,6 +14,7 @@ ghost use Rattle.mpx_sim.specs.Running.{KeepsNode};
 ghost use Rattle.mpx_sim.specs.Shown.{call_in, call_of};
 ghost use Rattle.mpx_sim.specs.Turns.{Alone};
 
+use crate::posts::Posts;
 use join_core::{Exact, OutOfMemory};
 use mpx_birth::Birth;
 use mpx_group::Proc;
@@ -35,20 +36,23 @@ pub(crate) struct Posted {
     pub(crate) call: u32,
 }
 
-/// A process's node, and the contexts that it looks at.
+/// A process's node, the contexts that it looks at, and its posts, for who looks on.
 #[derive(Drop)]
 pub(crate) struct RunDesk {
     pub(crate) node: Node,
     contexts: Vec<Name>,
+    pub(crate) posts: Posts,
 }
 
 impl RunDesk {
-    /// The desk of process `me` of so many, of which the first are ranks, before any post. It looks at the world.
+    /// The desk of process `me` of so many, of which the first are ranks, before any post. It looks at the world, and notes posts where that is
+    /// asked for.
     pub(crate) fn new(
         alloc: Global,
         me: Proc,
         ranks: u8,
         processes: u8,
+        notes: bool,
     ) -> Result<RunDesk, OutOfMemory>
         requires some { 0 < ranks }
         requires ranks { ranks ≤ processes }
@@ -58,7 +62,11 @@ impl RunDesk {
     {
         let contexts = contexts_at_start(alloc)?;
         match Node::new(alloc, me, ranks, processes) {
-            Ok(node) => Ok(RunDesk { node, contexts }),
+            Ok(node) => Ok(RunDesk {
+                node,
+                contexts,
+                posts: Posts::new(alloc, notes),
+            }),
             Err(e) => {
                 drop(contexts);
                 Err(e)
@@ -70,8 +78,13 @@ impl RunDesk {
     pub(crate) fn into_node(self) -> Node
         ensures { result ≡ self.node }
     {
-        let RunDesk { node, contexts } = self;
+        let RunDesk {
+            node,
+            contexts,
+            posts,
+        } = self;
         drop(contexts);
+        drop(posts);
         node
     }
 
@@ -171,7 +184,9 @@ impl Carrier for RunDesk {
         posting: &Posting,
         ops: &Ops,
     ) -> Result<Option<Posted>, PostError> {
+        self.posts.tries();
         let posted = attempt(alloc, &mut self.node, on, posting, ops)?;
+        self.posts.note(alloc, &posted.name, posted.call);
         match look_at_gathering(alloc, &mut self.contexts, &posted) {
             Ok(()) => Ok(Some(posted)),
             Err(_) => {

@@ -13,6 +13,7 @@ mod lists;
 mod network;
 mod notes;
 mod observer;
+mod posts;
 mod process;
 mod report;
 mod schedule;

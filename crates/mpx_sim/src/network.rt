@@ -4,7 +4,7 @@ ghost use Rattle.std.specs.List.Sorted.{IsPermutation};
 ghost use Rattle.mpx_num.specs.declared.own.Operation.{Operation};
 ghost use Rattle.mpx_board.specs.Boards.{IsBoardBelow};
 ghost use Rattle.mpx_meaning.specs.Evaluation.{Script as Statements};
-ghost use Rattle.mpx_sim.specs.Draws.{ScheduleView, drawn_once, drawn_times, generator, powers_below};
+ghost use Rattle.mpx_sim.specs.Draws.{ScheduleView, all_below, drawn_once, drawn_times, generator, powers_below, shuffled};
 ghost use Rattle.mpx_sim.specs.Running.{HaveCome, HaveGrown, IsUnderWay, ProcessView};
 ghost use Rattle.mpx_sim.specs.Shown.{frame_of, frames_of, part_of, process_of, schedule_of};
 ghost use Rattle.mpx_sim.specs.SideBySide.{AreReady, left_from, to_send};
@@ -38,6 +38,7 @@ impl Network {
         ensures frames { IfOk result (λ network. network.frames.items ≡ []) }
         ensures loss { IfOk result (λ network. network.schedule.loss ≡ options.now.loss) }
         ensures seed { IfOk result (λ network. network.schedule.words ≡ drawn_times (powers_below 6 processes) (generator options.now.seed)) }
+        ensures shifts { IfOk result (λ network. network.schedule.shifts.items ≡ shuffled 0 (powers_below 6 processes) (generator options.now.seed) (all_below 6 processes)) }
     {
         Ok(Network {
             frames: Vec::new(alloc),
@@ -66,6 +67,7 @@ impl Network {
         ensures frames { IsPermutation self.old.frames.items self.new.frames.items }
         ensures words { self.new.schedule.words ≡ drawn_times (length self.old.frames.items) self.old.schedule.words }
         ensures loss { self.new.schedule.loss ≡ self.old.schedule.loss }
+        ensures shifts { self.new.schedule.shifts ≡ self.old.schedule.shifts }
     {
         self.schedule.shuffle(&mut self.frames);
     }

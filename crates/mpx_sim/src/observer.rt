@@ -1,5 +1,6 @@
 //! Who looks on at a run.
 
+use mpx_name::Name;
 use mpx_node::Node;
 
 /// How far a run is.
@@ -30,6 +31,9 @@ pub struct FrameSeen {
 
 /// Who looks on at a run: whoever calls for the run gives it. It is told what happens, in order, and can change nothing.
 pub trait Observer: Drop {
+    /// A run begins, of the script that was read from this text.
+    fn begins(&mut self, _text: &[u8]) {}
+
     /// A turn was made: its number, from 1 on, and how far the run is.
     fn turn(&mut self, number: u32, progress: Progress);
 
@@ -44,6 +48,15 @@ pub trait Observer: Drop {
 
     /// Where it follows frames: a frame came, for the first time or again, and was joined to the board of its process: this is the node there, as it then stands.
     fn taken(&mut self, _frame: FrameSeen, _again: bool, _node: &Node) {}
+
+    /// Whether it is to be told of each call that a rank posts.
+    fn follows_posts(&self) -> bool {
+        false
+    }
+
+    /// Where it follows posts: a rank posted the call of this number on a context, in this turn, from 1 on, be it the one that ends the run, by the
+    /// statement of this number among its own, from 0 on. Of a turn it is told posts before lines.
+    fn posted(&mut self, _turn: u32, _rank: u8, _name: &Name, _call: u32, _statement: usize) {}
 
     /// A rank has new lines in this turn, from 1 on, be it the one that ends the run: all its lines so far.
     fn told(&mut self, _turn: u32, _rank: u8, _lines: &[String]) {}

@@ -1,5 +1,5 @@
 //! A process of a run: a rank, which goes on with its statements, or a relay, which has none.
-ghost use Rattle.std.specs.Prelude.{◌≡◌, ◌<◌, ◌≤◌, [], List, IfOk, OnOk, Some, false, map, slice_get, string_bytes, true, ℕ};
+ghost use Rattle.std.specs.Prelude.{◌≡◌, ◌<◌, ◌≤◌, List, IfOk, OnOk, Some, false, map, slice_get, string_bytes, true, ℕ};
 ghost use Rattle.mpx_num.specs.declared.own.Operation.{Operation};
 ghost use Rattle.mpx_board.specs.Boards.{join_all};
 ghost use Rattle.mpx_node.specs.Deltas.{AreLacked, lacking_on};
@@ -14,12 +14,13 @@ use crate::frame_under_way::FrameUnderWay;
 use crate::frames::frames_with;
 use crate::lists::{MOST_BYTES, kept_of, new_list, one_frame};
 use crate::notes::Notes;
+use crate::observer::Observer;
 use crate::schedule::Schedule;
 use crate::sender::Sender;
+use crate::start::world_of;
 use join_core::OutOfMemory;
 use mpx_board::Board;
 use mpx_group::Proc;
-use mpx_name::Name;
 use mpx_node::Node;
 use mpx_num::{Listing, Ops};
 use mpx_rank::Interpreter;
@@ -32,6 +33,7 @@ use std::alloc::Global;
 #[derive(Drop)]
 pub(crate) struct Process<'a> {
     carrier: RunDesk,
+    statements: &'a [Statement],
     rank: Interpreter<'a, RunDesk>,
     sender: Sender,
     pub(crate) notes: Notes,
@@ -45,6 +47,7 @@ impl<'a> Process<'a> {
     ghost use Rattle.mpx_sim.specs.Running.{Keeps, Moves};
     ghost use Rattle.mpx_sim.specs.SideBySide.{GoesOn, IsReady, Makes, taken, took};
     ghost use Rattle.mpx_sim.specs.Shown.{process_of};
+    ghost use Rattle.mpx_sim.specs.Senders.{first_sender, receiver};
     ghost use Rattle.mpx_sim.specs.Turns.{Alone, IsListOf, Saying};
 
     /// Process `me` of so many, of which the first are ranks, before its statements.
@@ -54,6 +57,7 @@ impl<'a> Process<'a> {
         ranks: u8,
         processes: u8,
         todo: &'a [Statement],
+        notes: bool,
     ) -> Result<Process<'a>, OutOfMemory>
         requires some { 0 < ranks }
         requires ranks { ranks ≤ processes }
@@ -62,11 +66,12 @@ impl<'a> Process<'a> {
         ensures me { IfOk result (λ process. (process_of process).rank.me ≡ me) }
         ensures node { IfOk result (λ process. (process_of process).node ≡ start_node me ranks processes) }
         ensures ready { IfOk result (λ process. IsReady process) }
+        ensures sender { IfOk result (λ process. (process_of process).sender ≡ first_sender) }
         ensures stands { IfOk result (λ process. (script : Statements) → me < ranks → slice_get script me ≡ Some todo.now → StandsBy (process_of process).rank (start_state script ranks me)) }
     {
         let world = world_of(alloc, me, ranks);
         let me = Proc::new(me);
-        let carrier = match RunDesk::new(alloc, me, ranks, processes) {
+        let carrier = match RunDesk::new(alloc, me, ranks, processes, notes) {
             Ok(carrier) => carrier,
             Err(e) => {
                 drop(world);
@@ -76,6 +81,7 @@ impl<'a> Process<'a> {
         match Interpreter::new(alloc, me, world, todo) {
             Ok(rank) => Ok(Process {
                 carrier,
+                statements: todo,
                 rank,
                 sender: Sender::new(),
                 notes: Notes::new(alloc),
@@ -149,25 +155,19 @@ impl<'a> Process<'a> {
     /// Says what the process has, and gives the frames of what others may lack of its board: its next list, which goes out from this turn
     /// on. They are those that were made ahead, or are made now, into spare room. Where it kept the one frame of its last list, the next list is
     /// that frame again.
-    pub(crate) fn make_list(
-        &mut self,
-        alloc: Global,
-        turn: u64,
-        keeps: bool,
-    ) -> Result<Vec<Rope>, OutOfMemory>
+    pub(crate) fn make_list(&mut self, alloc: Global, keeps: bool) -> Result<Vec<Rope>, OutOfMemory>
         requires { IsReady self.old }
         ensures keeps { OnOk result ((operations : List Operation) → Keeps Saying operations (process_of self.old) (process_of self.new)) }
         ensures frames { IfOk result (λ made. AreLacked 1048576 (process_of self.new).node made.items) }
         ensures ready { OnOk result (IsReady self.new) }
+        ensures sender { self.new.sender ≡ self.old.sender }
+        ensures rank { self.new.rank ≡ self.old.rank }
     {
         let ahead = self.notes.ahead.take();
         if let Some(last) = &self.notes.last {
-            let again = one_frame(alloc, last)?;
-            self.sender.sends(turn, 1);
-            return Ok(again);
+            return one_frame(alloc, last);
         }
         let list = new_list(alloc, &mut self.carrier.node, ahead, &mut self.notes.spare)?;
-        self.sender.sends(turn, list.len());
         let last = kept_of(alloc, list.as_slice(), keeps)?;
         self.notes.last = last;
         Ok(list)
@@ -184,11 +184,13 @@ impl<'a> Process<'a> {
         requires turn { turn < 4294967296 }
         requires ready { IsReady self.old }
         ensures keeps { OnOk result ((operations : List Operation) → Keeps Saying operations (process_of self.old) (process_of self.new)) }
-        ensures list { IfOk result (λ made. (size : ℕ) → to < size → IsListOf size turn (process_of self.new).rank.me (process_of self.new).node (map frame_of made.items)) }
+        ensures list { IfOk result (λ made. (shifts : List ℕ) (size : ℕ) → self.old.sender.out ≤ turn → to ≡ receiver shifts size (process_of self.new).rank.me self.old.sender.place → IsListOf shifts size turn (process_of self.new).rank.me (process_of self.old).sender (process_of self.new).node (map frame_of made.items)) }
+        ensures sender { self.new.sender ≡ self.old.sender }
+        ensures rank { self.new.rank ≡ self.old.rank }
         ensures join { IfOk result (λ made. join_all (map part_of made.items) ≡ lacking_on (process_of self.new).node) }
         ensures ready { OnOk result (IsReady self.new) }
     {
-        let list = self.make_list(alloc, turn, keeps)?;
+        let list = self.make_list(alloc, keeps)?;
         frames_with(alloc, list, self.me(), to, turn)
     }
 
@@ -197,22 +199,22 @@ impl<'a> Process<'a> {
     pub(crate) fn say(
         &mut self,
         alloc: Global,
-        place: usize,
         processes: usize,
         schedule: &Schedule,
         turn: u64,
     ) -> Result<(), OutOfMemory>
-        requires place { place < processes }
+        requires some { 0 < processes }
         requires turn { turn < 4294967296 }
         requires ready { IsReady self.old }
-        ensures { OnOk result (Makes processes turn self.old self.new) }
+        ensures { OnOk result (Makes schedule.now.shifts.items processes turn self.old self.new) }
     {
         if !self.sender.has_sent(turn) {
             self.notes.made = Vec::new(alloc);
             return Ok(());
         }
-        let to = schedule.receiver(place, self.sender.lists(), processes);
+        let to = schedule.receiver(self.me(), self.sender.place(), processes);
         let made = self.make_frames(alloc, to, turn, schedule.loses_some())?;
+        self.sender.sends(turn, made.len(), schedule.shifts());
         self.notes.made = made;
         Ok(())
     }
@@ -256,6 +258,7 @@ impl<'a> Process<'a> {
         ensures { self.new.notes.failed ≡ false → GoesOn (⟦<Ops as Listing>⟧.operations ops.now) ranks place (taken place turn frames.now (process_of self.old)) (process_of self.new) × IsReady self.new }
     {
         self.notes.told = self.lines().len();
+        self.notes.posts = self.carrier.posts.count();
         match self.take_then_step(alloc, place, ranks, frames, turn, ops) {
             Ok(changed) => {
                 self.notes.changed = changed;
@@ -334,7 +337,7 @@ impl<'a> Process<'a> {
         alloc: Global,
         frame: &FrameUnderWay,
     ) -> Result<(), OutOfMemory>
-        ensures took { OnOk result (process_of self.new ≡ record { rank = (process_of self.old).rank; node = learn (part_of frame.now) (process_of self.old).node }) }
+        ensures took { OnOk result (process_of self.new ≡ record { rank = (process_of self.old).rank; node = learn (part_of frame.now) (process_of self.old).node; sender = (process_of self.old).sender }) }
         ensures ready { IsReady self.new }
     {
         self.notes.ahead = None;
@@ -357,6 +360,12 @@ impl<'a> Process<'a> {
     /// Its lines so far.
     pub(crate) fn lines(&self) -> &[String] {
         self.rank.lines()
+    }
+
+    /// Tells of the calls that it has posted since that was last noted, where posts are followed.
+    pub(crate) fn tell_posts(&self, turn: u32, observer: &mut dyn Observer) {
+        let (posts, told) = (&self.carrier.posts, self.notes.posts);
+        posts.tell(told, turn, self.me(), self.statements, observer);
     }
 
     /// How many statements are left, with the one whose outcome it waits for.
@@ -386,14 +395,4 @@ impl<'a> Process<'a> {
         let Process { carrier, rank, .. } = self;
         (carrier.into_node(), rank.lines)
     }
-}
-
-// The world as a rank has it. A relay has none.
-fn world_of(alloc: Global, me: u8, ranks: u8) -> Option<Name>
-    ensures { me < ranks → result ≡ Some [] }
-{
-    if me >= ranks {
-        return None;
-    }
-    Some(Name::world(alloc))
 }

@@ -71,7 +71,7 @@ pub fn run_sim<R: Threads + Sync>(
     ensures begins { IfOk result (λ run. (evaluation : State) → IsEvaluationOf (⟦<Ops as Listing>⟧.operations ops.now) script.now evaluation → Begin (transcripts_of run.report) evaluation) }
     ensures whole { IfOk result (λ run. (evaluation : State) → IsEvaluationOf (⟦<Ops as Listing>⟧.operations ops.now) script.now evaluation → AreWhole (transcripts_of run.report) run.report.waiting.items evaluation) }
     ensures turns { IfOk result (λ run. AreAfter (⟦<Ops as Listing>⟧.operations ops.now) script.now options.now.relays options.now.seed options.now.loss run.turns (map node_of run.nodes.items)) }
-    ensures ended { IfOk result (λ run. AllMadeOr run.turns options.now.turns (IsOver options.now.loss (map node_of run.nodes.items) run.report.waiting.items)) }
+    ensures ended { IfOk result (λ run. AllMadeOr run.turns options.now.turns (IsOver (⟦<Ops as Listing>⟧.operations ops.now) script.now options.now.relays options.now.loss (map node_of run.nodes.items) (transcripts_of run.report) run.report.waiting.items)) }
     ensures rests { IfOk result (λ run. run.turns < options.now.turns → options.now.loss < 100 → (evaluation : State) → IsEvaluationOf (⟦<Ops as Listing>⟧.operations ops.now) script.now evaluation → AreAll (transcripts_of run.report) run.report.waiting.items script.now.ranks evaluation) }
 {
     run_sim_observed(rt, alloc, script, options, &mut Unobserved, ops)
@@ -92,7 +92,7 @@ pub fn run_sim_observed<R: Threads + Sync>(
     ensures begins { IfOk result (λ run. (evaluation : State) → IsEvaluationOf (⟦<Ops as Listing>⟧.operations ops.now) script.now evaluation → Begin (transcripts_of run.report) evaluation) }
     ensures whole { IfOk result (λ run. (evaluation : State) → IsEvaluationOf (⟦<Ops as Listing>⟧.operations ops.now) script.now evaluation → AreWhole (transcripts_of run.report) run.report.waiting.items evaluation) }
     ensures turns { IfOk result (λ run. AreAfter (⟦<Ops as Listing>⟧.operations ops.now) script.now options.now.relays options.now.seed options.now.loss run.turns (map node_of run.nodes.items)) }
-    ensures ended { IfOk result (λ run. AllMadeOr run.turns options.now.turns (IsOver options.now.loss (map node_of run.nodes.items) run.report.waiting.items)) }
+    ensures ended { IfOk result (λ run. AllMadeOr run.turns options.now.turns (IsOver (⟦<Ops as Listing>⟧.operations ops.now) script.now options.now.relays options.now.loss (map node_of run.nodes.items) (transcripts_of run.report) run.report.waiting.items)) }
     ensures rests { IfOk result (λ run. run.turns < options.now.turns → options.now.loss < 100 → (evaluation : State) → IsEvaluationOf (⟦<Ops as Listing>⟧.operations ops.now) script.now evaluation → AreAll (transcripts_of run.report) run.report.waiting.items script.now.ranks evaluation) }
 {
     let ran = simulate(rt, alloc, script, options, observer, ops);

@@ -1,7 +1,8 @@
 //! What is drawn in a run. Equal seeds give equal draws.
-ghost use Rattle.std.specs.Prelude.{◌≡◌, ◌<◌, ◌≤◌, ◌⊎◌, ◌↔◌, IfOk, IfSome, IsFalse, IsTrue, None, Some, if◌then◌else◌, length, nat_eq, suc};
+ghost use Rattle.std.specs.Prelude.{◌≡◌, ◌<◌, ◌≤◌, ◌↔◌, IfOk, IfSome, IsFalse, IsTrue, None, Some, if◌then◌else◌, length, nat_eq, suc};
 ghost use Rattle.std.specs.List.Sorted.{IsPermutation};
-ghost use Rattle.mpx_sim.specs.Draws.{draw, drawn, drawn_again, drawn_times, generator, powers_below};
+ghost use Rattle.mpx_sim.specs.Draws.{all_below, draw, drawn, drawn_again, drawn_times, generator, powers_below, shuffled};
+ghost use Rattle.mpx_sim.specs.Senders.{receiver};
 ghost use Rattle.mpx_sim.specs.Shown.{schedule_of};
 
 use join_core::OutOfMemory;
@@ -10,7 +11,7 @@ use rand_pcg::Pcg32;
 use std::alloc::Global;
 
 // Shifts are below the number of processes, which is at most 64.
-const MOST_SHIFTS: usize = 6;
+const MOST_SHIFTS: u8 = 6;
 
 // The stream of the generator.
 const STREAM: u64 = 54;
@@ -21,7 +22,7 @@ const STREAM: u64 = 54;
 pub(crate) struct Schedule {
     words: Pcg32,
     loss: usize,
-    shifts: Vec<usize>,
+    shifts: Vec<u8>,
 }
 
 impl Schedule {
@@ -34,11 +35,12 @@ impl Schedule {
     ) -> Result<Schedule, OutOfMemory>
         ensures loss { IfOk result (λ schedule. schedule.loss ≡ loss) }
         ensures seed { IfOk result (λ schedule. schedule.words ≡ drawn_times (powers_below 6 processes) (generator seed)) }
+        ensures shifts { IfOk result (λ schedule. schedule.shifts.items ≡ shuffled 0 (powers_below 6 processes) (generator seed) (all_below 6 processes)) }
     {
         let mut shifts = Vec::new(alloc);
         for place in 0..MOST_SHIFTS {
-            let shift = 1usize << place;
-            if shift < processes {
+            let shift = 1u8 << place;
+            if usize::from(shift) < processes {
                 shifts.push(shift)?;
             }
         }
@@ -51,29 +53,25 @@ impl Schedule {
         })
     }
 
-    /// To whom a process sends that has made so many lists of frames: as many processes on as the shift of this number says.
-    /// Where a hundred percent arrive and each list is one frame, any turns of one round bring every fact to every process. It is
-    /// another process, where there is one.
-    pub(crate) fn receiver(&self, from: usize, lists: usize, processes: usize) -> usize
-        requires { from < processes }
+    /// To whom a process sends by the shift at this place: so many processes on, where the first comes after the last. Where a hundred percent
+    /// arrive and each list is one frame, any turns of one round bring every fact to every process.
+    pub(crate) fn receiver(&self, from: u8, place: usize, processes: usize) -> usize
+        requires { 0 < processes }
         ensures below { result < processes }
-        ensures other { 1 < processes → (result < from) ⊎ (from < result) }
+        ensures is { result ≡ receiver self.now.shifts.items processes from place }
     {
-        if processes == 1 {
-            return from;
-        }
-        let drawn = if self.shifts.is_empty() {
-            1
-        } else {
-            self.shifts[lists % self.shifts.len()]
+        let shift = match self.shifts.get(place) {
+            Some(shift) => *shift,
+            None => 1,
         };
-        // (each shift is from 1 on, and below the number of processes)
-        let shift = drawn.wrapping_sub(1) % (processes - 1) + 1;
-        if shift < processes - from {
-            from + shift
-        } else {
-            shift - (processes - from)
-        }
+        (usize::from(from) + usize::from(shift)) % processes
+    }
+
+    /// The shifts, in their order.
+    pub(crate) fn shifts(&self) -> &[u8]
+        ensures { result.now ≡ self.now.shifts.items }
+    {
+        &self.shifts
     }
 
     /// Whether a frame is lost, which is drawn: of a loss of 0 none is, and of a loss of 100 each.
@@ -84,6 +82,7 @@ impl Schedule {
         ensures kept { IsFalse result → self.old.loss ≤ draw 100 self.old.words }
         ensures words { self.new.words ≡ drawn self.old.words }
         ensures loss { self.new.loss ≡ self.old.loss }
+        ensures shifts { self.new.shifts ≡ self.old.shifts }
     {
         below(&mut self.words, 100) < self.loss
     }
@@ -106,6 +105,7 @@ impl Schedule {
         ensures again { result ≡ (if nat_eq (draw 4 self.old.words) 0 then Some (suc (draw 4 (drawn self.old.words))) else None) }
         ensures schedule { schedule_of self.new ≡ drawn_again (schedule_of self.old) }
         ensures loss { self.new.loss ≡ self.old.loss }
+        ensures shifts { self.new.shifts ≡ self.old.shifts }
     {
         let comes = below(&mut self.words, 4);
         if comes != 0 {
@@ -120,6 +120,7 @@ impl Schedule {
         ensures items { IsPermutation items.old.items items.new.items }
         ensures words { self.new.words ≡ drawn_times (length items.old.items) self.old.words }
         ensures loss { self.new.loss ≡ self.old.loss }
+        ensures shifts { self.new.shifts ≡ self.old.shifts }
     {
         shuffle(&mut self.words, items);
     }
@@ -139,6 +140,7 @@ fn below(words: &mut Pcg32, limit: usize) -> usize
 fn shuffle<T>(words: &mut Pcg32, items: &mut Vec<T>)
     ensures items { IsPermutation items.old.items items.new.items }
     ensures words { words.new ≡ drawn_times (length items.old.items) words.old }
+    ensures order { items.new.items ≡ shuffled 0 (length items.old.items) words.old items.old.items }
 {
     for i in 0..items.len() {
         let j = i + below(words, items.len() - i);

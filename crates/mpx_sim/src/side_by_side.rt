@@ -56,11 +56,11 @@ pub(crate) fn say_all(
 ) -> Result<(), OutOfMemory>
     requires turn { turn < 4294967296 }
     requires ready { AreReady processes.old }
-    ensures { OnOk result (AllMake (length processes.old) turn processes.old processes.new) }
+    ensures { OnOk result (AllMake schedule.now.shifts.items (length processes.old) turn processes.old processes.new) }
 {
     let count = processes.len();
     for place in 0..count {
-        processes[place].say(alloc, place, count, schedule, turn)?;
+        processes[place].say(alloc, count, schedule, turn)?;
     }
     Ok(())
 }

@@ -6,6 +6,7 @@ ghost use Rattle.mpx_system.specs.Runs.{HaveOneBoard};
 ghost use Rattle.mpx_system.specs.Systems.{System};
 ghost use Rattle.mpx_sim.specs.Ends.{AllLack, AllMadeOr, HaveFinished, OneWaits, RestsBy, nodes_of};
 ghost use Rattle.mpx_sim.specs.Running.{AreOfRun, HasTurned, HaveCome, IsUnderWay};
+ghost use Rattle.mpx_sim.specs.Senders.{SenderView};
 ghost use Rattle.mpx_sim.specs.Shown.{frames_of, moment_of, process_of, schedule_of};
 ghost use Rattle.mpx_sim.specs.SideBySide.{AreReady};
 ghost use Rattle.mpx_sim.specs.Turns.{Alone, Coming, FrameView, Moment};
@@ -42,7 +43,7 @@ pub(crate) fn simulate<'a, R: Threads + Sync>(
     ensures run { IfOk result (λ ran. AreOfRun (⟦<Ops as Listing>⟧.operations ops.now) script.now options.now.relays options.now.seed options.now.loss ran.1 (map process_of ran.0.items)) }
     ensures ended { IfOk result (λ ran. AllMadeOr ran.1 options.now.turns (RestsBy options.now.loss script.now.ranks (map process_of ran.0.items))) }
 {
-    let mut processes = start(alloc, script, options.relays)?;
+    let mut processes = start(alloc, script, options.relays, observer.follows_posts())?;
     let mut network = Network::new(alloc, options, processes.len())?;
     let plan = Plan {
         workers: workers_of(rt, options, processes.len()),
@@ -153,9 +154,9 @@ fn exchange(
     observer: &mut dyn Observer,
 ) -> Result<(), OutOfMemory>
     requires { AreReady processes.old }
-    ensures run { OnOk result ((operations : List Operation) (script : Statements) (ranks size : ℕ) (begun : System) → plan.now.ranks ≤ ranks → OneWaits plan.now.ranks (map process_of processes.old)
-        → IsUnderWay operations script ranks size (moment_of begun network.old) Alone (map process_of processes.old) (frames_of network.old)
-        → IsUnderWay operations script ranks size (moment_of begun network.old) (Coming number (schedule_of network.new.schedule)) (map process_of processes.new) (frames_of network.new)) }
+    ensures run { OnOk result ((operations : List Operation) (script : Statements) (ranks size : ℕ) (begun : System) (senders : ℕ → SenderView) → plan.now.ranks ≤ ranks → OneWaits plan.now.ranks (map process_of processes.old)
+        → IsUnderWay operations script ranks size (moment_of begun network.old senders) Alone (map process_of processes.old) (frames_of network.old)
+        → IsUnderWay operations script ranks size (moment_of begun network.old senders) (Coming number (schedule_of network.new.schedule)) (map process_of processes.new) (frames_of network.new)) }
     ensures came { OnOk result ((plan.now.in_order ≡ true) ⊎ (plan.now.turns ≤ number + 1) → HaveCome number (frames_of network.new) (map process_of processes.new)) }
     ensures loss { OnOk result (network.new.schedule.loss ≡ network.old.schedule.loss) }
     ensures ready { OnOk result (AreReady processes.new) }
@@ -204,10 +205,13 @@ fn go_further<R: Threads + Sync>(
     Ok(changed)
 }
 
-// Tells whoever looks on of ranks' new lines, in the turn behind so many.
+// Tells whoever looks on of ranks' new posts and lines, in the turn after so many.
 fn tell_more(processes: &[Process<'_>], ranks: usize, turns: u32, observer: &mut dyn Observer)
     requires { ranks ≤ length processes.now }
 {
+    for p in 0..ranks {
+        processes[p].tell_posts(turns.saturating_add(1), observer);
+    }
     for p in 0..ranks {
         let lines = processes[p].lines();
         if lines.len() > processes[p].notes.told {

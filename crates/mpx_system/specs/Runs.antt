@@ -1,5 +1,5 @@
 -- What a run of a script comes to.
-use Rattle.std.specs.Prelude.{◌≡◌, ℕ, ◌≤◌, ◌+◌, ◌⊎◌, List, [], length, slice_get, Some}
+use Rattle.std.specs.Prelude.{◌≡◌, ℕ, ◌<◌, ◌≤◌, ◌+◌, ◌⊎◌, List, [], length, slice_get, Some}
 use Rattle.mpx_num.specs.declared.own.Operation.{Operation}
 use Rattle.mpx_node.specs.Nodes.{NodeView}
 use Rattle.mpx_script.specs.ScriptView.{ScriptView}
@@ -8,6 +8,7 @@ use Rattle.mpx_meaning.specs.Told.{CarriesOut}
 use Rattle.mpx_meaning.specs.Reports.{lines_in, waiting_in}
 use Rattle.mpx_world.specs.Soundness.{Sound}
 use Rattle.mpx_system.specs.Systems.{System, IsOfHappenings, Leads, start_system, TellsResults, world_tells}
+use Rattle.mpx_system.specs.Rest.{WaitsBy}
 
 -- by the job's own operations doings lead from the start to a sound world with these nodes; what can happen leads to it, so that each law of such histories is
 -- of it. In it each process has posted what its rank has and a relay nothing; the ranks carry out their statements by what their
@@ -49,6 +50,11 @@ pub record AreAll (transcripts : List (List (List ℕ))) (waiting : List ℕ) (r
 abbrev pub HaveOneBoard : List NodeView → Type 0
 HaveOneBoard nodes = (p q : ℕ) (a b : NodeView) → slice_get nodes p ≡ Some a → slice_get nodes q ≡ Some b → a.board ≡ b.board
 
--- no rank has anything left, or nothing more can come of the boards: all are one, or every frame is lost
-abbrev pub IsOver : (loss : ℕ) → List NodeView → (waiting : List ℕ) → Type 0
-IsOver loss nodes waiting = (waiting ≡ []) ⊎ (HaveOneBoard nodes ⊎ (100 ≤ loss))
+-- each rank waits: whatever it is told of what is at hand at its node, it has no move
+abbrev pub AllWait : List Operation → (ranks : ℕ) → System → Type 0
+AllWait ops ranks s = (p : ℕ) → p < ranks → WaitsBy ops (s.world.each p).node (s.ranks p)
+
+-- a run is over: no rank has anything left; or each rank waits, and nothing more comes to it, since all boards are one or every frame is lost
+pub record IsOver (ops : List Operation) (script : ScriptView) (relays loss : ℕ) (nodes : List NodeView) (transcripts : List (List (List ℕ))) (waiting : List ℕ) : Type 0 where
+  pub run : IsRun ops script relays nodes transcripts waiting
+  pub over : (waiting ≡ []) ⊎ ((HaveOneBoard nodes ⊎ (100 ≤ loss)) × AllWait ops script.ranks run.system)

@@ -103,7 +103,7 @@ fn push_call(name: &Name, call: u32, text: &mut Vec<u8>) -> io::Result<()> {
 
 // Adds a name without blanks: `world`, and behind it for each step `/CALL.COLOUR` of a communicator that a call made, or
 // `/tTAG(RANK,RANK)` of the members that `create_group` gathers.
-fn push_name(name: &Name, text: &mut Vec<u8>) -> io::Result<()> {
+pub(crate) fn push_name(name: &Name, text: &mut Vec<u8>) -> io::Result<()> {
     text.extend_from_slice(b"world")?;
     for step in name.steps() {
         match step {

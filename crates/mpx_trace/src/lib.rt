@@ -7,6 +7,7 @@
 
 mod holding;
 mod news;
+mod script_lines;
 mod table;
 mod trace;
 

@@ -1,8 +1,10 @@
 //! A simulated run, a line an event.
 ghost use Rattle.std.specs.Prelude.{◌≡◌};
 
-use crate::holding::push_held;
+use crate::holding::{push_held, push_name};
 use crate::news::News;
+use crate::script_lines::ScriptLines;
+use mpx_name::Name;
 use mpx_node::Node;
 use mpx_sim::{FrameSeen, Observer, Progress};
 use std::alloc::Global;
@@ -10,12 +12,14 @@ use std::io::{self, Write};
 
 /// Tells each event of a simulated run in a line: `turn T: F -> D sent N bytes` where a frame goes out that comes in this turn, or `lost` in
 /// place of `sent`; `turn T: F -> D taken: D has CALLS` where one comes for the first time, or `again`, with what the process then
-/// holds; and `turn T: rank R result LINE` for each new line of a rank.
+/// holds; `turn T: rank R posts NAME CALL, line L: WORDS` for each call that a rank posts, with the script's line and its words; and
+/// `turn T: rank R result LINE` for each new line of a rank.
 #[derive(Drop)]
 pub struct Trace<W: Write> {
     alloc: Global,
     out: W,
     news: News,
+    script: ScriptLines,
 }
 
 impl<W: Write> Trace<W> {
@@ -26,6 +30,7 @@ impl<W: Write> Trace<W> {
             alloc,
             out,
             news: News::new(),
+            script: ScriptLines::new(alloc),
         }
     }
 
@@ -54,6 +59,24 @@ impl<W: Write> Trace<W> {
         self.out.write_all(&line)
     }
 
+    fn tell_post(
+        &mut self,
+        turn: u32,
+        rank: u8,
+        name: &Name,
+        call: u32,
+        statement: usize,
+    ) -> io::Result<()> {
+        let mut text = Vec::new(self.alloc);
+        write!(text, "turn {turn}: rank {rank} posts ")?;
+        push_name(name, &mut text)?;
+        write!(text, " {call}, ")?;
+        self.script
+            .push_statement(self.alloc, rank, statement, &mut text)?;
+        text.extend_from_slice(b"\n")?;
+        self.out.write_all(&text)
+    }
+
     fn tell_line(&mut self, turn: u32, rank: u8, line: &str) -> io::Result<()> {
         let mut text = Vec::new(self.alloc);
         writeln!(text, "turn {turn}: rank {rank} result {line}")?;
@@ -62,6 +85,10 @@ impl<W: Write> Trace<W> {
 }
 
 impl<W: Write + Drop> Observer for Trace<W> {
+    fn begins(&mut self, text: &[u8]) {
+        let _ = self.script.read(self.alloc, text);
+    }
+
     fn turn(&mut self, _number: u32, _progress: Progress) {}
 
     fn sent(&mut self, frame: FrameSeen, lost: bool) {
@@ -74,6 +101,14 @@ impl<W: Write + Drop> Observer for Trace<W> {
 
     fn taken(&mut self, frame: FrameSeen, again: bool, node: &Node) {
         let _ = self.tell_taken(frame, again, node);
+    }
+
+    fn follows_posts(&self) -> bool {
+        true
+    }
+
+    fn posted(&mut self, turn: u32, rank: u8, name: &Name, call: u32, statement: usize) {
+        let _ = self.tell_post(turn, rank, name, call, statement);
     }
 
     fn told(&mut self, turn: u32, rank: u8, lines: &[String]) {

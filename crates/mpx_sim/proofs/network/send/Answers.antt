@@ -17,7 +17,7 @@ returns-then-lost-clause-frames g c =
     sym (append-nil old) ∙ ap (λ fs. old ++ fs) (sym (is_lost_out s (frame_of c.args.frame) (c.is_lost-lost.ensures.lost c.if-lost.true)))
 
 pub returns-clause-schedule : goal.returns-clause-schedule
-returns-clause-schedule g c = drawn_of c.args.network.now.schedule c.is_lost-lost.new.self c.is_lost-lost.ensures.loss c.is_lost-lost.ensures.words
+returns-clause-schedule g c = drawn_of c.args.network.now.schedule c.is_lost-lost.new.self c.is_lost-lost.ensures.loss c.is_lost-lost.ensures.words c.is_lost-lost.ensures.shifts
 
 pub returns-then-lost-clause-schedule : goal.returns-then-lost-clause-schedule
-returns-then-lost-clause-schedule g c = drawn_of c.args.network.now.schedule c.is_lost-lost.new.self c.is_lost-lost.ensures.loss c.is_lost-lost.ensures.words
+returns-then-lost-clause-schedule g c = drawn_of c.args.network.now.schedule c.is_lost-lost.new.self c.is_lost-lost.ensures.loss c.is_lost-lost.ensures.words c.is_lost-lost.ensures.shifts

@@ -5,8 +5,7 @@ use Rattle.mpx_meaning.specs.Reports.{transcripts_of, which}
 use Rattle.mpx_sim.specs.Running.{ProcessView, is_waiting_at}
 use Rattle.mpx_sim.specs.Shown.{process_of}
 use Rattle.mpx_system.proofs.Results.{map_taken}
-use Rattle.mpx_sim.proofs.Ends.{over}
-use Rattle.mpx_sim.proofs.Results.{all_said, begin_said, is_after, run_said, whole_said}
+use Rattle.mpx_sim.proofs.Results.{all_said, begin_said, is_after, over_said, run_said, whole_said}
 use Rattle.mpx_sim.proofs.report.run_sim_observed.Goals as goal
 
 pub returns-clause-run : goal.returns-clause-run
@@ -38,11 +37,14 @@ returns-clause-whole g c =
 
 pub returns-clause-ended : goal.returns-clause-ended
 returns-clause-ended g c =
+    let ran = c.in_ok-processes.ensures.run in
     let processes = map process_of c.in_ok-processes.processes.items in
-    let waiting : c.in_ok-waiting.waiting.items ≡ which (λ p. is_waiting_at (slice_get processes p)) c.args.script.now.ranks = c.in_ok-waiting.ensures ∙ ap (λ ps. which (λ p. is_waiting_at (slice_get (map process_of ps) p)) c.ranks-ranks.result) c.as_slice.ensures.value ∙ ap (which (λ p. is_waiting_at (slice_get processes p))) c.ranks-ranks.ensures.ranks in
+    let said = transcripts_of (record { transcripts = c.truncate.new.self; waiting = c.in_ok-waiting.waiting }) in
+    let lines : said ≡ take c.ranks-ranks.result (map (λ (v : ProcessView). v.rank.lines) processes) = ap (map _) c.truncate.ensures.items ∙ map_taken _ c.ranks-ranks.result c.in_ok-transcripts.transcripts.items ∙ ap (take c.ranks-ranks.result) c.in_ok-transcripts.ensures.lines in
+    let waiting : c.in_ok-waiting.waiting.items ≡ which (λ p. is_waiting_at (slice_get processes p)) c.ranks-ranks.result = c.in_ok-waiting.ensures ∙ ap (λ ps. which (λ p. is_waiting_at (slice_get (map process_of ps) p)) c.ranks-ranks.result) c.as_slice.ensures.value in
     elim c.in_ok-processes.ensures.ended [
       | inl all ↦ inl all
-      | inr rest ↦ inr (rest.0, over c.args.options.now.loss c.args.script.now.ranks processes (map node_of c.in_ok-transcripts.nodes.items) c.in_ok-waiting.waiting.items c.in_ok-transcripts.ensures.nodes waiting rest.1)
+      | inr rest ↦ inr (rest.0, over_said _ c.args.script.now c.args.options.now.relays c.ranks-ranks.result c.ranks-ranks.ensures.ranks ran.begun processes ran.frames ran.run (map node_of c.in_ok-transcripts.nodes.items) said c.in_ok-waiting.waiting.items c.in_ok-transcripts.ensures.nodes lines waiting c.args.options.now.loss rest.1)
     ]
 
 pub returns-clause-rests : goal.returns-clause-rests

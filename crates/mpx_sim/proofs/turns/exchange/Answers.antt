@@ -16,9 +16,10 @@ use Rattle.mpx_sim.proofs.turns.exchange.Goals as goal
 
 pub returns-clause-run : goal.returns-clause-run
 returns-clause-run g c =
-    on_each_ok c.deliver.result (λ delivers ops script ranks size from few one run.
+    on_each_ok c.deliver.result (λ delivers ops script ranks size from senders few one run.
     let turn = c.from-turn.result in
-    let begun = moment_of from c.args.network.now in
+    let begun = moment_of from c.args.network.now senders in
+    let shifts = c.args.network.now.schedule.shifts.items in
     let before = frames_of c.args.network.now in
     let old = map process_of c.args.processes.now in
     let qs = c.say_all.new.processes in
@@ -27,14 +28,14 @@ returns-clause-run g c =
     let many : count ≡ size = sym (length-map c.args.processes.now process_of) ∙ run.count in
     let among : one.place < ranks = omega (arith, one.among, few) in
     let saying = run_says ops script ranks size begun old before run (left_at ops script ranks size begun old before run one.place among one.waits) in
-    let made = run_made count turn c.args.processes.now qs c.in_ok-say_all.ensures ops script ranks size begun before saying in
+    let made = run_made shifts count turn c.args.processes.now qs c.in_ok-say_all.ensures ops script ranks size begun before saying in
     let lists = map to_send qs in
-    let out = run_out ops script ranks size begun turn said before made lists (length-map qs to_send ∙ sym (length-map qs process_of)) (λ p list e v at. subst (λ n. IsListOf n turn v.rank.me v.node list) many (all_lists count turn c.args.processes.now qs c.in_ok-say_all.ensures p list e v at)) in
+    let out = run_out ops script ranks size begun turn said before made lists (length-map qs to_send ∙ sym (length-map qs process_of)) (λ p list e v at. let listed = all_lists shifts senders count turn c.args.processes.now qs c.in_ok-say_all.ensures run.senders p list e v at in (subst (λ n. IsListOf shifts n turn v.rank.me (senders p) v.node list) many listed.is_list, listed.sender_is)) in
     let mid = c.send_all.new.network in
     let drawn =
     ap (λ fs. drawn_for fs (drawn_for (joined lists) (schedule_of c.args.network.now.schedule))) (sym c.in_ok-send_all.ensures.frames)
     ∙ ap (drawn_for (frames_of mid)) (sym c.in_ok-send_all.ensures.schedule)
-    ∙ mixed_of mid.schedule c.mix.new.self.schedule (frames_of mid) (length mid.frames.items) (sym (length-map mid.frames.items frame_of)) c.mix.ensures.loss c.mix.ensures.words in
+    ∙ mixed_of mid.schedule c.mix.new.self.schedule (frames_of mid) (length mid.frames.items) (sym (length-map mid.frames.items frame_of)) c.mix.ensures.loss c.mix.ensures.words c.mix.ensures.shifts in
     let sent = run_scheduled ops script ranks size begun turn _ (schedule_of c.mix.new.self.schedule) _ _ _ _ drawn (sym c.in_ok-send_all.ensures.same) (sym c.in_ok-send_all.ensures.frames) out in
     let all = map process_of c.send_all.new.processes in
     let mixed = run_mixed ops script ranks size begun turn (schedule_of c.mix.new.self.schedule) all (frames_of mid) sent (frames_of c.mix.new.self) (IsPermutation-map frame_of mid.frames.items c.mix.new.self.frames.items c.mix.ensures.frames) in
@@ -65,5 +66,5 @@ returns-clause-loss g c =
 
 pub returns-clause-ready : goal.returns-clause-ready
 returns-clause-ready g c =
-    let made = ready_made (length c.args.processes.now) c.from-turn.result c.args.processes.now c.say_all.new.processes c.in_ok-say_all.ensures in
+    let made = ready_made c.args.network.now.schedule.shifts.items (length c.args.processes.now) c.from-turn.result c.args.processes.now c.say_all.new.processes c.in_ok-say_all.ensures in
     on_each_ok c.deliver.result (λ h. h (c.in_ok-send_all.ensures.ready made)) c.deliver.ensures.ready

@@ -4,7 +4,7 @@ use Rattle.mpx_sim.specs.SideBySide.{all_taken}
 use Rattle.mpx_sim.specs.Running.{HaveCome}
 use Rattle.mpx_sim.specs.Draws.{ScheduleView}
 use Rattle.mpx_sim.specs.Turns.{Alone, Moment, drawn_again_for, those_left}
-use Rattle.mpx_sim.proofs.Running.{run_begins, run_same, run_turned}
+use Rattle.mpx_sim.proofs.Running.{next_moment, run_begins, run_same, run_turned}
 use Rattle.mpx_sim.proofs.Sending.{again_for_loss}
 use Rattle.mpx_sim.proofs.SideBySide.{coming_come, run_come, run_gone}
 use Rattle.mpx_sim.proofs.turns.go_further.Goals as goal
@@ -15,7 +15,7 @@ returns-then-is_last-clause-run g c script ranks size begun few run =
     let t = schedule_of c.args.network.now.schedule in
     let old = map process_of c.args.processes.now in
     let frames = frames_of c.args.network.now in
-    let next : Moment = record { system = run.system; frames = those_left number frames t; schedule = drawn_again_for number frames t } in
+    let next : Moment = next_moment _ script ranks size begun number t old frames run in
     record {
       next = next;
       turn_is = run_turned _ script ranks size begun number t old frames run (c.requires.came (inr (c.is_last.ensures.last c.if-is_last.true)));
@@ -37,7 +37,7 @@ returns-clause-run g c script ranks size begun few run =
     let now = all_taken zero turn fs old in
     let came = subst (λ n. HaveCome n all now) same (coming_come turn before fs old some (λ h. subst (λ n. HaveCome n all old) (sym same) (c.requires.came h))) in
     let come = run_come _ script ranks size begun number t all turn before fs refl some old run in
-    let next : Moment = record { system = come.system; frames = those_left number all t; schedule = drawn_again_for number all t } in
+    let next : Moment = next_moment _ script ranks size begun number t now all come in
     let begins = run_begins _ script ranks size begun number t now all come in
     let gone = run_gone _ c.args.plan.now.ranks turn fs old (map process_of c.go_on_all.new.processes) c.in_ok-changed.ensures.goes script ranks size next next.frames few begins in
     record {

@@ -8,6 +8,7 @@ use Rattle.mpx_sim.specs.Shown.{frame_of, frames_of, moment_of, process_of, sche
 use Rattle.mpx_sim.specs.SideBySide.{AreReady}
 use Rattle.mpx_system.specs.Systems.{start_system}
 use Rattle.mpx_sim.specs.Draws.{ScheduleView, first_schedule}
+use Rattle.mpx_sim.specs.Senders.{first_sender}
 use Rattle.mpx_sim.specs.Turns.{Alone, AreTurns, Coming, Moment}
 use Rattle.mpx_sim.specs.Running.{HaveCome, IsUnderWay, ProcessView}
 use Rattle.mpx_sim.proofs.Running.{run_framed, run_same}
@@ -36,25 +37,26 @@ loop-number-init g c =
     let start = start_system _ script.statements script.ranks size in
     let network = c.in_ok-network.network in
     let few : c.from.result ≤ script.ranks = omega (arith, c.ranks.ensures.ranks, c.from.ensures) in
+    let begins = moment_of start network (λ p. first_sender) in
     let none : [] ≡ frames_of network = ap (map frame_of) (sym c.in_ok-network.ensures.frames) in
-    let started = run_framed _ script.statements script.ranks size start (schedule_of network.schedule) (map process_of xs) [] (frames_of network) none (c.in_ok-processes.ensures.run _ (schedule_of network.schedule)) in
-    let before = run_same _ script.statements script.ranks size (moment_of start network) Alone (map process_of xs) (map process_of c.deref_mut.result.now) _ _ (ap (map process_of) (sym c.deref_mut.ensures.value)) refl started in
-    let gone = c.in_ok-changed.ensures.run script.statements script.ranks size (moment_of start network) (frames_of network) few before in
+    let started = run_framed _ script.statements script.ranks size start (schedule_of network.schedule) (λ p. first_sender) (map process_of xs) [] (frames_of network) none (c.in_ok-processes.ensures.run _ (schedule_of network.schedule)) in
+    let before = run_same _ script.statements script.ranks size (begins) Alone (map process_of xs) (map process_of c.deref_mut.result.now) _ _ (ap (map process_of) (sym c.deref_mut.ensures.value)) refl started in
+    let gone = c.in_ok-changed.ensures.run script.statements script.ranks size (begins) (frames_of network) few before in
     let lent : length c.deref_mut.result.now ≡ length xs = ap length c.deref_mut.ensures.value in
     let kept = c.first.auto.processes ∙ lent in
     let same = written_back c.in_ok-processes.processes.len xs c.first.new.processes kept (sym lent ∙ c.deref_mut.ensures.len) in
-    let run = run_same _ script.statements script.ranks size (moment_of start network) Alone _ _ _ _ (ap (map process_of) (sym same)) refl gone in
+    let run = run_same _ script.statements script.ranks size (begins) Alone _ _ _ _ (ap (map process_of) (sym same)) refl gone in
     let first = c.in_ok-processes.ensures.run [] (schedule_of network.schedule) in
     let many : length xs ≡ size = sym (length-map xs process_of) ∙ first.count in
     let counted : c.len.result ≡ size = omega (arith, many, c.len.ensures, c.in_ok-processes.processes.ok.0) in
     let seeded : schedule_of network.schedule ≡ first_schedule size c.args.options.now.seed c.args.options.now.loss =
-    (λ i. let s : ScheduleView = record { loss = c.in_ok-network.ensures.loss i; draws = c.in_ok-network.ensures.seed i } in s)
+    (λ i. let s : ScheduleView = record { loss = c.in_ok-network.ensures.loss i; draws = c.in_ok-network.ensures.seed i; shifts = c.in_ok-network.ensures.shifts i } in s)
     ∙ ap (λ n. first_schedule n c.args.options.now.seed c.args.options.now.loss) counted in
     record {
       count = omega (arith, ap length same, kept, many);
       loss = c.in_ok-network.ensures.loss;
       ready = λ less. subst AreReady (sym same) (c.in_ok-changed.ensures.ready less);
-      run = (moment_of start network, (λ i. let m : Moment = record { system = start; frames = none i; schedule = sym seeded i } in m), run, λ less. (refl, refl));
+      run = (begins, (λ i. let m : Moment = record { system = start; frames = none i; schedule = sym seeded i; senders = λ p. first_sender } in m), run, λ less. (refl, refl));
     }
 
 pub returns-then-over-clause-run : goal.returns-then-over-clause-run
@@ -89,8 +91,9 @@ loop-number-preserved g c =
     let network = c.loop-number.network in
     let before = c.loop-number.invariant.run in
     let is = before.3 (omega (arith, c.loop-number-test.true)) in
-    let begun = moment_of before.0.system network in
-    let here : before.0 ≡ begun = λ i. let m : Moment = record { system = before.0.system; frames = is.0 i; schedule = is.1 i } in m in
+    let senders = before.0.senders in
+    let begun = moment_of before.0.system network senders in
+    let here : before.0 ≡ begun = λ i. let m : Moment = record { system = before.0.system; frames = is.0 i; schedule = is.1 i; senders = senders } in m in
     let lent = c.deref_mut-in-loop-number.ensures in
     let stands = moved _ script.statements script.ranks size (map process_of c.loop-number.processes.items) before.0 begun here before.2 in
     let alone = c.in_ok-over.ensures.run script.statements script.ranks size begun begun.frames (run_same _ script.statements script.ranks size begun Alone _ _ _ _ (ap (map process_of) (sym lent.value)) refl stands) in
@@ -98,7 +101,7 @@ loop-number-preserved g c =
     let lent-2 = c.deref_mut-in-loop-number-2.ensures in
     let there = ap (map process_of) (sym same ∙ sym lent-2.value) in
     let one = subst (OneWaits c.from.result) there (c.in_ok-over.ensures.further c.if-over.false) in
-    let came = c.in_ok-exchange.ensures.run _ script.statements script.ranks size before.0.system few one (run_same _ script.statements script.ranks size begun Alone _ _ _ _ there refl alone) in
+    let came = c.in_ok-exchange.ensures.run _ script.statements script.ranks size before.0.system senders few one (run_same _ script.statements script.ranks size begun Alone _ _ _ _ there refl alone) in
     let same-2 = written_back len _ c.exchange.new.processes (c.exchange.auto.processes ∙ ap length lent-2.value) (sym (ap length lent-2.value) ∙ lent-2.len) in
     let lent-3 = c.deref_mut-in-loop-number-3.ensures in
     let come = run_same _ script.statements script.ranks size begun (Coming c.loop-number.number (schedule_of c.exchange.new.network.schedule)) _ _ _ _ (ap (map process_of) (sym same-2 ∙ sym lent-3.value)) refl came in

@@ -2,7 +2,7 @@ use Rattle.std.proofs.Common.{map, ap, sym, subst, ◌∙◌}
 use Rattle.std.proofs.lemmas.Result.{IfOk-weaker}
 use Rattle.mpx_board.specs.Boards.{join_all}
 use Rattle.mpx_format.specs.Decoding.{decoded, shown}
-use Rattle.mpx_sim.specs.Shown.{process_of}
+use Rattle.mpx_sim.specs.Shown.{process_of, sender_of}
 use Rattle.mpx_sim.specs.Turns.{FrameView, IsListOf, a_list, one_a_turn}
 use Rattle.mpx_sim.proofs.Sending.{parts_in_turns, parts_of_frames}
 use Rattle.mpx_sim.proofs.Spelled.{spelled_parts, spelled_whole}
@@ -19,9 +19,10 @@ returns-clause-list c =
     let v = process_of c.make_list.new.self in
     let parts = spelled_parts c.in_ok-list.list.items made.parts made.spelled in
     IfOk-weaker c.frames_with.result _ _
-    (λ sent same size within.
-    subst (IsListOf size c.args.turn v.rank.me v.node) (sym (same ∙ (λ i. one_a_turn (c.me.ensures i) c.args.to c.args.turn (parts i))))
-    (a_list c.args.to made.parts within made.facts made.join made.fit made.few))
+    (λ sent same shifts size due to.
+    let sender = sender_of c.args.self.now.sender in
+    subst (IsListOf shifts size c.args.turn v.rank.me sender v.node) (sym (same ∙ (λ i. one_a_turn (c.me.ensures i) (to i) c.args.turn (parts i))))
+    (a_list made.parts due made.facts made.join made.fit made.few))
     c.frames_with.ensures
 
 pub returns-clause-join : goal.returns-clause-join

@@ -7,7 +7,7 @@ use Rattle.mpx_sim.proofs.schedule.Schedule.again.Goals as goal
 
 pub returns-then-comes-ne0-clause-schedule : goal.returns-then-comes-ne0-clause-schedule
 returns-then-comes-ne0-clause-schedule c =
-    (λ i. let s : ScheduleView = record { loss = c.args.self.now.loss; draws = c.below-comes.ensures.words i } in s)
+    (λ i. let s : ScheduleView = record { loss = c.args.self.now.loss; draws = c.below-comes.ensures.words i; shifts = c.args.self.now.shifts.items } in s)
     ∙ sym (again_not (schedule_of c.args.self.now) (λ none. c.if-comes-ne0.true (c.below-comes.ensures.is ∙ none)))
 
 pub returns-then-comes-ne0-clause-again : goal.returns-then-comes-ne0-clause-again
@@ -16,7 +16,7 @@ returns-then-comes-ne0-clause-again c = again_none (draw 4 c.args.self.now.words
 pub returns-clause-schedule : goal.returns-clause-schedule
 returns-clause-schedule c =
     let twice = c.below-turns.ensures.words ∙ ap drawn c.below-comes.ensures.words in
-    (λ i. let s : ScheduleView = record { loss = c.args.self.now.loss; draws = twice i } in s) ∙ sym (again_is (schedule_of c.args.self.now) (sym c.below-comes.ensures.is ∙ c.if-comes-ne0.false))
+    (λ i. let s : ScheduleView = record { loss = c.args.self.now.loss; draws = twice i; shifts = c.args.self.now.shifts.items } in s) ∙ sym (again_is (schedule_of c.args.self.now) (sym c.below-comes.ensures.is ∙ c.if-comes-ne0.false))
 
 pub returns-clause-again : goal.returns-clause-again
 returns-clause-again c =
