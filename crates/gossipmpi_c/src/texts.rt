@@ -1,13 +1,12 @@
 //! The lines of all ranks, as text.
 ghost use Rattle.std.specs.Prelude.{◌≡◌, ◌++◌, ◌≤◌, IfOk, OnOk, length, map, string_bytes};
 ghost use Rattle.mpx_meaning.specs.Reports.{transcripts_of};
-ghost use Rattle.mpx_meaning.specs.Transcripts.{rank_text, text_upto};
+ghost use Rattle.mpx_meaning.specs.Transcripts.{text_upto};
 ghost use Rattle.gossipmpi_c.specs.Answers.{lines_at};
 
 use join_core::OutOfMemory;
-use mpx_meaning::Report;
+use mpx_meaning::{Report, push_lines};
 use std::alloc::Global;
-use std::fmt::Write;
 
 /// The lines of the first so many ranks.
 pub(crate) fn text_of(alloc: Global, report: &Report, ranks: u8) -> Result<String, OutOfMemory>
@@ -16,17 +15,7 @@ pub(crate) fn text_of(alloc: Global, report: &Report, ranks: u8) -> Result<Strin
 {
     let mut text = String::new(alloc);
     for p in 0..ranks {
-        push_lines(&mut text, p, report.transcripts[p as usize].as_slice())?;
+        push_lines(&mut text, p, report.ends[p as usize].lines.as_slice())?;
     }
     Ok(text)
-}
-
-// Adds the lines of a rank.
-fn push_lines(text: &mut String, rank: u8, lines: &[String]) -> Result<(), OutOfMemory>
-    ensures { OnOk result (string_bytes text.new ≡ string_bytes text.old ++ rank_text rank (map string_bytes lines.now)) }
-{
-    for line in lines {
-        write!(text, "{rank}: {line}\n")?;
-    }
-    Ok(())
 }

@@ -4,7 +4,6 @@ use Rattle.std.specs.Prelude.{slice_get}
 use Rattle.mpx_num.specs.declared.own.Operation.{Operation}
 use Rattle.mpx_script.specs.ScriptView.{ScriptView}
 use Rattle.mpx_meaning.specs.Evaluation.{statements_of}
-use Rattle.mpx_meaning.specs.Reports.{lines_in}
 use Rattle.mpx_eval.specs.Complaints.{ComplaintView, complaints_at, complaints_in, complaints_upto}
 use Rattle.mpx_eval.specs.Found.{complaints_found}
 use Rattle.mpx_eval.specs.Places.{TableRank}
@@ -26,11 +25,11 @@ place_more at from cons xs i x l is had new e =
     ap (λ ys. ys ++ from (i + 1) rest) e ∙ append_assoc had (at i x) (from (i + 1) rest) ∙ ap (λ ys. had ++ ys) (sym (cons i x rest) ∙ ap (from i) (sym cut))
 
 module _ (ops : List Operation) (script : ScriptView) (rs : List TableRank) (t : Table) (e : AreAtEnd ops script.statements script.ranks rs t) where
-  of_rank : (p : ℕ) → p < script.ranks → complaints_found script.statements p (slice_get rs p) ≡ complaints_at p (statements_of script.statements p) (lines_in e.end p) (e.end p).origins
+  of_rank : (p : ℕ) → p < script.ranks → complaints_found script.statements p (slice_get rs p) ≡ complaints_at p (statements_of script.statements p) (e.end p).lines (e.end p).origins
   of_rank p l =
       let at = there ops script rs t e p l in
       let here = (e.are.each p at.0 at.1).1 in
       ap (complaints_found script.statements p) at.1 ∙ λ i. complaints_at p (at_index script.statements p i) (here.lines i) (here.origins i)
 
   pub complaints_same : complaints_upto (λ p. complaints_found script.statements p (slice_get rs p)) script.ranks ≡ complaints_in script.statements script.ranks e.end
-  complaints_same = upto_same (λ p. complaints_found script.statements p (slice_get rs p)) (λ p. complaints_at p (statements_of script.statements p) (lines_in e.end p) (e.end p).origins) script.ranks of_rank
+  complaints_same = upto_same (λ p. complaints_found script.statements p (slice_get rs p)) (λ p. complaints_at p (statements_of script.statements p) (e.end p).lines (e.end p).origins) script.ranks of_rank

@@ -10,10 +10,14 @@ use Rattle.mpx_statement.specs.declared.statement.Statement.{Statement}
 use Rattle.mpx_script.specs.ScriptView.{ScriptView}
 use Rattle.mpx_meaning.specs.Ranks.{doing}
 use Rattle.mpx_meaning.specs.Evaluation.{IsReached, start_state}
-use Rattle.mpx_meaning.specs.Reports.{is_left, lines_in, which}
+use Rattle.mpx_meaning.specs.Ends.{EndView, end_of, end_view, waiting_among}
+use Rattle.mpx_meaning.specs.Reports.{end_text, is_left, waiting_in}
 use Rattle.mpx_meaning.proofs.Ends.{start_quiet}
-use Rattle.mpx_meaning.proofs.Reports.{which_same}
-use Rattle.mpx_eval.specs.Evaluated.{IsEvaluated}
+use Rattle.mpx_meaning.proofs.Reports.{lines-said, waiting-left}
+use Rattle.mpx_meaning.specs.declared.end.RankEnd.{RankEnd}
+use Rattle.mpx_rank.specs.Places.{end_of_rank}
+use Rattle.mpx_rank.proofs.Ending.{end_stands}
+use Rattle.mpx_eval.specs.Evaluated.{EndSo, IsEvaluated}
 use Rattle.mpx_meaning.specs.Standing.{WaitView, has_statements, todo_of}
 use Rattle.mpx_eval.specs.Places.{TableRank}
 use Rattle.mpx_eval.specs.Rounds.{AreAtEnd, AreIn, Start, StartsAt, is_waiting_at}
@@ -88,15 +92,24 @@ module _ (ops : List Operation) (script : ScriptView) (rs : List TableRank) (t :
       let here = there p l in
       ap is_waiting_at here.1 ∙ sym (ap is_left (e.are.each p here.0 here.1).1.todo ∙ left_waits here.0.waits here.0.todo)
 
-  lines_at : (p : ℕ) (ls : List (List ℕ)) (o : Option TableRank) → slice_get rs p ≡ o → option_map (λ (r : TableRank). r.lines) (slice_get rs p) ≡ Some ls → ls ≡ lines_in e.end p
-  lines_at p ls None f g = cc (f, g)
-  lines_at p ls (Some r) f g = sym (same_Some r.lines ls (sym (ap (option_map (λ (x : TableRank). x.lines)) f) ∙ g)) ∙ (e.are.each p r f).1.lines
+  end_at : (p : ℕ) (v : EndView) (o : Option TableRank) → slice_get rs p ≡ o → option_map end_of_rank (slice_get rs p) ≡ Some v → v ≡ end_of (e.end p)
+  end_at p v None f g = cc (f, g)
+  end_at p v (Some r) f g = sym (same_Some (end_of_rank r) v (sym (ap (option_map end_of_rank) f) ∙ g)) ∙ end_stands r (e.end p) (e.are.each p r f).1
 
-  pub evaluated : (said : List (List (List ℕ))) (waiting : List ℕ) → said ≡ map (λ (r : TableRank). r.lines) rs → waiting ≡ which (λ p. is_waiting_at (slice_get rs p)) script.ranks → IsEvaluated ops script said waiting
-  evaluated said waiting lines waits = record {
+  pub end_so : (ends : List EndView) → ends ≡ map end_of_rank rs → EndSo ops script ends
+  end_so ends is = record {
     end = e.end;
     evaluation = e.evaluation;
-    ranks_are = ap length lines ∙ length-map rs (λ (r : TableRank). r.lines) ∙ e.are.count;
-    lines = λ p ls f. lines_at p ls (slice_get rs p) refl (sym (slice_get-map (λ (r : TableRank). r.lines) rs p) ∙ ap (λ xs. slice_get xs p) (sym lines) ∙ f);
-    waiting_are = waits ∙ which_same (λ p. is_waiting_at (slice_get rs p)) (λ p. is_left (e.end p).todo) script.ranks waits_same;
+    ranks_are = ap length is ∙ length-map rs end_of_rank ∙ e.are.count;
+    each = λ p v f. end_at p v (slice_get rs p) refl (sym (slice_get-map end_of_rank rs p) ∙ ap (λ xs. slice_get xs p) (sym is) ∙ f);
   }
+
+-- a report of such ends
+pub evaluated : (ops : List Operation) (script : ScriptView) (ends : List RankEnd) (waiting : List ℕ) → EndSo ops script (map end_view ends) → waiting ≡ waiting_among (map end_view ends) → IsEvaluated ops script (map end_text ends) waiting
+evaluated ops script ends waiting so waits = record {
+  end = so.end;
+  evaluation = so.evaluation;
+  ranks_are = length-map ends end_text ∙ sym (length-map ends end_view) ∙ so.ranks_are;
+  lines = lines-said ends so.end so.each;
+  waiting_are = waits ∙ waiting-left (map end_view ends) so.end so.each ∙ ap (waiting_in so.end) so.ranks_are;
+}

@@ -1,13 +1,16 @@
 -- Which calls were refused, and which are faults, by the lines of an evaluation's transcripts.
-use Rattle.std.specs.Prelude.{ℕ, zero, suc, ◌-◌, ◌==◌, Bool, false, ◌||◌, cond, List, [], ◌∷◌, ◌++◌, bytes_eq, codes, length, slice_get, Option, Some, None}
-use Rattle.std.specs.List.{flat_map, position_or_len, starts_with, zip}
+use Rattle.std.specs.Prelude.{ℕ, zero, suc, ◌-◌, Bool, true, false, cond, List, [], ◌∷◌, ◌++◌, bytes_eq, length, slice_get, Option, Some, None}
+use Rattle.std.specs.List.{flat_map, position_or_len, zip}
 use Rattle.std.specs.Option.{option_map_or}
 use Rattle.mpx_statement.specs.Statements.{request_of}
 use Rattle.mpx_statement.specs.declared.statement.Statement.{Statement}
 use Rattle.mpx_statement.specs.declared.statement.Statement.TheVariants.{Wait}
+use Rattle.mpx_value.specs.declared.outcomes.Outcome.{Outcome}
+use Rattle.mpx_value.specs.declared.outcomes.Outcome.TheVariants.{Fault}
 use Rattle.mpx_meaning.specs.declared.origin.Origin.{Origin}
 use Rattle.mpx_meaning.specs.Evaluation.{State, statements_of}
-use Rattle.mpx_meaning.specs.Reports.{lines_in}
+use Rattle.mpx_meaning.specs.Ranks.{Line, Refused, StrayRank, Told}
+use Rattle.mpx_meaning.specs.Transcripts.{line_text}
 
 -- a line of a rank's transcript that says so, and the place of the statement of its call among the rank's statements
 pub record ComplaintView : Type 0 where
@@ -15,9 +18,16 @@ pub record ComplaintView : Type 0 where
   pub statement : ℕ
   pub text : List ℕ
 
--- such a line begins with one of two words
-abbrev pub is_complaint : List ℕ → Bool
-is_complaint text = starts_with ◌==◌ text (codes "refused ") || starts_with ◌==◌ text (codes "fault ")
+abbrev pub is_fault : Outcome → Bool
+is_fault (Fault fault) = true
+is_fault outcome = false
+
+-- a refusal, or the outcome of a call that is a fault
+abbrev pub is_complaint : Line → Bool
+is_complaint (Told name call outcome) = is_fault outcome
+is_complaint (Refused refusal) = true
+is_complaint StrayRank = true
+is_complaint line = false
 
 -- THE STATEMENT OF A LINE'S CALL
 
@@ -36,11 +46,11 @@ call_at statements origin = call_of_line statements (length statements - origin.
 -- COMPLAINTS
 
 -- the line, where it is one
-abbrev pub complaint_in : (rank : ℕ) → List Statement → List ℕ × Origin → List ComplaintView
-complaint_in rank statements line = cond (is_complaint line.0) (record { rank = rank; statement = call_at statements line.1; text = line.0 } ∷ []) []
+abbrev pub complaint_in : (rank : ℕ) → List Statement → Line × Origin → List ComplaintView
+complaint_in rank statements line = cond (is_complaint line.0) (record { rank = rank; statement = call_at statements line.1; text = line_text line.0 } ∷ []) []
 
 -- those among a rank's lines, in their order
-abbrev pub complaints_at : (rank : ℕ) → List Statement → (lines : List (List ℕ)) → List Origin → List ComplaintView
+abbrev pub complaints_at : (rank : ℕ) → List Statement → List Line → List Origin → List ComplaintView
 complaints_at rank statements lines origins = flat_map (complaint_in rank statements) (zip lines origins)
 
 -- those of the first so many ranks, rank by rank
@@ -50,4 +60,4 @@ complaints_upto complaints (suc n) = complaints_upto complaints n ++ complaints 
 
 -- all where the ranks stand so
 abbrev pub complaints_in : List (List Statement) → (ranks : ℕ) → State → List ComplaintView
-complaints_in script ranks s = complaints_upto (λ p. flat_map (complaint_in p (statements_of script p)) (zip (lines_in s p) (s p).origins)) ranks
+complaints_in script ranks s = complaints_upto (λ p. flat_map (complaint_in p (statements_of script p)) (zip (s p).lines (s p).origins)) ranks

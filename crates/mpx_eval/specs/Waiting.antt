@@ -11,6 +11,7 @@ use Rattle.mpx_statement.specs.Lookups.{named}
 use Rattle.mpx_meaning.specs.Ranks.{Todo, Do, Await, Local, Next, End, Asks}
 use Rattle.mpx_meaning.specs.Standing.{closed}
 use Rattle.mpx_meaning.specs.Evaluation.{State, history, known, statements_of}
+pub use Rattle.mpx_meaning.specs.Ends.{Asked, asked, asked_at, asked_by, asked_of, asked_then}
 use Rattle.mpx_meaning.specs.Reports.{waiting_in}
 use Rattle.mpx_eval.specs.declared.missing.MissingMember.{MissingMember}
 
@@ -29,34 +30,6 @@ pub record WaitingView : Type 0 where
   pub calls : List MissingCallView
 
 -- WHICH CALLS ARE ASKED FOR
-
--- the word of a request, where a wait names it, and the call
-abbrev pub Asked : Type 0
-Asked = Option (List ℕ) × (Name × ℕ)
-
-abbrev pub asked_then : List ℕ → Option (Name × ℕ) → List Asked → List Asked
-asked_then word None rest = rest
-asked_then word (Some place) rest = (Some word, place) ∷ rest
-
--- by a wait for these words: the calls of the open requests, each once
-abbrev pub asked_by : (List ℕ → Option (Name × ℕ)) → List (List ℕ) → List Asked
-asked_by requests [] = []
-asked_by requests (word ∷ words) = asked_then word (requests word) (asked_by (closed word requests) words)
-
--- by a statement that is next
-abbrev pub asked_at : (List ℕ → Option (Name × ℕ)) → Statement → List Asked
-asked_at requests (Post posting) = []
-asked_at requests (Wait words) = asked_by requests words
-asked_at requests (Ask question) = []
-
-abbrev pub asked_of : (List ℕ → Option (Name × ℕ)) → List Todo → List Asked
-asked_of requests [] = []
-asked_of requests (Do statement ∷ rest) = asked_at requests statement
-asked_of requests (Await name call target ∷ rest) = (None, (name, call)) ∷ []
-
--- by the next move of a rank
-abbrev pub asked : Local → List Asked
-asked s = asked_of (named s.requests) s.todo
 
 -- the calls that a rank's next move asks for
 abbrev pub calls_of : Next → List (Name × ℕ)

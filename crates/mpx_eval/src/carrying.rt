@@ -6,11 +6,11 @@ use crate::table::Table;
 use join_core::OutOfMemory;
 use mpx_birth::Birth;
 use mpx_group::Proc;
-use mpx_meaning::line;
+use mpx_meaning::Line;
 use mpx_name::Name;
 use mpx_num::Ops;
 use mpx_post::PostError;
-use mpx_rank::{Carrier, Heard};
+use mpx_rank::{Answered, Carrier, Heard};
 use mpx_statement::Posting;
 use std::alloc::Global;
 
@@ -24,6 +24,10 @@ impl Carrier for Table {
     ghost place = { at_place };
 
     ghost terms = { table_terms };
+
+    fn into_place(call: (Name, u32)) -> (Name, u32) {
+        call
+    }
 
     fn post(
         &mut self,
@@ -61,10 +65,16 @@ impl Carrier for Table {
         let Some(answered) = self.answer(alloc, me, &call.0, call.1, ops)? else {
             return Ok(Heard::NotYet(call));
         };
-        drop(call);
-        let text = line(alloc, &answered.outcome)?;
         let given = answered.given(alloc)?;
-        Ok(Heard::Told { text, given })
+        let Answered { outcome, born } = answered;
+        drop(born);
+        let (name, call) = call;
+        let line = Line::Told {
+            name,
+            call,
+            outcome,
+        };
+        Ok(Heard::Told { line, given })
     }
 
     fn known<'m>(

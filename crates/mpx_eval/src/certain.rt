@@ -9,7 +9,7 @@ use crate::complaints::Complaint;
 use join_core::OutOfMemory;
 use mpx_birth::Birth;
 use mpx_group::Proc;
-use mpx_meaning::refused_line;
+use mpx_meaning::Line;
 use mpx_name::Name;
 use mpx_num::{Listing, Ops};
 use mpx_post::{At, Draft, PostError};
@@ -91,7 +91,7 @@ fn push_at(
     let Some(refusal) = statement_refused(alloc, ranks, rank, statement, world, ops) else {
         return Ok(());
     };
-    let text = refused_line(alloc, refusal)?;
+    let text = Line::Refused(refusal).text(alloc)?;
     found.push(Complaint {
         rank,
         statement: place,

@@ -1,16 +1,17 @@
 //! The lines of ranks that say that a call was refused or is a fault, and the statements of these calls.
-ghost use Rattle.std.specs.Prelude.{◌≡◌, ◌≤◌, ◌++◌, IfOk, OnOk, Some, bytes_eq, false, length, map, slice_get, string_bytes};
+ghost use Rattle.std.specs.Prelude.{◌≡◌, ◌≤◌, ◌++◌, IfOk, OnOk, Some, bytes_eq, false, length, map, slice_get};
 ghost use Rattle.std.specs.Option.{option_map_or};
 ghost use Rattle.mpx_statement.specs.Statements.{request_of};
 ghost use Rattle.mpx_eval.specs.Carrying.{shown};
-ghost use Rattle.mpx_eval.specs.Complaints.{call_at, complaint_in, complaints_at, complaints_upto, is_complaint, started_at};
+ghost use Rattle.mpx_eval.specs.Complaints.{call_at, complaint_in, complaints_at, complaints_upto, is_complaint, is_fault, started_at};
 ghost use Rattle.mpx_eval.specs.Found.{complaint_view, complaints_found};
 
 use crate::table::Table;
 use join_core::OutOfMemory;
-use mpx_meaning::Origin;
+use mpx_meaning::{Line, Origin};
 use mpx_rank::Interpreter;
 use mpx_script::{Script, Statement};
+use mpx_value::Outcome;
 use std::alloc::Global;
 
 /// A line of a rank's transcript that says that a call was refused, or that it is a fault.
@@ -66,11 +67,11 @@ fn push_complaints(
     alloc: Global,
     rank: u8,
     statements: &[Statement],
-    lines: &[String],
+    lines: &[Line],
     origins: &[Origin],
     found: &mut Vec<Complaint>,
 ) -> Result<(), OutOfMemory>
-    ensures { OnOk result (map complaint_view found.new.items ≡ map complaint_view found.old.items ++ complaints_at rank statements.now (map string_bytes lines.now) origins.now) }
+    ensures { OnOk result (map complaint_view found.new.items ≡ map complaint_view found.old.items ++ complaints_at rank statements.now lines.now origins.now) }
 {
     let mut rest = origins;
     for line in lines {
@@ -88,17 +89,17 @@ fn push_complaint(
     alloc: Global,
     rank: u8,
     statements: &[Statement],
-    line: &String,
+    line: &Line,
     origin: Origin,
     found: &mut Vec<Complaint>,
 ) -> Result<(), OutOfMemory>
-    ensures { OnOk result (map complaint_view found.new.items ≡ map complaint_view found.old.items ++ complaint_in rank statements.now (string_bytes line.now, origin)) }
+    ensures { OnOk result (map complaint_view found.new.items ≡ map complaint_view found.old.items ++ complaint_in rank statements.now (line.now, origin)) }
 {
-    if !is_complaint(line.as_bytes()) {
+    if !is_complaint(line) {
         return Ok(());
     }
     let statement = call_at(statements, origin);
-    let text = String::from_str(alloc, line.as_str())?;
+    let text = line.text(alloc)?;
     found.push(Complaint {
         rank,
         statement,
@@ -108,10 +109,32 @@ fn push_complaint(
 }
 
 // Whether a line says that a call was refused, or that it is a fault.
-fn is_complaint(line: &[u8]) -> bool
+fn is_complaint(line: &Line) -> bool
     ensures { result ≡ is_complaint line.now }
 {
-    line.starts_with(b"refused ") || line.starts_with(b"fault ")
+    match line {
+        Line::Told { outcome, .. } => is_fault(outcome),
+        Line::Refused(_) => true,
+        Line::StrayRank => true,
+        Line::Idle => false,
+        Line::Near { .. } => false,
+        Line::Compared(_) => false,
+        Line::Translated(_) => false,
+    }
+}
+
+// Whether an outcome is a fault.
+fn is_fault(outcome: &Outcome) -> bool
+    ensures { result ≡ is_fault outcome.now }
+{
+    match outcome {
+        Outcome::Fault(_) => true,
+        Outcome::Nothing => false,
+        Outcome::Absent => false,
+        Outcome::Items(_) => false,
+        Outcome::NewComm { .. } => false,
+        Outcome::Null => false,
+    }
 }
 
 // The place of the statement of the call that a line tells of.

@@ -1,11 +1,11 @@
 //! The evaluation of a script.
-ghost use Rattle.std.specs.Prelude.{◌≡◌, ◌<◌, ◌≤◌, ℕ, IfOk, List, None, length, map, slice_get};
+ghost use Rattle.std.specs.Prelude.{◌≡◌, ◌<◌, ◌≤◌, ℕ, IfOk, List, None, map};
 ghost use Rattle.mpx_name.specs.Name.{Name as NameView};
-ghost use Rattle.mpx_meaning.specs.Reports.{transcripts_of, which};
-ghost use Rattle.mpx_meaning.specs.Transcripts.{as_text};
-ghost use Rattle.mpx_eval.specs.Evaluated.{IsEvaluated};
-ghost use Rattle.mpx_eval.specs.Places.{TableRank};
-ghost use Rattle.mpx_eval.specs.Rounds.{Start, StartsAt, is_waiting_at};
+ghost use Rattle.mpx_meaning.specs.Ends.{end_view};
+ghost use Rattle.mpx_meaning.specs.Reports.{transcripts_of};
+ghost use Rattle.mpx_rank.specs.Places.{end_of_rank};
+ghost use Rattle.mpx_eval.specs.Evaluated.{EndSo, IsEvaluated};
+ghost use Rattle.mpx_eval.specs.Rounds.{Start, StartsAt};
 ghost use Rattle.mpx_eval.specs.Carrying.{shown};
 
 use crate::rounds::rounds;
@@ -13,10 +13,10 @@ use crate::table::Table;
 use join_core::OutOfMemory;
 use mpx_birth::Birth;
 use mpx_group::Proc;
-use mpx_meaning::Report;
+use mpx_meaning::{RankEnd, Report};
 use mpx_name::Name;
 use mpx_num::{Listing, Ops};
-use mpx_rank::{Interpreter, push_where};
+use mpx_rank::Interpreter;
 use mpx_script::Script;
 use std::alloc::Global;
 
@@ -24,8 +24,20 @@ use std::alloc::Global;
 /// ends with a round that moves nobody. `ops` are the job's own operations: the script was read with the same. An `Err` is want of
 /// memory.
 pub fn eval(alloc: Global, script: &Script, ops: &Ops) -> Result<Report, OutOfMemory>
-    ensures { IfOk result (λ report. IsEvaluated (⟦<Ops as Listing>⟧.operations ops.now) script.now (transcripts_of report) report.waiting.items) }
+    ensures lines { IfOk result (λ report. IsEvaluated (⟦<Ops as Listing>⟧.operations ops.now) script.now (transcripts_of report) report.waiting.items) }
+    ensures ends { IfOk result (λ report. EndSo (⟦<Ops as Listing>⟧.operations ops.now) script.now (map end_view report.ends.items)) }
 {
+    let _ = script.ranks();
+    let ends = evaluate(alloc, script, ops)?;
+    let report = Report::of(alloc, ends)?;
+    Ok(report)
+}
+
+// How each rank ends.
+fn evaluate(alloc: Global, script: &Script, ops: &Ops) -> Result<Vec<RankEnd>, OutOfMemory>
+    ensures { IfOk result (λ ends. EndSo (⟦<Ops as Listing>⟧.operations ops.now) script.now (map end_view ends.items)) }
+{
+    let _ = script.ranks();
     let mut ranks = start(alloc, script)?;
     let mut table = Table::new(alloc);
     match rounds(alloc, &mut ranks, &mut table, ops) {
@@ -36,18 +48,7 @@ pub fn eval(alloc: Global, script: &Script, ops: &Ops) -> Result<Report, OutOfMe
             return Err(e);
         }
     }
-    let waiting = match waiting_of(alloc, ranks.as_slice(), script.ranks()) {
-        Ok(waiting) => waiting,
-        Err(e) => {
-            drop(ranks);
-            return Err(e);
-        }
-    };
-    let transcripts = lines_of(alloc, ranks)?;
-    Ok(Report {
-        transcripts,
-        waiting,
-    })
+    ends_of(alloc, ranks)
 }
 
 /// The ranks before their statements.
@@ -80,32 +81,13 @@ fn start_at<'a>(
     Interpreter::new(alloc, Proc::new(me), Some(world), script.statements(me))
 }
 
-// The ranks that have something left, in rising order.
-fn waiting_of(
-    alloc: Global,
-    places: &[Interpreter<'_, Table>],
-    ranks: u8,
-) -> Result<Vec<u8>, OutOfMemory>
-    requires { ranks ≤ length places.now }
-    ensures { IfOk result (λ waiting. waiting.items ≡ which (λ p. is_waiting_at (slice_get (map shown places.now) p)) ranks) }
+// How each rank ends.
+fn ends_of(alloc: Global, places: Vec<Interpreter<'_, Table>>) -> Result<Vec<RankEnd>, OutOfMemory>
+    ensures { IfOk result (λ ends. map end_view ends.items ≡ map end_of_rank (map shown places.entry.items)) }
 {
-    let mut waiting = Vec::new(alloc);
-    for p in 0..ranks {
-        push_where(&mut waiting, p, places[p as usize].is_waiting())?;
-    }
-    Ok(waiting)
-}
-
-// The lines of each rank.
-fn lines_of(
-    alloc: Global,
-    places: Vec<Interpreter<'_, Table>>,
-) -> Result<Vec<Vec<String>>, OutOfMemory>
-    ensures { IfOk result (λ transcripts. map as_text transcripts.items ≡ map (λ (r : TableRank). r.lines) (map shown places.entry.items)) }
-{
-    let mut transcripts = Vec::new(alloc);
+    let mut ends = Vec::new(alloc);
     for place in places {
-        transcripts.push(place.into_lines())?;
+        ends.push(place.into_end(alloc)?)?;
     }
-    Ok(transcripts)
+    Ok(ends)
 }

@@ -11,12 +11,12 @@ ghost use Rattle.mpx_eval.specs.Unheard.{answer_at, fault_line, fault_of, unhear
 
 use crate::complaints::Complaint;
 use crate::table::Table;
-use join_core::OutOfMemory;
+use join_core::{Exact, OutOfMemory};
 use mpx_group::Proc;
-use mpx_meaning::line;
+use mpx_meaning::Line;
 use mpx_name::Name;
 use mpx_num::{Listing, Ops};
-use mpx_rank::Interpreter;
+use mpx_rank::{Answered, Interpreter};
 use mpx_script::Script;
 use mpx_statement::{Statement, Word};
 use mpx_value::Outcome;
@@ -149,7 +149,11 @@ fn fault_at(
         return Ok(None);
     };
     match table.answer(alloc, me, name, *call, ops)? {
-        Some(answered) => fault_line(alloc, &answered.outcome),
+        Some(answered) => {
+            let Answered { outcome, born } = answered;
+            drop(born);
+            fault_line(alloc, name, *call, outcome)
+        }
         None => Ok(None),
     }
 }
@@ -168,15 +172,22 @@ fn open_call<'m>(
 }
 
 // The line that would tell an outcome, where it is a fault.
-fn fault_line(alloc: Global, outcome: &Outcome) -> Result<Option<String>, OutOfMemory>
-    ensures { IfOk result (λ text. option_map string_bytes text ≡ fault_line outcome.now) }
+fn fault_line(
+    alloc: Global,
+    name: &Name,
+    call: u32,
+    outcome: Outcome,
+) -> Result<Option<String>, OutOfMemory>
+    ensures { IfOk result (λ text. option_map string_bytes text ≡ fault_line outcome) }
 {
-    match outcome {
-        Outcome::Fault(_) => Ok(Some(line(alloc, outcome)?)),
-        Outcome::Nothing => Ok(None),
-        Outcome::Absent => Ok(None),
-        Outcome::Items(_) => Ok(None),
-        Outcome::NewComm { .. } => Ok(None),
-        Outcome::Null => Ok(None),
-    }
+    let Outcome::Fault(_) = outcome else {
+        return Ok(None);
+    };
+    let name = name.copy(alloc)?;
+    let line = Line::Told {
+        name,
+        call,
+        outcome,
+    };
+    Ok(Some(line.text(alloc)?))
 }

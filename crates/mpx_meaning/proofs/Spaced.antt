@@ -5,8 +5,8 @@ use Rattle.mpx_meaning.specs.Transcripts.{listed, spaced}
 
 module _ {A : Type 0} (text : A → List ℕ) where
   -- before the first of them
-  pub spaced_first : (all rest : List A) (first : A) (had : List ℕ) → all ≡ first ∷ rest → had ≡ text first → had ++ spaced text (drop 0 rest) ≡ listed text all
-  spaced_first all rest first had is written = ap (λ t. t ++ spaced text rest) written ∙ sym (ap (listed text) is)
+  pub spaced_first : (all rest : List A) (first : A) (before had : List ℕ) → all ≡ first ∷ rest → had ≡ before ++ text first → had ++ spaced text (drop 0 rest) ≡ before ++ listed text all
+  spaced_first all rest first before had is written = ap (λ t. t ++ spaced text rest) written ∙ append_assoc before (text first) (spaced text rest) ∙ ap (λ xs. before ++ listed text xs) (sym is)
 
   -- behind one more of them
   pub spaced_more : (xs : List A) (i : ℕ) (x : A) (had more whole : List ℕ) → i < length xs → x ≡ get_or xs i x → had ++ spaced text (drop i xs) ≡ whole → more ≡ had ++ 32 ∷ text x → more ++ spaced text (drop (i + 1) xs) ≡ whole

@@ -5,3 +5,4 @@ pub mod Going
 pub mod Told
 pub mod Transcripts
 pub mod Reports
+pub mod Ends

@@ -35,21 +35,14 @@ use Rattle.mpx_statement.specs.declared.statement.Statement.TheVariants.{Post, W
 use Rattle.mpx_meaning.specs.declared.asking.Found.{Found}
 use Rattle.mpx_meaning.specs.declared.asking.Found.TheVariants as W
 use Rattle.mpx_meaning.specs.declared.asking.Relation.{Relation}
+-- a line of a transcript: what a call of a context gave, why a post was refused, that a request is not open (any more),
+-- neighbours, with weights or without, how two communicators compare, ranks, or that one is out of range
+pub use Rattle.mpx_meaning.specs.declared.line.Line.{Line}
+pub use Rattle.mpx_meaning.specs.declared.line.Line.TheVariants.{Told, Refused, Idle, Near, Compared, Translated, StrayRank}
 use Rattle.mpx_meaning.specs.declared.origin.Origin.{Origin}
 use Rattle.mpx_meaning.specs.declared.asking.Relation.TheVariants.{Ident, Congruent, Similar, Unequal}
 use Rattle.mpx_statement.specs.Statements.{Gathers, bound_to, draft_of, gathers_of, communicator_word, started_as}
 use Rattle.mpx_statement.specs.Lookups.{below, named}
-
--- a line of a transcript: what a call of a context gave, why a post was refused, that a request is not open (any more),
--- neighbours, with weights or without, how two communicators compare, ranks, or that one is out of range
-pub data Line : Type 0 where
-  Told : Name → (call : ℕ) → Outcome → Line
-  Refused : PostError → Line
-  Idle : Line
-  Near : (weighted : Bool) → List Neighbour → Line
-  Compared : Relation → Line
-  Translated : List Rank → Line
-  StrayRank : Line
 
 -- what a word is bound to: a communicator with its birth, or the null communicator
 pub data Bound : Type 0 where

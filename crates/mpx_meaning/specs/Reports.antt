@@ -2,12 +2,17 @@
 use Rattle.std.specs.Prelude.{ℕ, zero, suc, Bool, true, false, cond, List, [], ◌∷◌, ◌++◌, map}
 use Rattle.mpx_meaning.specs.Ranks.{Todo}
 use Rattle.mpx_meaning.specs.Evaluation.{State}
-use Rattle.mpx_meaning.specs.Transcripts.{as_text, line_text}
+use Rattle.mpx_meaning.specs.Transcripts.{line_text}
+use Rattle.mpx_meaning.specs.declared.end.RankEnd.{RankEnd}
 use Rattle.mpx_meaning.specs.declared.report.Report.{Report}
+
+-- the lines of a rank's end
+abbrev pub end_text : RankEnd → List (List ℕ)
+end_text e = map line_text e.lines.items
 
 -- the lines of each rank
 abbrev pub transcripts_of : Report → List (List (List ℕ))
-transcripts_of r = map as_text r.transcripts.items
+transcripts_of r = map end_text r.ends.items
 
 -- those numbers below n for which the test holds
 abbrev pub which : (ℕ → Bool) → ℕ → List ℕ

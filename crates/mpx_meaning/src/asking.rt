@@ -1,16 +1,13 @@
-//! Questions that are answered at once: the text of their lines, by how communicators came to be.
-ghost use Rattle.std.specs.Prelude.{◌≡◌, IfOk, length, string_bytes};
+//! Questions that are answered at once: their lines, by how communicators came to be.
+ghost use Rattle.std.specs.Prelude.{◌≡◌, IfOk, length};
 ghost use Rattle.std.specs.Option.{option_map};
 ghost use Rattle.mpx_group.specs.Group.{comparison_of};
 ghost use Rattle.mpx_name.specs.Name.{same_name};
 ghost use Rattle.mpx_birth.specs.Births.{rank_in};
 ghost use Rattle.mpx_post.specs.Rows.{all_of};
 ghost use Rattle.mpx_meaning.specs.Ranks.{Compared, comparison_in, found_map, line_of, line_of_two, neighbours_at, neighbours_in, rank_asked, relation_of, told_to, translated_told, translation_in};
-ghost use Rattle.mpx_meaning.specs.Transcripts.{line_text};
 
-use crate::transcript::{
-    neighbours_line, ranks_line, refused_line, relation_line, stray_rank_line,
-};
+use crate::line::{Line, NeighbourList, TranslatedRanks};
 use join_core::OutOfMemory;
 use mpx_birth::{Birth, Neighbour, Topology};
 use mpx_graph::{destinations, sources};
@@ -52,28 +49,31 @@ pub fn neighbours_answer(
     me: Proc,
     side: Side,
     communicator: Found<(&Name, &Birth)>,
-) -> Result<String, OutOfMemory>
-    ensures { IfOk result (λ text. string_bytes text ≡ line_text (line_of (neighbours_in me side) (found_map (λ c. (c.0.now, c.1.now)) communicator.entry))) }
+) -> Result<Line, OutOfMemory>
+    ensures { IfOk result (λ line. line ≡ line_of (neighbours_in me side) (found_map (λ c. (c.0.now, c.1.now)) communicator.entry)) }
 {
     match communicator {
-        Found::Null => refused_line(alloc, PostError::NotMember),
-        Found::Freed => refused_line(alloc, PostError::Closed),
+        Found::Null => Ok(Line::Refused(PostError::NotMember)),
+        Found::Freed => Ok(Line::Refused(PostError::Closed)),
         Found::Open((_name, birth)) => own_neighbours(alloc, me, side, birth),
     }
 }
 
 // The line of the own neighbours on this side, in a communicator with this birth.
-fn own_neighbours(alloc: Global, me: Proc, side: Side, birth: &Birth) -> Result<String, OutOfMemory>
-    ensures { IfOk result (λ text. string_bytes text ≡ line_text (told_to side birth.now (rank_in me birth.now.members))) }
+fn own_neighbours(alloc: Global, me: Proc, side: Side, birth: &Birth) -> Result<Line, OutOfMemory>
+    ensures { IfOk result (λ line. line ≡ told_to side birth.now (rank_in me birth.now.members)) }
 {
     let Some(rank) = birth.rank_of(me) else {
-        return refused_line(alloc, PostError::NotMember);
+        return Ok(Line::Refused(PostError::NotMember));
     };
     let Some(topology) = birth.topology() else {
-        return refused_line(alloc, PostError::NoTopology);
+        return Ok(Line::Refused(PostError::NoTopology));
     };
-    let own = neighbours(topology, rank, side);
-    neighbours_line(alloc, topology.weighted(), own)
+    let own = Vec::from_slice(alloc, neighbours(topology, rank, side))?;
+    Ok(Line::Near {
+        weighted: topology.weighted(),
+        neighbours: NeighbourList::new(own),
+    })
 }
 
 // The neighbours of a rank on one side.
@@ -92,20 +92,20 @@ pub fn comparison_answer(
     alloc: Global,
     first: Found<(&Name, &Birth)>,
     second: Found<(&Name, &Birth)>,
-) -> Result<String, OutOfMemory>
-    ensures { IfOk result (λ text. string_bytes text
-        ≡ line_text (line_of_two comparison_in (found_map (λ c. (c.0.now, c.1.now)) first.entry) (found_map (λ c. (c.0.now, c.1.now)) second.entry))) }
+) -> Result<Line, OutOfMemory>
+    ensures { IfOk result (λ line. line
+        ≡ line_of_two comparison_in (found_map (λ c. (c.0.now, c.1.now)) first.entry) (found_map (λ c. (c.0.now, c.1.now)) second.entry)) }
 {
     match first {
-        Found::Null => refused_line(alloc, PostError::NotMember),
+        Found::Null => Ok(Line::Refused(PostError::NotMember)),
         Found::Freed => match second {
-            Found::Null => refused_line(alloc, PostError::NotMember),
-            Found::Freed => refused_line(alloc, PostError::Closed),
-            Found::Open(_) => refused_line(alloc, PostError::Closed),
+            Found::Null => Ok(Line::Refused(PostError::NotMember)),
+            Found::Freed => Ok(Line::Refused(PostError::Closed)),
+            Found::Open(_) => Ok(Line::Refused(PostError::Closed)),
         },
         Found::Open((name, birth)) => match second {
-            Found::Null => refused_line(alloc, PostError::NotMember),
-            Found::Freed => refused_line(alloc, PostError::Closed),
+            Found::Null => Ok(Line::Refused(PostError::NotMember)),
+            Found::Freed => Ok(Line::Refused(PostError::Closed)),
             Found::Open((other_name, other)) => {
                 comparison_line(alloc, name, birth, other_name, other)
             }
@@ -120,12 +120,12 @@ fn comparison_line(
     birth: &Birth,
     other_name: &Name,
     other: &Birth,
-) -> Result<String, OutOfMemory>
-    ensures { IfOk result (λ text. string_bytes text
-        ≡ line_text (Compared (relation_of (same_name name.now other_name.now) (comparison_of birth.now.members other.now.members)))) }
+) -> Result<Line, OutOfMemory>
+    ensures { IfOk result (λ line. line
+        ≡ Compared (relation_of (same_name name.now other_name.now) (comparison_of birth.now.members other.now.members))) }
 {
     let groups = group_of(alloc, birth)?.compare(&group_of(alloc, other)?);
-    relation_line(alloc, relation_by(name == other_name, groups))
+    Ok(Line::Compared(relation_by(name == other_name, groups)))
 }
 
 // How communicators compare, by whether their contexts are the same, and by their groups.
@@ -152,20 +152,20 @@ pub fn translation_answer(
     ranks: &[Option<i128>],
     from: Found<(&Name, &Birth)>,
     to: Found<(&Name, &Birth)>,
-) -> Result<String, OutOfMemory>
-    ensures { IfOk result (λ text. string_bytes text
-        ≡ line_text (line_of_two (translation_in ranks.now) (found_map (λ c. (c.0.now, c.1.now)) from.entry) (found_map (λ c. (c.0.now, c.1.now)) to.entry))) }
+) -> Result<Line, OutOfMemory>
+    ensures { IfOk result (λ line. line
+        ≡ line_of_two (translation_in ranks.now) (found_map (λ c. (c.0.now, c.1.now)) from.entry) (found_map (λ c. (c.0.now, c.1.now)) to.entry)) }
 {
     match from {
-        Found::Null => refused_line(alloc, PostError::NotMember),
+        Found::Null => Ok(Line::Refused(PostError::NotMember)),
         Found::Freed => match to {
-            Found::Null => refused_line(alloc, PostError::NotMember),
-            Found::Freed => refused_line(alloc, PostError::Closed),
-            Found::Open(_) => refused_line(alloc, PostError::Closed),
+            Found::Null => Ok(Line::Refused(PostError::NotMember)),
+            Found::Freed => Ok(Line::Refused(PostError::Closed)),
+            Found::Open(_) => Ok(Line::Refused(PostError::Closed)),
         },
         Found::Open((_name, from)) => match to {
-            Found::Null => refused_line(alloc, PostError::NotMember),
-            Found::Freed => refused_line(alloc, PostError::Closed),
+            Found::Null => Ok(Line::Refused(PostError::NotMember)),
+            Found::Freed => Ok(Line::Refused(PostError::Closed)),
             Found::Open((_name, to)) => translation_between(alloc, ranks, from, to),
         },
     }
@@ -177,8 +177,8 @@ fn translation_between(
     ranks: &[Option<i128>],
     from: &Birth,
     to: &Birth,
-) -> Result<String, OutOfMemory>
-    ensures { IfOk result (λ text. string_bytes text ≡ line_text (translated_told from.now.members to.now.members (all_of (rank_asked (length from.now.members)) ranks.now))) }
+) -> Result<Line, OutOfMemory>
+    ensures { IfOk result (λ line. line ≡ translated_told from.now.members to.now.members (all_of (rank_asked (length from.now.members)) ranks.now)) }
 {
     translation_line(alloc, ranks, &group_of(alloc, from)?, &group_of(alloc, to)?)
 }
@@ -189,13 +189,14 @@ fn translation_line(
     ranks: &[Option<i128>],
     from: &Group,
     to: &Group,
-) -> Result<String, OutOfMemory>
-    ensures { IfOk result (λ text. string_bytes text ≡ line_text (translated_told from.now to.now (all_of (rank_asked (length from.now)) ranks.now))) }
+) -> Result<Line, OutOfMemory>
+    ensures { IfOk result (λ line. line ≡ translated_told from.now to.now (all_of (rank_asked (length from.now)) ranks.now)) }
 {
     let Some(asked) = ranks_asked(alloc, from.size(), ranks)? else {
-        return stray_rank_line(alloc);
+        return Ok(Line::StrayRank);
     };
-    ranks_line(alloc, &from.translate(alloc, &asked, to)?)
+    let translated = from.translate(alloc, &asked, to)?;
+    Ok(Line::Translated(TranslatedRanks::new(translated)))
 }
 
 // The ranks of a communicator of this size that are asked for, or None where one is out of range.

@@ -1,81 +1,110 @@
 //! The text of a line of a transcript.
-ghost use Rattle.std.specs.Prelude.{◌≡◌, ◌++◌, ◌∷◌, IfOk, OnOk, pos, codes, string_bytes};
+ghost use Rattle.std.specs.Prelude.{◌≡◌, ◌++◌, ◌∷◌, [], IfOk, OnOk, map, pos, codes, string_bytes};
 ghost use Rattle.mpx_num.specs.Text.{number_text};
-ghost use Rattle.mpx_meaning.specs.Ranks.{Compared, Idle, Near, Refused, StrayRank, Translated};
-ghost use Rattle.mpx_meaning.specs.Transcripts.{fault_name, line_text, listed, neighbour_text, outcome_text, relation_text, translated_text};
+ghost use Rattle.mpx_meaning.specs.Transcripts.{fault_name, line_text, listed, neighbour_text, outcome_text, rank_text, relation_text, translated_text};
 
 use crate::asking::Relation;
+use crate::line::Line;
 use join_core::OutOfMemory;
 use mpx_birth::Neighbour;
 use mpx_group::Rank;
 use mpx_num::push_number;
-use mpx_post::PostError;
 use mpx_value::{FaultKind, Outcome};
 use std::alloc::Global;
 
-// So many bytes a number has room for from the first, with the space before it: most have fewer, and a line grows where that isn't so.
-const ROOM: usize = 8;
+impl Line {
+    /// The text of the line.
+    pub fn text(&self, alloc: Global) -> Result<String, OutOfMemory>
+        ensures { IfOk result (λ text. string_bytes text ≡ line_text self.now) }
+    {
+        let mut text = String::new(alloc);
+        self.push_to(&mut text)?;
+        Ok(text)
+    }
 
-/// The line of a transcript that tells an outcome: the numbers with one space between them, `empty` where there are
-/// none, `ok` where the call gives nothing, `none` where there is nothing to give, `comm SIZE RANK` of
-/// a new communicator, `null` where the rank gets none, or `fault NAME at RANK`.
-pub fn line(alloc: Global, outcome: &Outcome) -> Result<String, OutOfMemory>
-    ensures { IfOk result (λ text. string_bytes text ≡ outcome_text outcome.now) }
+    /// Appends the text of the line. An outcome is its numbers with one space between them, `empty` where there are none, `ok`
+    /// where the call gives nothing, `none` where there is nothing to give, `comm SIZE RANK` of a new communicator, `null` where
+    /// the rank gets none, or `fault NAME at RANK`. A refusal is `refused NAME`, a request that isn't open `idle`. Neighbours are
+    /// their ranks, or with weights `RANK:WEIGHT`, and ranks numbers, `null` or `undefined`, with one space between them.
+    pub fn push_to(&self, text: &mut String) -> Result<(), OutOfMemory>
+        ensures { OnOk result (string_bytes text.new ≡ string_bytes text.old ++ line_text self.now) }
+    {
+        match self {
+            Line::Told { outcome, .. } => push_outcome(text, outcome),
+            Line::Refused(refusal) => push_refusal(text, refusal.name()),
+            Line::Idle => push_word(text, "idle"),
+            Line::Near {
+                weighted,
+                neighbours,
+            } => push_neighbours(text, *weighted, neighbours.as_slice()),
+            Line::Compared(relation) => push_word(text, name_of_relation(*relation)),
+            Line::Translated(ranks) => push_ranks(text, ranks.as_slice()),
+            Line::StrayRank => push_refusal(text, "RankOutOfRange"),
+        }
+    }
+}
+
+/// Appends the lines of a rank, each as `RANK: LINE`.
+pub fn push_lines(text: &mut String, rank: u8, lines: &[Line]) -> Result<(), OutOfMemory>
+    ensures { OnOk result (string_bytes text.new ≡ string_bytes text.old ++ rank_text rank (map line_text lines.now)) }
+{
+    for line in lines {
+        push_line(text, rank, line)?;
+    }
+    Ok(())
+}
+
+// Appends a line of a rank.
+fn push_line(text: &mut String, rank: u8, line: &Line) -> Result<(), OutOfMemory>
+    ensures { OnOk result (string_bytes text.new ≡ string_bytes text.old ++ rank_text rank (line_text line.now ∷ [])) }
+{
+    write!(text, "{rank}: ")?;
+    line.push_to(text)?;
+    text.push_str("\n")?;
+    Ok(())
+}
+
+fn push_word(text: &mut String, word: &str) -> Result<(), OutOfMemory>
+    ensures { OnOk result (string_bytes text.new ≡ string_bytes text.old ++ word.now) }
+{
+    text.push_str(word)?;
+    Ok(())
+}
+
+fn push_refusal(text: &mut String, name: &str) -> Result<(), OutOfMemory>
+    ensures { OnOk result (string_bytes text.new ≡ string_bytes text.old ++ (codes "refused " ++ name.now)) }
+{
+    text.push_str("refused ")?;
+    text.push_str(name)?;
+    Ok(())
+}
+
+// Appends an outcome.
+fn push_outcome(text: &mut String, outcome: &Outcome) -> Result<(), OutOfMemory>
+    ensures { OnOk result (string_bytes text.new ≡ string_bytes text.old ++ outcome_text outcome.now) }
 {
     match outcome {
-        Outcome::Nothing => Ok(String::from_str(alloc, "ok")?),
-        Outcome::Absent => Ok(String::from_str(alloc, "none")?),
-        Outcome::Items(items) => numbers_line(alloc, items.nums()),
-        Outcome::NewComm { size, rank, .. } => communicator_line(alloc, *size, *rank),
-        Outcome::Null => Ok(String::from_str(alloc, "null")?),
-        Outcome::Fault(fault) => fault_line(alloc, fault.what, fault.rank),
+        Outcome::Nothing => push_word(text, "ok"),
+        Outcome::Absent => push_word(text, "none"),
+        Outcome::Items(items) => push_numbers(text, items.nums()),
+        Outcome::NewComm { size, rank, .. } => push_communicator(text, *size, *rank),
+        Outcome::Null => push_word(text, "null"),
+        Outcome::Fault(fault) => push_fault(text, fault.what, fault.rank),
     }
 }
 
-/// The line of a transcript that tells why a post was refused: `refused NAME`.
-pub fn refused_line(alloc: Global, refusal: PostError) -> Result<String, OutOfMemory>
-    ensures { IfOk result (λ text. string_bytes text ≡ line_text (Refused refusal)) }
-{
-    let mut text = String::from_str(alloc, "refused ")?;
-    text.push_str(refusal.name())?;
-    Ok(text)
-}
-
-/// The line of a transcript that tells that a request is not open: `idle`.
-pub fn idle_line(alloc: Global) -> Result<String, OutOfMemory>
-    ensures { IfOk result (λ text. string_bytes text ≡ line_text Idle) }
-{
-    Ok(String::from_str(alloc, "idle")?)
-}
-
-/// The line of a transcript that tells that a rank is out of range: `refused RankOutOfRange`.
-pub(crate) fn stray_rank_line(alloc: Global) -> Result<String, OutOfMemory>
-    ensures { IfOk result (λ text. string_bytes text ≡ line_text StrayRank) }
-{
-    Ok(String::from_str(alloc, "refused RankOutOfRange")?)
-}
-
-/// The line of a transcript that tells how two communicators compare.
-pub(crate) fn relation_line(alloc: Global, relation: Relation) -> Result<String, OutOfMemory>
-    ensures { IfOk result (λ text. string_bytes text ≡ line_text (Compared relation)) }
-{
-    Ok(String::from_str(alloc, name_of_relation(relation))?)
-}
-
-/// The line of a transcript that tells ranks, with one space between them: a number, `null` or `undefined`; `empty` where
-/// there are none.
-pub(crate) fn ranks_line(alloc: Global, ranks: &[Rank]) -> Result<String, OutOfMemory>
-    ensures { IfOk result (λ text. string_bytes text ≡ line_text (Translated ranks.now)) }
+// Appends ranks, with one space between them.
+fn push_ranks(text: &mut String, ranks: &[Rank]) -> Result<(), OutOfMemory>
+    ensures { OnOk result (string_bytes text.new ≡ string_bytes text.old ++ listed translated_text ranks.now) }
 {
     let Some((first, rest)) = ranks.split_first() else {
-        return Ok(String::from_str(alloc, "empty")?);
+        return push_word(text, "empty");
     };
-    let mut text = String::new(alloc);
-    push_rank(&mut text, *first)?;
+    push_rank(text, *first)?;
     for rank in rest {
-        push_spaced_rank(&mut text, *rank)?;
+        push_spaced_rank(text, *rank)?;
     }
-    Ok(text)
+    Ok(())
 }
 
 // Appends a rank behind a space.
@@ -98,24 +127,22 @@ fn push_rank(text: &mut String, rank: Rank) -> Result<(), OutOfMemory>
     Ok(())
 }
 
-/// The line of a transcript that tells neighbours: their ranks, or with weights `RANK:WEIGHT`, with one space between them;
-/// `empty` where there are none.
-pub fn neighbours_line(
-    alloc: Global,
+// Appends neighbours, with one space between them.
+fn push_neighbours(
+    text: &mut String,
     weighted: bool,
     neighbours: &[Neighbour],
-) -> Result<String, OutOfMemory>
-    ensures { IfOk result (λ text. string_bytes text ≡ line_text (Near weighted neighbours.now)) }
+) -> Result<(), OutOfMemory>
+    ensures { OnOk result (string_bytes text.new ≡ string_bytes text.old ++ listed (neighbour_text weighted) neighbours.now) }
 {
     let Some((first, rest)) = neighbours.split_first() else {
-        return Ok(String::from_str(alloc, "empty")?);
+        return push_word(text, "empty");
     };
-    let mut text = String::new(alloc);
-    push_neighbour(&mut text, weighted, *first)?;
+    push_neighbour(text, weighted, *first)?;
     for neighbour in rest {
-        push_spaced_neighbour(&mut text, weighted, *neighbour)?;
+        push_spaced_neighbour(text, weighted, *neighbour)?;
     }
-    Ok(text)
+    Ok(())
 }
 
 // Appends a neighbour's words behind a space.
@@ -146,18 +173,18 @@ fn push_neighbour(
     Ok(())
 }
 
-fn numbers_line(alloc: Global, numbers: &[i128]) -> Result<String, OutOfMemory>
-    ensures { IfOk result (λ text. string_bytes text ≡ listed number_text numbers.now) }
+// Appends numbers, with one space between them.
+fn push_numbers(text: &mut String, numbers: &[i128]) -> Result<(), OutOfMemory>
+    ensures { OnOk result (string_bytes text.new ≡ string_bytes text.old ++ listed number_text numbers.now) }
 {
     let Some((first, rest)) = numbers.split_first() else {
-        return Ok(String::from_str(alloc, "empty")?);
+        return push_word(text, "empty");
     };
-    let mut text = String::with_capacity(alloc, numbers.len().saturating_mul(ROOM))?;
-    push_number(&mut text, *first)?;
+    push_number(text, *first)?;
     for number in rest {
-        push_spaced_number(&mut text, *number)?;
+        push_spaced_number(text, *number)?;
     }
-    Ok(text)
+    Ok(())
 }
 
 // Appends a number behind a space.
@@ -168,24 +195,26 @@ fn push_spaced_number(text: &mut String, number: i128) -> Result<(), OutOfMemory
     Ok(())
 }
 
-fn communicator_line(alloc: Global, size: u8, rank: u8) -> Result<String, OutOfMemory>
-    ensures { IfOk result (λ text. string_bytes text ≡ codes "comm " ++ number_text (pos size) ++ 32 ∷ number_text (pos rank)) }
+// Appends a new communicator's size, and the rank there.
+fn push_communicator(text: &mut String, size: u8, rank: u8) -> Result<(), OutOfMemory>
+    ensures { OnOk result (string_bytes text.new ≡ string_bytes text.old ++ (codes "comm " ++ number_text (pos size) ++ 32 ∷ number_text (pos rank))) }
 {
-    let mut text = String::from_str(alloc, "comm ")?;
-    push_number(&mut text, i128::from(size))?;
+    text.push_str("comm ")?;
+    push_number(text, i128::from(size))?;
     text.push_str(" ")?;
-    push_number(&mut text, i128::from(rank))?;
-    Ok(text)
+    push_number(text, i128::from(rank))?;
+    Ok(())
 }
 
-fn fault_line(alloc: Global, what: FaultKind, rank: u8) -> Result<String, OutOfMemory>
-    ensures { IfOk result (λ text. string_bytes text ≡ codes "fault " ++ fault_name what ++ codes " at " ++ number_text (pos rank)) }
+// Appends a fault.
+fn push_fault(text: &mut String, what: FaultKind, rank: u8) -> Result<(), OutOfMemory>
+    ensures { OnOk result (string_bytes text.new ≡ string_bytes text.old ++ (codes "fault " ++ fault_name what ++ codes " at " ++ number_text (pos rank))) }
 {
-    let mut text = String::from_str(alloc, "fault ")?;
+    text.push_str("fault ")?;
     text.push_str(name_of_fault(what))?;
     text.push_str(" at ")?;
-    push_number(&mut text, i128::from(rank))?;
-    Ok(text)
+    push_number(text, i128::from(rank))?;
+    Ok(())
 }
 
 fn name_of_fault(what: FaultKind) -> &'static str

@@ -260,8 +260,8 @@ fn counts_of(alloc: Global, left: &Left) -> Result<Vec<usize>, OutOfMemory>
     ensures { IfOk result (λ counts. counts.items ≡ map length (transcripts_in left.now)) }
 {
     let mut counts = Vec::new(alloc);
-    for lines in &left.transcripts {
-        counts.push(lines.len())?;
+    for end in &left.ends {
+        counts.push(end.lines.len())?;
     }
     Ok(counts)
 }

@@ -1,3 +1,4 @@
+pub mod Ending
 pub mod Moving
 pub mod Stepping
 pub mod Telling

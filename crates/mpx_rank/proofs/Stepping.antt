@@ -1,8 +1,8 @@
 -- A rank whose communicators are names and births, and whose carrier tells what is known, makes the steps of its script.
-use Rattle.std.proofs.Common.{◌≡◌, ℕ, zero, suc, ◌+◌, Bool, true, false, List, [], ◌∷◌, ◌++◌, length, map, Option, Some, None, refl, sym, ap, ◌∙◌, subst, inl, inr}
+use Rattle.std.proofs.Common.{◌≡◌, ℕ, zero, suc, ◌+◌, Bool, true, false, List, [], ◌∷◌, ◌++◌, length, Option, Some, None, refl, sym, ap, ◌∙◌, subst, inl, inr}
 use Rattle.std.specs.Prelude.{Ok, Err, is_some, slice_get}
 use Rattle.std.specs.Option.{option_map}
-use Rattle.std.proofs.lemmas.List.{map-append, append-nil}
+use Rattle.std.proofs.lemmas.List.{append-nil}
 use Rattle.std.proofs.lemmas.Option.{same_Some}
 use Rattle.mpx_num.specs.declared.own.Operation.{Operation}
 use Rattle.mpx_name.specs.Name.{Name}
@@ -19,7 +19,6 @@ use Rattle.mpx_statement.specs.Lookups.{named}
 use Rattle.mpx_meaning.specs.Ranks.{Act, Communicator, Do, Line, Local, Refused, Todo, Told, answered as answer_line, answered_by, answers, attempt, awaited_by, bind, bound_by, communicator_of, doing, done, found_of, next_call, origins_of, step, waited_lines}
 use Rattle.mpx_meaning.specs.Going.{Goes, stays as stays_there, moves}
 use Rattle.mpx_meaning.specs.Standing.{WaitView, awaited, binds, todo_of}
-use Rattle.mpx_meaning.specs.Transcripts.{line_text, outcome_text}
 use Rattle.mpx_meaning.proofs.Fronts.{slice_get-parts}
 use Rattle.mpx_meaning.proofs.Standing.{named_behind, named_without_all}
 use Rattle.mpx_meaning.proofs.Steps as S
@@ -83,8 +82,8 @@ module _ (ops : List Operation) {C : Type 0} (terms : Terms C CommunicatorView) 
   todo_is : (waits : Option WaitView) (todo : List Statement) → r.waits ≡ waits → r.todo ≡ todo → s.todo ≡ todo_of waits todo
   todo_is waits todo w e = stands.todo ∙ λ i. todo_of (w i) (e i)
 
-  line_so : (text : List ℕ) (line : Line) → text ≡ line_text line → r.lines ++ text ∷ [] ≡ map line_text (s.lines ++ line ∷ [])
-  line_so text line e = (λ i. stands.lines i ++ e i ∷ []) ∙ sym (map-append line_text s.lines (line ∷ []))
+  line_so : (x line : Line) → x ≡ line → r.lines ++ x ∷ [] ≡ s.lines ++ line ∷ []
+  line_so x line e = λ i. stands.lines i ++ e i ∷ []
 
   origins_so : (n m : ℕ) → n ≡ m → r.origins ++ origins_of (awaited r.waits + length r.todo) n ≡ s.origins ++ origins_of (length s.todo) m
   origins_so n m e = λ i. stands.origins i ++ origins_of ((sym (todo_length r.waits r.todo) ∙ ap length (sym stands.todo)) i) (e i)
@@ -126,31 +125,31 @@ module _ (ops : List Operation) {C : Type 0} (terms : Terms C CommunicatorView) 
       ∙ λ i. attempt_by ops (local_me i) s.made posting ((ap communicator_of (sym (stands.bound (communicator_word posting))) ∙ communicator_same (r.bound (communicator_word posting))) i)
 
   -- it hears the outcome that it waits for
-  hears_steps : (c d : C) → Fits c → (w : WaitView) (outcome : Outcome) (text : List ℕ) (to : Option CommunicatorView) → r.waits ≡ Some w → terms.hears c d → terms.tells d r.me w.name w.call ≡ Some outcome → text ≡ outcome_text outcome → terms.gives d r.me w.name w.call to
-      → Stepped ops terms known r.me s c After (heard r w text to) d
-  hears_steps c d fits w outcome text to waits h tells said gives =
+  hears_steps : (c d : C) → Fits c → (w : WaitView) (outcome : Outcome) (to : Option CommunicatorView) → r.waits ≡ Some w → terms.hears c d → terms.tells d r.me w.name w.call ≡ Some outcome → terms.gives d r.me w.name w.call to
+      → Stepped ops terms known r.me s c After (heard r w outcome to) d
+  hears_steps c d fits w outcome to waits h tells gives =
       let fits_now = by.hears c d fits h in
       let given = by.gives d fits_now w.name w.call to gives in
       let answer : Answer = given.0 in
       let same : answer.outcome ≡ outcome = same_Some answer.outcome outcome (sym (ap (option_map (λ (a : Answer). a.outcome)) given.1) ∙ by.tells d fits_now w.name w.call outcome tells) in
       let a : Act = S.heard s w.name w.call w.target (doing r.todo) answer in
       let e : step ops known s ≡ Some (done s a) = S.step_hears ops known s w.name w.call w.target (doing r.todo) answer (todo_is (Some w) r.todo waits refl) given.1 in
-      stepped c d (heard r w text to) a e
-      (record { bound = λ word. bound_behind w.target to r.bound s.bound stands.bound word ∙ ap (λ x. named (bind w.target x s.bound) word) given.2; requests = stands.requests; todo = refl; lines = line_so text (Told w.name w.call answer.outcome) (said ∙ ap outcome_text (sym same)); origins = origins_so 1 1 refl })
+      stepped c d (heard r w outcome to) a e
+      (record { bound = λ word. bound_behind w.target to r.bound s.bound stands.bound word ∙ ap (λ x. named (bind w.target x s.bound) word) given.2; requests = stands.requests; todo = refl; lines = line_so (Told w.name w.call outcome) (Told w.name w.call answer.outcome) (ap (Told w.name w.call) (sym same)); origins = origins_so 1 1 refl })
       (by.quiet d fits_now (done s a) e (append-nil s.made))
       (λ stay. stay.heard c d h)
       (λ stay. one_line a d (Told w.name w.call answer.outcome) refl (λ name call o is. let now : terms.tells d r.me w.name w.call ≡ Some answer.outcome = tells ∙ ap Some (sym same) in cc (is, now)))
 
   -- its question is answered
-  asks_steps : (c : C) → Fits c → (question : Question) (rest : List Statement) (text : List ℕ) → r.waits ≡ None → r.todo ≡ Ask question ∷ rest → text ≡ line_text (answered_by r.me (found_by (terms.closes c r.me) (terms.knows c) r.bound) question)
-      → Stepped ops terms known r.me s c After (answered r rest text) c
-  asks_steps c fits question rest text waits todo said =
+  asks_steps : (c : C) → Fits c → (question : Question) (rest : List Statement) → r.waits ≡ None → r.todo ≡ Ask question ∷ rest
+      → Stepped ops terms known r.me s c After (answered r rest (answered_by r.me (found_by (terms.closes c r.me) (terms.knows c) r.bound) question)) c
+  asks_steps c fits question rest waits todo =
       let there : (word : List ℕ) → found_by (terms.closes c r.me) (terms.knows c) r.bound word ≡ found_of s.made (named s.bound word) = λ word. found_behind s.made (terms.closes c r.me) (terms.knows c) (by.closes c fits) (by.knows c fits) (r.bound word) ∙ ap (found_of s.made) (stands.bound word) in
       let line : answered_by r.me (found_by (terms.closes c r.me) (terms.knows c) r.bound) question ≡ answer_line s.me s.bound s.made question = λ i. answered_by (sym local_me i) (λ word. there word i) question in
       let a : Act = S.told_at_once s question (doing rest) in
       let e : step ops known s ≡ Some (done s a) = S.step_asks ops known s question (doing rest) (todo_is None (Ask question ∷ rest) waits todo) in
-      stepped c c (answered r rest text) a e
-      (record { bound = stands.bound; requests = stands.requests; todo = refl; lines = line_so text (answer_line s.me s.bound s.made question) (said ∙ ap line_text line); origins = origins_so 1 1 refl })
+      stepped c c (answered r rest (answered_by r.me (found_by (terms.closes c r.me) (terms.knows c) r.bound) question)) a e
+      (record { bound = stands.bound; requests = stands.requests; todo = refl; lines = line_so (answered_by r.me (found_by (terms.closes c r.me) (terms.knows c) r.bound) question) (answer_line s.me s.bound s.made question) line; origins = origins_so 1 1 refl })
       (by.quiet c fits (done s a) e (append-nil s.made))
       (λ stay name call outcome told. told)
       (λ stay. one_line a c (answer_line s.me s.bound s.made question) refl (λ name call outcome is. absurd (answer_no_call name call outcome s.me (λ word. found_of s.made (named s.bound word)) question is)))
@@ -170,7 +169,7 @@ module _ (ops : List Operation) {C : Type 0} (terms : Terms C CommunicatorView) 
       let a : Act = S.waited s words (doing rest) told.0 in
       let e : step ops known s ≡ Some (done s a) = S.step_passes ops known s words (doing rest) told.0 (todo_is None (Wait words ∷ rest) waits todo) told.1 in
       stepped c d (waited r words rest (terms.tells mid r.me)) a e
-      (record { bound = stands.bound; requests = named_without_all words s.requests r.requests stands.requests; todo = refl; lines = (λ i. stands.lines i ++ map line_text (lines i)) ∙ sym (map-append line_text s.lines (waited_lines s.requests words told.0)); origins = origins_so (length words) (length (waited_lines s.requests words told.0)) (sym (wait_lines-length (terms.tells mid r.me) r.requests words) ∙ ap length lines) })
+      (record { bound = stands.bound; requests = named_without_all words s.requests r.requests stands.requests; todo = refl; lines = λ i. stands.lines i ++ lines i; origins = origins_so (length words) (length (waited_lines s.requests words told.0)) (sym (wait_lines-length (terms.tells mid r.me) r.requests words) ∙ ap length lines) })
       (by.quiet d (by.hears mid d fits_then after) (done s a) e (append-nil s.made))
       (λ stay name call outcome old. stay.heard mid d after name call outcome (stay.heard c mid before name call outcome old))
       (λ stay i name call outcome new. stay.heard mid d after name call outcome (wait_tells (terms.tells mid r.me) name call outcome r.requests words i (ap (λ l. slice_get l i) lines ∙ new)))
@@ -190,7 +189,7 @@ module _ (ops : List Operation) {C : Type 0} (terms : Terms C CommunicatorView) 
         let a : Act = S.posted s (bound_to posting) (doing rest) m in
         let e : step ops known s ≡ Some (done s a) = S.step_posts ops known s posting (doing rest) m next_is none (attempt_is posting ∙ came.1) in
         stepped c d (posted r posting rest name call) a e
-        (record { bound = stands.bound; requests = stands.requests; todo = λ i. todo_of (Some (record { name = sym came.2 i; call = sym came.3 i; target = bound_to posting })) rest; lines = stands.lines ∙ ap (map line_text) (sym (append-nil s.lines)); origins = stands.origins ∙ sym (append-nil s.origins) })
+        (record { bound = stands.bound; requests = stands.requests; todo = λ i. todo_of (Some (record { name = sym came.2 i; call = sym came.3 i; target = bound_to posting })) rest; lines = stands.lines ∙ sym (append-nil s.lines); origins = stands.origins ∙ sym (append-nil s.origins) })
         (came.4 (done s a) e refl)
         (λ stay. stay.tried c d posting on (Ok (Some (name, call))) tried)
         (λ stay. no_news a d refl)
@@ -204,31 +203,31 @@ module _ (ops : List Operation) {C : Type 0} (terms : Terms C CommunicatorView) 
         let a : Act = S.started s word (doing rest) m in
         let e : step ops known s ≡ Some (done s a) = S.step_starts ops known s posting (doing rest) word m next_is open_as (attempt_is posting ∙ came.1) in
         stepped c d (started r word rest name call) a e
-        (record { bound = stands.bound; requests = λ other. (λ i. binds (Some word) (place i) (requests_are i) other) ∙ sym (named_behind s.requests word (m.name, next_call m.name s.made) other); todo = refl; lines = stands.lines ∙ ap (map line_text) (sym (append-nil s.lines)); origins = stands.origins ∙ sym (append-nil s.origins) })
+        (record { bound = stands.bound; requests = λ other. (λ i. binds (Some word) (place i) (requests_are i) other) ∙ sym (named_behind s.requests word (m.name, next_call m.name s.made) other); todo = refl; lines = stands.lines ∙ sym (append-nil s.lines); origins = stands.origins ∙ sym (append-nil s.origins) })
         (came.4 (done s a) e refl)
         (λ stay. stay.tried c d posting on (Ok (Some (name, call))) tried)
         (λ stay. no_news a d refl)
 
     -- it is refused
-    refused_steps : (refusal : PostError) (text : List ℕ) → (refusal ≡ OutOfMemory → ⊥) → terms.tries c r.me posting on (Err refusal) d → text ≡ line_text (Refused refusal) → Stepped ops terms known r.me s c After (refused r posting rest text) d
-    refused_steps refusal text other tried said =
+    refused_steps : (refusal : PostError) → (refusal ≡ OutOfMemory → ⊥) → terms.tries c r.me posting on (Err refusal) d → Stepped ops terms known r.me s c After (refused r posting rest refusal) d
+    refused_steps refusal other tried =
         let came = by.refuses c d fits posting (doing rest) next_is on (is_on posting) refusal other tried in
         let a : Act = S.turned_down s (bound_to posting) (doing rest) refusal in
         let e : step ops known s ≡ Some (done s a) = S.step_refused ops known s posting (doing rest) refusal next_is (attempt_is posting ∙ came.0) in
-        stepped c d (refused r posting rest text) a e
-        (record { bound = bound_behind (bound_to posting) None r.bound s.bound stands.bound; requests = stands.requests; todo = refl; lines = line_so text (Refused refusal) said; origins = origins_so 1 1 refl })
+        stepped c d (refused r posting rest refusal) a e
+        (record { bound = bound_behind (bound_to posting) None r.bound s.bound stands.bound; requests = stands.requests; todo = refl; lines = line_so (Refused refusal) (Refused refusal) refl; origins = origins_so 1 1 refl })
         (came.1 (done s a) e (append-nil s.made))
         (λ stay. stay.tried c d posting on (Err refusal) tried)
         (λ stay. one_line a d (Refused refusal) refl (λ name call outcome is. cc is))
 
   -- a move is the step of its script
   pub move_steps : (c : C) (new : RankView CommunicatorView) (d : C) → Fits c → Move terms r c new d → Stepped ops terms known r.me s c After new d
-  move_steps c new d fits (hears w outcome text to waits h tells said gives) = hears_steps c d fits w outcome text to waits h tells said gives
+  move_steps c new d fits (hears w outcome to waits h tells gives) = hears_steps c d fits w outcome to waits h tells gives
   move_steps c new d fits (posts posting rest name call waits todo none tried) = posts_steps c d fits posting rest waits todo name call none tried
   move_steps c new d fits (starts posting rest word name call waits todo open_as tried) = starts_steps c d fits posting rest waits todo word name call open_as tried
-  move_steps c new d fits (is_refused posting rest refusal text waits todo other tried said) = refused_steps c d fits posting rest waits todo refusal text other tried said
+  move_steps c new d fits (is_refused posting rest refusal waits todo other tried) = refused_steps c d fits posting rest waits todo refusal other tried
   move_steps c new d fits (passes {mid = mid} words rest waits todo before all after) = passes_steps c mid d fits words rest waits todo before all after
-  move_steps c new d fits (asks question rest text waits todo said) = asks_steps c fits question rest text waits todo said
+  move_steps c new d fits (asks question rest waits todo) = asks_steps c fits question rest waits todo
 
   -- without a move the carrier still fits
   pub still_fits : (c d : C) → Fits c → Still terms r c d → Fits d × (StaysTold terms r.me → IsToldWithin (terms.tells c r.me) (terms.tells d r.me))
@@ -247,12 +246,12 @@ module _ (ops : List Operation) {C : Type 0} (terms : Terms C CommunicatorView) 
 
 -- who it is doesn't change
 pub move_keeps : {C K : Type 0} (terms : Terms C K) (r : RankView K) (c : C) (s : RankView K) (d : C) → Move terms r c s d → s.me ≡ r.me
-move_keeps terms r c s d (hears w outcome text to waits h tells said gives) = refl
+move_keeps terms r c s d (hears w outcome to waits h tells gives) = refl
 move_keeps terms r c s d (posts posting rest name call waits todo none tried) = refl
 move_keeps terms r c s d (starts posting rest word name call waits todo open_as tried) = refl
-move_keeps terms r c s d (is_refused posting rest refusal text waits todo other tried said) = refl
+move_keeps terms r c s d (is_refused posting rest refusal waits todo other tried) = refl
 move_keeps terms r c s d (passes words rest waits todo before all after) = refl
-move_keeps terms r c s d (asks question rest text waits todo said) = refl
+move_keeps terms r c s d (asks question rest waits todo) = refl
 
 -- the rank has come there by steps of its script, from where it stood with the carrier c, and now stands at r, with the carrier d
 pub record Came (ops : List Operation) {C : Type 0} (terms : Terms C CommunicatorView) (known : Results) (me : ℕ) (s : Local) (c : C) (Fits : Local → C → Type 0) (r : RankView CommunicatorView) (d : C) : Type 0 where

@@ -1,5 +1,5 @@
 -- What those say of themselves who carry a rank's posts.
-use Rattle.std.specs.Prelude.{◌≡◌, ℕ, Bool, is_some, Option, Some, None, Result, Ok, Err, string_bytes}
+use Rattle.std.specs.Prelude.{◌≡◌, ℕ, Bool, is_some, Option, Some, None, Result, Ok, Err}
 use Rattle.std.specs.Option.{option_map}
 use Rattle.mpx_name.specs.Name.{Name}
 use Rattle.mpx_birth.specs.Births.{BirthView}
@@ -7,7 +7,7 @@ use Rattle.mpx_post.specs.declared.draft.PostError.{PostError}
 use Rattle.mpx_value.specs.declared.outcomes.Outcome.{Outcome}
 use Rattle.mpx_value.specs.Histories.{Answer, Results}
 use Rattle.mpx_statement.specs.declared.statement.Posting.{Posting}
-use Rattle.mpx_meaning.specs.Transcripts.{outcome_text}
+use Rattle.mpx_meaning.specs.declared.line.Line.TheVariants as L
 use Rattle.mpx_rank.specs.declared.carrier.Heard.{Heard}
 use Rattle.mpx_rank.specs.declared.carrier.Heard.TheVariants.{NotYet, Told}
 
@@ -51,8 +51,8 @@ is_told told place = is_some (told place.0 place.1)
 abbrev pub IsToldWithin : Outcomes → Outcomes → Type 0
 IsToldWithin some more = (name : Name) (call : ℕ) (outcome : Outcome) → some name call ≡ Some outcome → more name call ≡ Some outcome
 
--- nothing is told of the call, which goes back; or its outcome, and the communicator that it gave
+-- nothing is told of the call, which goes back; or the line of its outcome, and the communicator that it gave
 abbrev pub HearsOf : {C K Call : Type 0} → Terms C K → C → (me : ℕ) → (place : Name × ℕ) → Call → Heard Call K → Type 0
 HearsOf terms c me place call (NotYet back) = (back ≡ call) × (terms.tells c me place.0 place.1 ≡ None)
-HearsOf terms c me place call (Told text given) =
-    (outcome : Outcome) × (terms.tells c me place.0 place.1 ≡ Some outcome) × (string_bytes text ≡ outcome_text outcome) × terms.gives c me place.0 place.1 given
+HearsOf terms c me place call (Told line given) =
+    (outcome : Outcome) × (terms.tells c me place.0 place.1 ≡ Some outcome) × (line ≡ L.Told place.0 place.1 outcome) × terms.gives c me place.0 place.1 given

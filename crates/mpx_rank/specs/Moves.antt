@@ -1,5 +1,5 @@
 -- Where a rank stands in its statements, and what its moves do.
-use Rattle.std.specs.Prelude.{◌≡◌, ℕ, ◌+◌, ◌*◌, Bool, true, false, ◌||◌, cond, is_some, IsTrue, codes, bytes_eq, List, [], ◌∷◌, ◌++◌, length, map, Option, Some, None, Ok, Err}
+use Rattle.std.specs.Prelude.{◌≡◌, ℕ, ◌+◌, ◌*◌, Bool, true, false, ◌||◌, cond, is_some, IsTrue, codes, bytes_eq, List, [], ◌∷◌, ◌++◌, length, Option, Some, None, Ok, Err}
 use Rattle.std.specs.List.{list_all}
 use Rattle.mpx_name.specs.Name.{Name}
 use Rattle.mpx_birth.specs.Births.{BirthView}
@@ -16,7 +16,6 @@ use Rattle.mpx_meaning.specs.declared.asking.Found.{Found}
 use Rattle.mpx_meaning.specs.declared.asking.Found.TheVariants as W
 use Rattle.mpx_meaning.specs.Ranks.{Line, Told, Refused, Idle, answered_by, found_as, origins_of}
 use Rattle.mpx_meaning.specs.Standing.{WaitView, awaited, binds, closed, closed_all, has_statements}
-use Rattle.mpx_meaning.specs.Transcripts.{line_text, outcome_text}
 use Rattle.mpx_rank.specs.Carriers.{Outcomes, Terms, is_told}
 
 -- who it is, what its words are bound to (None is the null communicator) and which calls its open requests stand for, the
@@ -27,7 +26,7 @@ pub record RankView (K : Type 0) : Type 0 where
   pub requests : List ℕ → Option (Name × ℕ)
   pub todo : List Statement
   pub waits : Option WaitView
-  pub lines : List (List ℕ)
+  pub lines : List Line
   pub origins : List Origin
 
 -- WORDS
@@ -104,8 +103,8 @@ abbrev pub origins_with : {K : Type 0} → RankView K → (lines : ℕ) → List
 origins_with r lines = r.origins ++ origins_of (statements_left r) lines
 
 -- the outcome that it waited for is told, and its word stands for the communicator that the call gave
-abbrev pub heard : {K : Type 0} → RankView K → WaitView → (text : List ℕ) → Option K → RankView K
-heard r w text to = record { me = r.me; bound = binds w.target to r.bound; requests = r.requests; todo = r.todo; waits = None; lines = r.lines ++ text ∷ []; origins = origins_with r 1 }
+abbrev pub heard : {K : Type 0} → RankView K → WaitView → Outcome → Option K → RankView K
+heard r w outcome to = record { me = r.me; bound = binds w.target to r.bound; requests = r.requests; todo = r.todo; waits = None; lines = r.lines ++ Told w.name w.call outcome ∷ []; origins = origins_with r 1 }
 
 -- it has posted, and waits for the outcome of that call
 abbrev pub posted : {K : Type 0} → RankView K → Posting → (rest : List Statement) → Name → (call : ℕ) → RankView K
@@ -116,8 +115,8 @@ abbrev pub started : {K : Type 0} → RankView K → (word : List ℕ) → (rest
 started r word rest name call = record { me = r.me; bound = r.bound; requests = binds (Some word) (name, call) r.requests; todo = rest; waits = None; lines = r.lines; origins = r.origins }
 
 -- its post was refused
-abbrev pub refused : {K : Type 0} → RankView K → Posting → (rest : List Statement) → (text : List ℕ) → RankView K
-refused r posting rest text = record { me = r.me; bound = binds (bound_to posting) None r.bound; requests = r.requests; todo = rest; waits = None; lines = r.lines ++ text ∷ []; origins = origins_with r 1 }
+abbrev pub refused : {K : Type 0} → RankView K → Posting → (rest : List Statement) → PostError → RankView K
+refused r posting rest refusal = record { me = r.me; bound = binds (bound_to posting) None r.bound; requests = r.requests; todo = rest; waits = None; lines = r.lines ++ Refused refusal ∷ []; origins = origins_with r 1 }
 
 -- it has waited for these words
 abbrev pub waited : {K : Type 0} → RankView K → (words : List (List ℕ)) → (rest : List Statement) → Outcomes → RankView K
@@ -127,37 +126,36 @@ waited r words rest told = record {
   requests = closed_all words r.requests;
   todo = rest;
   waits = None;
-  lines = r.lines ++ map line_text (wait_lines told r.requests words);
+  lines = r.lines ++ wait_lines told r.requests words;
   origins = origins_with r (length words);
 }
 
 -- its question is answered
-abbrev pub answered : {K : Type 0} → RankView K → (rest : List Statement) → (text : List ℕ) → RankView K
-answered r rest text = record { me = r.me; bound = r.bound; requests = r.requests; todo = rest; waits = None; lines = r.lines ++ text ∷ []; origins = origins_with r 1 }
+abbrev pub answered : {K : Type 0} → RankView K → (rest : List Statement) → Line → RankView K
+answered r rest line = record { me = r.me; bound = r.bound; requests = r.requests; todo = rest; waits = None; lines = r.lines ++ line ∷ []; origins = origins_with r 1 }
 
 -- one move of a rank, and what its carrier does for it: it hears the outcome that it waits for; or it does its next statement.
 -- One that posts is posted, and then its outcome is awaited or its request is open, or it is refused; a wait is passed once
 -- all calls of its requests are done; and a question is answered by what the carrier knows of communicators, and by which of
 -- them the rank has freed
 pub data Move {C K : Type 0} (terms : Terms C K) : RankView K → C → RankView K → C → Type 0 where
-  hears : {r : RankView K} {c d : C} (w : WaitView) (outcome : Outcome) (text : List ℕ) (to : Option K) → r.waits ≡ Some w
-      → terms.hears c d → terms.tells d r.me w.name w.call ≡ Some outcome → text ≡ outcome_text outcome → terms.gives d r.me w.name w.call to
-      → Move terms r c (heard r w text to) d
+  hears : {r : RankView K} {c d : C} (w : WaitView) (outcome : Outcome) (to : Option K) → r.waits ≡ Some w
+      → terms.hears c d → terms.tells d r.me w.name w.call ≡ Some outcome → terms.gives d r.me w.name w.call to
+      → Move terms r c (heard r w outcome to) d
   posts : {r : RankView K} {c d : C} (posting : Posting) (rest : List Statement) (name : Name) (call : ℕ) → r.waits ≡ None → r.todo ≡ Post posting ∷ rest
       → started_as posting ≡ None → terms.tries c r.me posting (communicator_in (r.bound (communicator_word posting))) (Ok (Some (name, call))) d
       → Move terms r c (posted r posting rest name call) d
   starts : {r : RankView K} {c d : C} (posting : Posting) (rest : List Statement) (word : List ℕ) (name : Name) (call : ℕ) → r.waits ≡ None → r.todo ≡ Post posting ∷ rest
       → started_as posting ≡ Some word → terms.tries c r.me posting (communicator_in (r.bound (communicator_word posting))) (Ok (Some (name, call))) d
       → Move terms r c (started r word rest name call) d
-  is_refused : {r : RankView K} {c d : C} (posting : Posting) (rest : List Statement) (refusal : PostError) (text : List ℕ) → r.waits ≡ None → r.todo ≡ Post posting ∷ rest
-      → (refusal ≡ OutOfMemory → ⊥) → terms.tries c r.me posting (communicator_in (r.bound (communicator_word posting))) (Err refusal) d → text ≡ line_text (Refused refusal)
-      → Move terms r c (refused r posting rest text) d
+  is_refused : {r : RankView K} {c d : C} (posting : Posting) (rest : List Statement) (refusal : PostError) → r.waits ≡ None → r.todo ≡ Post posting ∷ rest
+      → (refusal ≡ OutOfMemory → ⊥) → terms.tries c r.me posting (communicator_in (r.bound (communicator_word posting))) (Err refusal) d
+      → Move terms r c (refused r posting rest refusal) d
   passes : {r : RankView K} {c mid d : C} (words : List (List ℕ)) (rest : List Statement) → r.waits ≡ None → r.todo ≡ Wait words ∷ rest
       → terms.hears c mid → are_done (terms.tells mid r.me) r.requests words ≡ true → terms.hears mid d
       → Move terms r c (waited r words rest (terms.tells mid r.me)) d
-  asks : {r : RankView K} {c : C} (question : Question) (rest : List Statement) (text : List ℕ) → r.waits ≡ None → r.todo ≡ Ask question ∷ rest
-      → text ≡ line_text (answered_by r.me (found_by (terms.closes c r.me) (terms.knows c) r.bound) question)
-      → Move terms r c (answered r rest text) c
+  asks : {r : RankView K} {c : C} (question : Question) (rest : List Statement) → r.waits ≡ None → r.todo ≡ Ask question ∷ rest
+      → Move terms r c (answered r rest (answered_by r.me (found_by (terms.closes c r.me) (terms.knows c) r.bound) question)) c
 
 -- there is no move: nothing is left; or the outcome that it waits for isn't told, or not that of each request of a wait; or its
 -- next statement can't be posted now. The carrier may have heard of others

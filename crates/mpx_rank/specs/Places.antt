@@ -1,5 +1,5 @@
 -- Where a rank stands in its script, whose communicators are names and births.
-use Rattle.std.specs.Prelude.{◌≡◌, ℕ, List, map, Option, Some, None, Result, Err}
+use Rattle.std.specs.Prelude.{◌≡◌, ℕ, List, Option, Some, None, Result, Err}
 use Rattle.std.specs.Option.{option_map}
 use Rattle.mpx_num.specs.declared.own.Operation.{Operation}
 use Rattle.mpx_name.specs.Name.{Name}
@@ -12,7 +12,7 @@ use Rattle.mpx_statement.specs.Statements.{draft_of, gathers_of}
 use Rattle.mpx_statement.specs.Lookups.{named}
 use Rattle.mpx_meaning.specs.Ranks.{Bound, Communicator, NullCommunicator, Local, attempt_in}
 use Rattle.mpx_meaning.specs.Standing.{todo_of}
-use Rattle.mpx_meaning.specs.Transcripts.{line_text}
+use Rattle.mpx_meaning.specs.Ends.{EndView, waits_with}
 use Rattle.mpx_rank.specs.Moves.{RankView}
 
 -- a communicator: its name, and how it came to be
@@ -34,5 +34,9 @@ pub record StandsInScript (r : RankView CommunicatorView) (s : Local) : Type 0 w
   pub bound : (word : List ℕ) → option_map bound_as (r.bound word) ≡ named s.bound word
   pub requests : (word : List ℕ) → r.requests word ≡ named s.requests word
   pub todo : s.todo ≡ todo_of r.waits r.todo
-  pub lines : r.lines ≡ map line_text s.lines
+  pub lines : r.lines ≡ s.lines
   pub origins : r.origins ≡ s.origins
+
+-- how a rank ends that stands there
+abbrev pub end_of_rank : {K : Type 0} → RankView K → EndView
+end_of_rank r = record { lines = r.lines; origins = r.origins; waits = waits_with r.requests (todo_of r.waits r.todo) }

@@ -1,5 +1,5 @@
 -- What the code's ranks show.
-use Rattle.std.specs.Prelude.{ℕ, map, string_bytes, List, Option}
+use Rattle.std.specs.Prelude.{ℕ, List, Option}
 use Rattle.std.specs.Option.{option_copied, option_map}
 use Rattle.std.specs.BTreeMap.{BTreeMap}
 use Rattle.mpx_name.specs.Name.{Name}
@@ -26,6 +26,6 @@ rank_of place r = record {
   requests = requests_of place r.requests;
   todo = r.todo.now;
   waits = option_map (wait_of place) r.waits;
-  lines = map string_bytes r.lines.items;
+  lines = r.lines.items;
   origins = r.origins.items;
 }

@@ -1,6 +1,5 @@
 //! Statements that are answered at once.
-ghost use Rattle.std.specs.Prelude.{◌≡◌, IfOk, string_bytes};
-ghost use Rattle.mpx_meaning.specs.Transcripts.{line_text};
+ghost use Rattle.std.specs.Prelude.{◌≡◌, IfOk};
 ghost use Rattle.mpx_meaning.specs.Ranks.{answered_by, found_map};
 ghost use Rattle.mpx_meaning.specs.Standing.{looked_up};
 ghost use Rattle.mpx_rank.specs.Moves.{closed_by, communicator_in, found_by, found_with};
@@ -10,7 +9,7 @@ use crate::interpreter::communicator;
 use join_core::OutOfMemory;
 use mpx_birth::Birth;
 use mpx_group::Proc;
-use mpx_meaning::{Found, comparison_answer, neighbours_answer, translation_answer};
+use mpx_meaning::{Found, Line, comparison_answer, neighbours_answer, translation_answer};
 use mpx_name::Name;
 use mpx_num::{Listing, Ops};
 use mpx_statement::{Question, Word};
@@ -26,8 +25,8 @@ pub(crate) fn answer<C: Carrier>(
     bound: &BTreeMap<Word, Option<C::Communicator>>,
     question: &Question,
     ops: &Ops,
-) -> Result<String, OutOfMemory>
-    ensures line { IfOk result (λ text. string_bytes text ≡ line_text (answered_by me (found_by ((C.terms (⟦<Ops as Listing>⟧.operations ops.now)).closes carrier.old me) ((C.terms (⟦<Ops as Listing>⟧.operations ops.now)).knows carrier.old) (looked_up bound.now)) question.now)) }
+) -> Result<Line, OutOfMemory>
+    ensures line { IfOk result (λ line. line ≡ answered_by me (found_by ((C.terms (⟦<Ops as Listing>⟧.operations ops.now)).closes carrier.old me) ((C.terms (⟦<Ops as Listing>⟧.operations ops.now)).knows carrier.old) (looked_up bound.now)) question.now) }
     ensures same { carrier.new ≡ carrier.old }
 {
     match question {

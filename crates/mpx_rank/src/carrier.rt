@@ -8,6 +8,7 @@ ghost use Rattle.mpx_rank.specs.Carriers.{HearsOf, IsToldWithin, Terms, is_told,
 use join_core::OutOfMemory;
 use mpx_birth::Birth;
 use mpx_group::Proc;
+use mpx_meaning::Line;
 use mpx_name::Name;
 use mpx_num::{Listing, Ops};
 use mpx_post::PostError;
@@ -21,8 +22,8 @@ pub enum Heard<Call, Communicator> {
     NotYet(Call),
     /// An outcome.
     Told {
-        /// The outcome as a line of a transcript.
-        text: String,
+        /// The line that tells it: the call's context and number, and the outcome.
+        line: Line,
         /// The communicator that the call gave, where it gave one.
         given: Option<Communicator>,
     },
@@ -41,6 +42,10 @@ pub trait Carrier: Drop {
 
     /// What it says of itself, by the job's own operations, which are lent to each call.
     ghost terms: { List Operation → Terms Self Self.Communicator };
+
+    /// The context and the number of a call.
+    fn into_place(call: Self::Call) -> (Name, u32)
+        ensures { result ≡ place call };
 
     /// Posts for a rank what the statement says, on the communicator that its word is bound to, where it is bound to one.
     /// None: not now, nothing was posted.

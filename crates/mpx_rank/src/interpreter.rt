@@ -1,21 +1,22 @@
 //! A rank that goes on with its statements.
-ghost use Rattle.std.specs.Prelude.{◌≡◌, ◌<◌, ◌+◌, ◌∷◌, length, ℕ, IfOk, IsTrue, List, None, OnErr, OnOk, Some, [], map, string_bytes, true};
+ghost use Rattle.std.specs.Prelude.{◌≡◌, ◌<◌, ◌+◌, ◌∷◌, length, ℕ, IfOk, IsTrue, List, None, OnErr, OnOk, Some, [], true};
 ghost use Rattle.std.specs.Option.{option_copied, option_map};
 ghost use Rattle.mpx_statement.specs.declared.statement.Statement.TheVariants.{Ask, Post, Wait as WaitFor};
-ghost use Rattle.mpx_meaning.specs.Ranks.{Refused};
-ghost use Rattle.mpx_meaning.specs.Transcripts.{line_text};
+ghost use Rattle.mpx_meaning.specs.Ends.{end_view};
 ghost use Rattle.mpx_rank.specs.Moves.{GoesOn, MayGo, MayTry, Moves, StopsShort, bound_first, communicator_in, is_waiting, left_of, refused, statements_left};
+ghost use Rattle.mpx_rank.specs.Places.{end_of_rank};
 ghost use Rattle.mpx_rank.specs.Shown.{place_of, rank_of, requests_of, wait_of};
 ghost use Rattle.mpx_meaning.specs.Standing.{awaited, has_statements, looked_up};
 
 use crate::asking::answer;
 use crate::carrier::{Carrier, Heard};
+use crate::ending::waits_at;
 use crate::origins::push_origins;
 use crate::posting_words::words_of;
 use crate::waiting::{are_done, close_all};
 use join_core::OutOfMemory;
 use mpx_group::Proc;
-use mpx_meaning::{Origin, bind, refused_line};
+use mpx_meaning::{Line, Origin, RankEnd, bind};
 use mpx_num::{Listing, Ops};
 use mpx_post::PostError;
 use mpx_statement::{Posting, Question, Statement, Word};
@@ -24,8 +25,8 @@ use std::collections::BTreeMap;
 
 // The call whose outcome a rank waits for, and the word that its new communicator gets.
 #[derive(Drop)]
-struct Wait<'a, Call> {
-    call: Call,
+pub(crate) struct Wait<'a, Call> {
+    pub(crate) call: Call,
     target: Option<&'a Word>,
 }
 
@@ -38,8 +39,7 @@ pub struct Interpreter<'a, C: Carrier> {
     requests: BTreeMap<Word, C::Call>,
     todo: &'a [Statement],
     waits: Option<Wait<'a, C::Call>>,
-    /// They are taken from here at the end.
-    pub lines: Vec<String>,
+    lines: Vec<Line>,
     origins: Vec<Origin>,
 }
 
@@ -120,8 +120,8 @@ impl<'a, C: Carrier> Interpreter<'a, C> {
     }
 
     /// Its lines so far.
-    pub fn lines(&self) -> &[String]
-        ensures { map string_bytes result.now ≡ (rank_of C.place self.now).lines }
+    pub fn lines(&self) -> &[Line]
+        ensures { result.now ≡ (rank_of C.place self.now).lines }
     {
         self.lines.as_slice()
     }
@@ -133,11 +133,24 @@ impl<'a, C: Carrier> Interpreter<'a, C> {
         self.origins.as_slice()
     }
 
-    /// Its lines.
-    pub fn into_lines(self) -> Vec<String>
-        ensures { map string_bytes result.items ≡ (rank_of C.place self.entry).lines }
+    /// How it ends: its lines, and where it waits.
+    pub fn into_end(self, alloc: Global) -> Result<RankEnd, OutOfMemory>
+        ensures { IfOk result (λ end. end_view end ≡ end_of_rank (rank_of C.place self.entry)) }
     {
-        self.lines
+        let Interpreter {
+            requests,
+            todo,
+            waits,
+            lines,
+            origins,
+            ..
+        } = self;
+        let waits = waits_at::<C>(alloc, requests, todo, waits)?;
+        Ok(RankEnd {
+            lines,
+            origins,
+            waits,
+        })
     }
 
     /// Goes on with the statements until an outcome is missing. It answers whether there was a move. An `Err` is want of memory for a
@@ -184,8 +197,8 @@ impl<'a, C: Carrier> Interpreter<'a, C> {
                 self.waits = Some(Wait { call, target });
                 Ok(false)
             }
-            Heard::Told { text, given } => {
-                self.lines.push(text)?;
+            Heard::Told { line, given } => {
+                self.lines.push(line)?;
                 push_origins(&mut self.origins, 1, self.todo, 1)?;
                 bind(alloc, &mut self.bound, target, given)?;
                 Ok(true)
@@ -259,13 +272,12 @@ impl<'a, C: Carrier> Interpreter<'a, C> {
     ) -> Result<(), OutOfMemory>
         requires { (rank_of C.place self.old).waits ≡ None }
         ensures other { OnOk result (refusal ≡ PostError.OutOfMemory → ⊥) }
-        ensures line { OnOk result (rank_of C.place self.new ≡ refused (rank_of C.place self.old) posting.now rest.now (line_text (Refused refusal))) }
+        ensures line { OnOk result (rank_of C.place self.new ≡ refused (rank_of C.place self.old) posting.now rest.now refusal) }
     {
         if refusal.is_want_of_memory() {
             return Err(OutOfMemory);
         }
-        let text = refused_line(alloc, refusal)?;
-        self.lines.push(text)?;
+        self.lines.push(Line::Refused(refusal))?;
         push_origins(&mut self.origins, 0, self.todo, 1)?;
         self.todo = rest;
         bind(alloc, &mut self.bound, words_of(posting).target, None)?;
@@ -316,8 +328,8 @@ impl<'a, C: Carrier> Interpreter<'a, C> {
         requires todo { (rank_of C.place self.old).todo ≡ Ask question.now ∷ rest.now }
         ensures { OnOk result (Moves (C.terms (⟦<Ops as Listing>⟧.operations ops.now)) (rank_of C.place self.old) carrier.old (rank_of C.place self.new) carrier.new true) }
     {
-        let text = answer(alloc, carrier, self.me, &self.bound, question, ops)?;
-        self.lines.push(text)?;
+        let line = answer(alloc, carrier, self.me, &self.bound, question, ops)?;
+        self.lines.push(line)?;
         push_origins(&mut self.origins, 0, self.todo, 1)?;
         self.todo = rest;
         Ok(())

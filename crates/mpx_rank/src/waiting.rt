@@ -1,7 +1,6 @@
 //! Waits for open requests.
-ghost use Rattle.std.specs.Prelude.{◌≡◌, ◌++◌, ℕ, IfOk, IsTrue, List, OnOk, cond, map, string_bytes, true, false};
+ghost use Rattle.std.specs.Prelude.{◌≡◌, ◌++◌, ℕ, IfOk, IsTrue, List, OnOk, true, false};
 ghost use Rattle.std.specs.Option.{option_copied, option_map};
-ghost use Rattle.mpx_meaning.specs.Transcripts.{as_text, line_text};
 ghost use Rattle.mpx_meaning.specs.Standing.{closed, closed_all};
 ghost use Rattle.mpx_rank.specs.Moves.{are_done, is_done, request_line, wait_lines};
 ghost use Rattle.mpx_rank.specs.Waits.{WasNotDone};
@@ -10,7 +9,7 @@ ghost use Rattle.mpx_rank.specs.Shown.{requests_of};
 use crate::carrier::{Carrier, Heard};
 use join_core::OutOfMemory;
 use mpx_group::Proc;
-use mpx_meaning::idle_line;
+use mpx_meaning::Line;
 use mpx_num::{Listing, Ops};
 use mpx_statement::Word;
 use std::alloc::Global;
@@ -60,18 +59,18 @@ pub(crate) fn close_all<C: Carrier>(
     carrier: &mut C,
     me: Proc,
     requests: &mut BTreeMap<Word, C::Call>,
-    lines: &mut Vec<String>,
+    lines: &mut Vec<Line>,
     words: &[Word],
     ops: &Ops,
 ) -> Result<(), OutOfMemory>
     requires { are_done ((C.terms (⟦<Ops as Listing>⟧.operations ops.now)).tells carrier.old me) (requests_of C.place requests.old) words.now ≡ true }
     ensures hears { OnOk result ((C.terms (⟦<Ops as Listing>⟧.operations ops.now)).hears carrier.old carrier.new) }
-    ensures lines { OnOk result (as_text lines.new ≡ as_text lines.old ++ map line_text (wait_lines ((C.terms (⟦<Ops as Listing>⟧.operations ops.now)).tells carrier.old me) (requests_of C.place requests.old) words.now)) }
+    ensures lines { OnOk result (lines.new.items ≡ lines.old.items ++ wait_lines ((C.terms (⟦<Ops as Listing>⟧.operations ops.now)).tells carrier.old me) (requests_of C.place requests.old) words.now) }
     ensures requests { OnOk result ((word : List ℕ) → requests_of C.place requests.new word ≡ closed_all words.now (requests_of C.place requests.old) word) }
 {
     for word in words {
-        let text = close(alloc, carrier, me, requests, word, ops)?;
-        lines.push(text)?;
+        let line = close(alloc, carrier, me, requests, word, ops)?;
+        lines.push(line)?;
     }
     Ok(())
 }
@@ -84,17 +83,17 @@ fn close<C: Carrier>(
     requests: &mut BTreeMap<Word, C::Call>,
     word: &Word,
     ops: &Ops,
-) -> Result<String, OutOfMemory>
+) -> Result<Line, OutOfMemory>
     requires { is_done ((C.terms (⟦<Ops as Listing>⟧.operations ops.now)).tells carrier.old me) (requests_of C.place requests.old word.now) ≡ true }
     ensures hears { OnOk result ((C.terms (⟦<Ops as Listing>⟧.operations ops.now)).hears carrier.old carrier.new) }
-    ensures line { IfOk result (λ text. string_bytes text ≡ line_text (request_line ((C.terms (⟦<Ops as Listing>⟧.operations ops.now)).tells carrier.old me) (requests_of C.place requests.old word.now))) }
+    ensures line { IfOk result (λ line. line ≡ request_line ((C.terms (⟦<Ops as Listing>⟧.operations ops.now)).tells carrier.old me) (requests_of C.place requests.old word.now)) }
     ensures requests { OnOk result ((other : List ℕ) → requests_of C.place requests.new other ≡ closed word.now (requests_of C.place requests.old) other) }
 {
     let Some(call) = requests.remove(word) else {
-        return idle_line(alloc);
+        return Ok(Line::Idle);
     };
     match carrier.hear(alloc, me, call, ops)? {
         Heard::NotYet(_) => unreachable!(),
-        Heard::Told { text, .. } => Ok(text),
+        Heard::Told { line, .. } => Ok(line),
     }
 }

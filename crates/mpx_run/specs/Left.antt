@@ -6,14 +6,14 @@ use Rattle.mpx_statement.specs.declared.job.Command.{Command}
 use Rattle.mpx_statement.specs.declared.job.Command.TheVariants.{Run, Eval, Check}
 use Rattle.mpx_statement.specs.declared.job.Options.{Options}
 use Rattle.mpx_script.specs.ScriptView.{ScriptView}
-use Rattle.mpx_meaning.specs.Transcripts.{as_text}
+use Rattle.mpx_meaning.specs.Reports.{end_text}
 use Rattle.mpx_run.specs.Founded.{IsSimulatedBy, IsThreadedBy}
 use Rattle.mpx_run.specs.declared.end.End.{End}
 use Rattle.mpx_run.specs.declared.report.Left.{Left}
 
 -- the lines of each rank
 abbrev pub transcripts_in : Left → List (List (List ℕ))
-transcripts_in left = map as_text left.transcripts.items
+transcripts_in left = map end_text left.ends.items
 
 -- this is left of a run of which this is the end and this the text: of one in threads its lines and its ports, of a simulated one its lines and its nodes, and nothing else
 abbrev pub IsLeftIn : (threads : Bool) → List Operation → Options → ScriptView → End → (text : List ℕ) → Left → Type 0

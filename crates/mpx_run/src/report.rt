@@ -1,7 +1,7 @@
 //! The text of a run or an evaluation.
 ghost use Rattle.std.specs.Prelude.{◌≡◌, ◌++◌, ◌≤◌, ◌+◌, false, true, IfErr, IfOk, OnOk, length, map, string_bytes};
 ghost use Rattle.mpx_meaning.specs.Reports.{transcripts_of};
-ghost use Rattle.mpx_meaning.specs.Transcripts.{rank_text, text_upto};
+ghost use Rattle.mpx_meaning.specs.Transcripts.{text_upto};
 ghost use Rattle.mpx_threads.specs.Gates.{GivesUpAmong};
 ghost use Rattle.mpx_run.specs.Founded.{IsSimulated, IsThreaded, cause_of, thread_cause};
 ghost use Rattle.mpx_run.specs.Left.{IsLeftIn, transcripts_in};
@@ -12,7 +12,7 @@ use crate::follows::Follows;
 use join_core::OutOfMemory;
 use mpx_bus::{Port, drop_ports};
 use mpx_eval::eval;
-use mpx_meaning::Report;
+use mpx_meaning::{RankEnd, Report, push_lines};
 use mpx_node::{Node, drop_nodes};
 use mpx_num::{Listing, Ops};
 use mpx_script::Script;
@@ -35,8 +35,8 @@ pub struct Printed {
 /// What is left of a job that has ended: to explain it by. Of a run it is what is left of a run with the text and the end that are printed.
 #[derive(Drop)]
 pub struct Left {
-    /// The lines of each rank, of which the text is made; none of a script that is read alone.
-    pub transcripts: Vec<Vec<String>>,
+    /// How each rank ended, of whose lines the text is made; none of a script that is read alone.
+    pub ends: Vec<RankEnd>,
     /// Of a simulated run the node of each process, by its number.
     pub nodes: Vec<Node>,
     /// Of a run in threads the port of each process.
@@ -47,7 +47,7 @@ impl Left {
     /// Of a script that is read alone.
     pub(crate) fn nothing(alloc: Global) -> Left {
         Left {
-            transcripts: Vec::new(alloc),
+            ends: Vec::new(alloc),
             nodes: Vec::new(alloc),
             ports: Vec::new(alloc),
         }
@@ -55,12 +55,8 @@ impl Left {
 
     /// Drops it. A crate that does so by itself proves once more how a node is dropped.
     pub fn let_go(self) {
-        let Left {
-            transcripts,
-            nodes,
-            ports,
-        } = self;
-        drop(transcripts);
+        let Left { ends, nodes, ports } = self;
+        drop(ends);
         drop_nodes(nodes);
         drop_ports(ports);
     }
@@ -171,13 +167,9 @@ fn print_report(
 {
     match text_of(alloc, &report, ranks) {
         Ok(text) => {
-            let end = end_of(report.waiting, cause);
-            let transcripts = report.transcripts;
-            let left = Left {
-                transcripts,
-                nodes,
-                ports,
-            };
+            let Report { ends, waiting } = report;
+            let end = end_of(waiting, cause);
+            let left = Left { ends, nodes, ports };
             Ok(Printed { text, end, left })
         }
         Err(OutOfMemory) => {
@@ -195,19 +187,9 @@ fn text_of(alloc: Global, report: &Report, ranks: u8) -> Result<String, OutOfMem
 {
     let mut text = String::new(alloc);
     for p in 0..ranks {
-        push_lines(&mut text, p, report.transcripts[p as usize].as_slice())?;
+        push_lines(&mut text, p, report.ends[p as usize].lines.as_slice())?;
     }
     Ok(text)
-}
-
-// Adds the lines of a rank.
-fn push_lines(text: &mut String, rank: u8, lines: &[String]) -> Result<(), OutOfMemory>
-    ensures { OnOk result (string_bytes text.new ≡ string_bytes text.old ++ rank_text rank (map string_bytes lines.now)) }
-{
-    for line in lines {
-        write!(text, "{rank}: {line}\n")?;
-    }
-    Ok(())
 }
 
 // Whether all are done, or who waits for this cause.

@@ -3,6 +3,7 @@ ghost use Rattle.std.specs.Prelude.{◌≡◌, ◌&&◌, not};
 ghost use Rattle.mpx_shell.specs.Showing.{shown_on, shows_lines, shows_rows};
 
 use crate::progress::HowFar;
+use mpx_meaning::Line;
 use mpx_name::Name;
 use mpx_node::Node;
 use mpx_sim::{FrameSeen, Observer, Progress};
@@ -106,7 +107,7 @@ impl<C: Clock, S: Write + IsTerminal + Drop> Observer for Seen<'_, C, S> {
         }
     }
 
-    fn told(&mut self, turn: u32, rank: u8, lines: &[String]) {
+    fn told(&mut self, turn: u32, rank: u8, lines: &[Line]) {
         match self {
             Seen::Lines(trace) => trace.told(turn, rank, lines),
             Seen::Rows(table) => table.told(turn, rank, lines),

@@ -20,10 +20,9 @@ use Rattle.mpx_statement.specs.declared.statement.Statement.{Statement}
 use Rattle.mpx_statement.specs.declared.statement.Statement.TheVariants.{Post, Wait, Ask}
 use Rattle.mpx_statement.specs.Statements.{bound_to, communicator_word, started_as}
 use Rattle.mpx_statement.specs.Lookups.{named}
-use Rattle.mpx_meaning.specs.Ranks.{Bound, Communicator, NullCommunicator, Await, Do, Local, Refused, Todo, answered_by, attempt_on, bound_by, communicator_of, found_as}
+use Rattle.mpx_meaning.specs.Ranks.{Bound, Communicator, NullCommunicator, Await, Do, Local, Todo, answered_by, attempt_on, bound_by, communicator_of, found_as}
 use Rattle.mpx_meaning.specs.Evaluation.{Script, rank_goes_on}
 use Rattle.mpx_meaning.specs.Standing.{WaitView, binds, todo_of}
-use Rattle.mpx_meaning.specs.Transcripts.{line_text, outcome_text}
 use Rattle.mpx_meaning.proofs.Ends.{goes_on-at}
 use Rattle.mpx_meaning.proofs.Standing.{binds_seen}
 use Rattle.mpx_meaning.proofs.Tells.{each-me}
@@ -188,16 +187,16 @@ module _ (ops : List Operation) (script : Script) (ranks size : ℕ) (begun : Mo
   rests : (todo : List Todo) → local.todo ≡ todo → posts_of w.operations p (w.each p).made local.bound todo ≡ [] → IsMoved node
   rests todo e none = node_is ∙ ap (λ hs. ((goes_on_world w hs).each p).node) (sym (ap (posts_of w.operations p (w.each p).made local.bound) e ∙ none))
 
-  hears_next : (wait : WaitView) (outcome : Outcome) (text : List ℕ) (to : Option Name) (f : Finished) → r.waits ≡ Some wait → outcomes_on node wait.name wait.call ≡ Some outcome → text ≡ outcome_text outcome → result_on node wait.name wait.call ≡ Some f → to ≡ new_name f.outcome
-      → IsUnderWay ops script ranks size begun Alone (set processes p (record { rank = heard r wait text to; node = node; sender = c })) frames
-  hears_next wait outcome text to f waits tells said held gives =
+  hears_next : (wait : WaitView) (outcome : Outcome) (to : Option Name) (f : Finished) → r.waits ≡ Some wait → outcomes_on node wait.name wait.call ≡ Some outcome → result_on node wait.name wait.call ≡ Some f → to ≡ new_name f.outcome
+      → IsUnderWay ops script ranks size begun Alone (set processes p (record { rank = heard r wait outcome to; node = node; sender = c })) frames
+  hears_next wait outcome to f waits tells held gives =
       let answer : Answer = answer_with (births w) f.outcome in
       let b = bound_by answer.outcome answer.born in
       let there = communicator_of (Some b) in
       let known : world_tells w p wait.name wait.call ≡ Some answer = ap (λ (n : NodeView). option_map (λ (x : Finished). answer_with (births w) x.outcome) (result_on n wait.name wait.call)) (sym node_is) ∙ ap (option_map (λ (x : Finished). answer_with (births w) x.outcome)) held in
       let given : to ≡ name_of there = gives ∙ given_so f.outcome answer.born (answer_born ops script ranks run.system coupled p wait.name wait.call answer known) in
-      moves (heard r wait text to) (binds wait.target there stands.bound) node refl (names_bound r.bound stands.bound stands.names wait.target to there given)
-      (hears wait outcome text there waits refl tells said (f, held, bound_again b))
+      moves (heard r wait outcome to) (binds wait.target there stands.bound) node refl (names_bound r.bound stands.bound stands.names wait.target to there given)
+      (hears wait outcome there waits refl tells (f, held, bound_again b))
       (rests (todo_of (Some wait) r.todo) (todo_is (Some wait) r.todo waits refl) refl)
 
   module _ (posting : Posting) (rest : List Statement) (waits : r.waits ≡ None) (todo : r.todo ≡ Post posting ∷ rest) where
@@ -227,12 +226,12 @@ module _ (ops : List Operation) (script : Script) (ranks size : ℕ) (begun : Mo
         let tried : Tries (tried_on ops posting (name_of on) node) (Ok (name, call)) m = subst (λ o. Tries (tried_on ops posting o node) (Ok (name, call)) m) on_is tries in
         moves (started r word rest name call) stands.bound m refl stands.names (starts posting rest word name call waits todo open_as tried) (tried.1 ∙ tried_next)
 
-    refused_next : (refusal : PostError) (text : List ℕ) (m : NodeView) → (refusal ≡ OutOfMemory → ⊥) → Tries (tried_on ops posting (communicator_in (r.bound (communicator_word posting))) node) (Err refusal) m → text ≡ line_text (Refused refusal)
-        → IsUnderWay ops script ranks size begun Alone (set processes p (record { rank = refused r posting rest text; node = m; sender = c })) frames
-    refused_next refusal text m other tries said =
+    refused_next : (refusal : PostError) (m : NodeView) → (refusal ≡ OutOfMemory → ⊥) → Tries (tried_on ops posting (communicator_in (r.bound (communicator_word posting))) node) (Err refusal) m
+        → IsUnderWay ops script ranks size begun Alone (set processes p (record { rank = refused r posting rest refusal; node = m; sender = c })) frames
+    refused_next refusal m other tries =
         let tried : Tries (tried_on ops posting (name_of on) node) (Err refusal) m = subst (λ o. Tries (tried_on ops posting o node) (Err refusal) m) on_is tries in
-        moves (refused r posting rest text) (binds (bound_to posting) None stands.bound) m refl (names_bound r.bound stands.bound stands.names (bound_to posting) None None refl)
-        (is_refused posting rest refusal text waits todo other tried said) ((tried other).1 ∙ tried_next)
+        moves (refused r posting rest refusal) (binds (bound_to posting) None stands.bound) m refl (names_bound r.bound stands.bound stands.names (bound_to posting) None None refl)
+        (is_refused posting rest refusal waits todo other tried) ((tried other).1 ∙ tried_next)
 
   passes_next : (words : List (List ℕ)) (rest : List Statement) → r.waits ≡ None → r.todo ≡ Wait words ∷ rest → are_done (outcomes_on node) r.requests words ≡ true
       → IsUnderWay ops script ranks size begun Alone (set processes p (record { rank = waited r words rest (outcomes_on node); node = node; sender = c })) frames
@@ -254,11 +253,11 @@ module _ (ops : List Operation) (script : Script) (ranks size : ℕ) (begun : Mo
         ∙ found_there w coupled.upheld p k.0 k.1 bound.0 bound.1
         ∙ ap (λ (n : NodeView). found_as (freed_on n k.0) (Some k)) (sym node_is)
 
-  asks_next : (question : Question) (rest : List Statement) (text : List ℕ) → r.waits ≡ None → r.todo ≡ Ask question ∷ rest
-      → text ≡ line_text (answered_by r.me (λ word. found_in (λ k. freed_on node k) (λ k. known_to node k) (communicator_in (r.bound word))) question)
-      → IsUnderWay ops script ranks size begun Alone (set processes p (record { rank = answered r rest text; node = node; sender = c })) frames
-  asks_next question rest text waits todo said =
-      moves (answered r rest text) stands.bound node refl stands.names (asks question rest text waits todo (said ∙ λ i. line_text (answered_by r.me (λ word. found_so word i) question)))
+  asks_next : (question : Question) (rest : List Statement) → r.waits ≡ None → r.todo ≡ Ask question ∷ rest
+      → IsUnderWay ops script ranks size begun Alone (set processes p (record { rank = answered r rest (answered_by r.me (λ word. found_in (λ k. freed_on node k) (λ k. known_to node k) (communicator_in (r.bound word))) question); node = node; sender = c })) frames
+  asks_next question rest waits todo =
+      moves (answered r rest (answered_by r.me (λ word. found_in (λ k. freed_on node k) (λ k. known_to node k) (communicator_in (r.bound word))) question)) stands.bound node refl stands.names
+      (subst (λ line. Move (node_terms ops (births w)) seen node (with_births stands.bound (answered r rest line)) node) (λ i. answered_by r.me (λ word. sym (found_so word) i) question) (asks question rest waits todo))
       (rests (todo_of None (Ask question ∷ rest)) (todo_is None (Ask question ∷ rest) waits todo) refl)
 
 -- MOVES
@@ -273,22 +272,22 @@ module _ (ops : List Operation) (sender : SenderView) where
 
   -- a move of the rank is one of its process
   move_is : (r : RankView Name) (c : RunDesk) (s : RankView Name) (d : RunDesk) → Move (desk_terms ops) r c s d → Moves ops (beside r c) (beside s d)
-  move_is r c s d (hears wait outcome text to waits before tells said gives) =
+  move_is r c s d (hears wait outcome to waits before tells gives) =
       moves_then ops (beside r c) (beside r d) (beside s d) (hears_of r c d before)
-      (λ script ranks size begun processes frames p l at run. hears_next ops script ranks size begun processes frames p l r sender (node_of d.node) at run wait outcome text to gives.0 waits tells said gives.1 gives.2)
+      (λ script ranks size begun processes frames p l at run. hears_next ops script ranks size begun processes frames p l r sender (node_of d.node) at run wait outcome to gives.0 waits tells gives.1 gives.2)
   move_is r c s d (posts posting rest name call waits todo none tries) = λ script ranks size begun processes frames p l at run.
       posts_next ops script ranks size begun processes frames p l r sender (node_of c.node) at run posting rest waits todo name call (node_of d.node) none tries
   move_is r c s d (starts posting rest word name call waits todo open_as tries) = λ script ranks size begun processes frames p l at run.
       starts_next ops script ranks size begun processes frames p l r sender (node_of c.node) at run posting rest waits todo word name call (node_of d.node) open_as tries
-  move_is r c s d (is_refused posting rest refusal text waits todo other tries said) = λ script ranks size begun processes frames p l at run.
-      refused_next ops script ranks size begun processes frames p l r sender (node_of c.node) at run posting rest waits todo refusal text (node_of d.node) other tries said
+  move_is r c s d (is_refused posting rest refusal waits todo other tries) = λ script ranks size begun processes frames p l at run.
+      refused_next ops script ranks size begun processes frames p l r sender (node_of c.node) at run posting rest waits todo refusal (node_of d.node) other tries
   move_is r c s d (passes {mid = between} words rest waits todo before done after) =
       moves_then ops (beside r c) (beside r between) (beside s d) (hears_of r c between before)
       (moves_then ops (beside r between) (beside s between) (beside s d)
       (λ script ranks size begun processes frames p l at run. passes_next ops script ranks size begun processes frames p l r sender (node_of between.node) at run words rest waits todo done)
       (hears_of s between d after))
-  move_is r c s d (asks question rest text waits todo said) = λ script ranks size begun processes frames p l at run.
-      asks_next ops script ranks size begun processes frames p l r sender (node_of c.node) at run question rest text waits todo said
+  move_is r c s d (asks question rest waits todo) = λ script ranks size begun processes frames p l at run.
+      asks_next ops script ranks size begun processes frames p l r sender (node_of c.node) at run question rest waits todo
 
   -- without a move it harvests at most
   still_is : (r : RankView Name) (c d : RunDesk) → Still (desk_terms ops) r c d → Moves ops (beside r c) (beside r d)

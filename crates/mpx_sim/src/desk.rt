@@ -1,10 +1,10 @@
 //! The desk of a run's process: it carries the posts of the process's rank, and looks at contexts.
-ghost use Rattle.std.specs.Prelude.{◌≡◌, ◌<◌, ◌≤◌, IfOk, List, OnOk, Some, false, string_bytes, true};
+ghost use Rattle.std.specs.Prelude.{◌≡◌, ◌<◌, ◌≤◌, IfOk, List, OnOk, Some, false, true};
 ghost use Rattle.std.specs.Option.{option_copied};
 ghost use Rattle.mpx_num.specs.declared.own.Operation.{Operation};
 ghost use Rattle.mpx_node.specs.Nodes.{has_next, start_node};
 ghost use Rattle.mpx_node.specs.Shown.{node_of};
-ghost use Rattle.mpx_meaning.specs.Transcripts.{outcome_text};
+ghost use Rattle.mpx_meaning.specs.Ranks.{Told as TellsOutcome};
 ghost use Rattle.mpx_statement.specs.Statements.{gathers_of};
 ghost use Rattle.mpx_rank.specs.Shown.{requests_of};
 ghost use Rattle.mpx_sim.specs.declared.desk.Posted.{Posted as PostedView};
@@ -18,7 +18,7 @@ use crate::posts::Posts;
 use join_core::{Exact, OutOfMemory};
 use mpx_birth::Birth;
 use mpx_group::Proc;
-use mpx_meaning::line;
+use mpx_meaning::Line;
 use mpx_name::Name;
 use mpx_node::{Finished, Node};
 use mpx_num::{Listing, Ops};
@@ -176,6 +176,11 @@ impl Carrier for RunDesk {
 
     ghost terms = { desk_terms };
 
+    fn into_place(call: Posted) -> (Name, u32) {
+        let Posted { name, call } = call;
+        (name, call)
+    }
+
     fn post(
         &mut self,
         alloc: Global,
@@ -215,15 +220,17 @@ impl Carrier for RunDesk {
         ops: &Ops,
     ) -> Result<Heard<Posted, Name>, OutOfMemory> {
         if let Some(finished) = self.node.result(&call.name, call.call) {
-            let (text, given) = said(alloc, finished, &mut self.contexts)?;
-            return Ok(Heard::Told { text, given });
+            let (outcome, given) = said(alloc, finished, &mut self.contexts)?;
+            let line = told_line(call, outcome);
+            return Ok(Heard::Told { line, given });
         }
         harvest_to(alloc, &mut self.node, &call.name, call.call, ops)?;
         let Some(finished) = self.node.result(&call.name, call.call) else {
             return Ok(Heard::NotYet(call));
         };
-        let (text, given) = said(alloc, finished, &mut self.contexts)?;
-        Ok(Heard::Told { text, given })
+        let (outcome, given) = said(alloc, finished, &mut self.contexts)?;
+        let line = told_line(call, outcome);
+        Ok(Heard::Told { line, given })
     }
 
     fn known<'m>(&'m self, communicator: &'m Name, _ops: &Ops) -> Option<(&'m Name, &'m Birth)> {
@@ -242,19 +249,31 @@ impl Carrier for RunDesk {
     ghost stays_told = { stays_told };
 }
 
-// The outcome of a result as a line, and the name of the communicator that the call gave, which is looked at from now on.
+// The line that tells a call's outcome.
+fn told_line(call: Posted, outcome: Outcome) -> Line
+    ensures { result ≡ TellsOutcome call.name call.call outcome }
+{
+    let Posted { name, call } = call;
+    Line::Told {
+        name,
+        call,
+        outcome,
+    }
+}
+
+// The outcome of a result, and the name of the communicator that the call gave, which is looked at from now on.
 fn said(
     alloc: Global,
     finished: &Finished,
     contexts: &mut Vec<Name>,
-) -> Result<(String, Option<Name>), OutOfMemory>
-    ensures text { IfOk result (λ said. string_bytes said.0 ≡ outcome_text finished.now.outcome) }
+) -> Result<(Outcome, Option<Name>), OutOfMemory>
+    ensures outcome { IfOk result (λ said. said.0 ≡ finished.now.outcome) }
     ensures given { IfOk result (λ said. said.1 ≡ new_name finished.now.outcome) }
 {
-    let text = line(alloc, &finished.outcome)?;
+    let outcome = finished.outcome.copy(alloc)?;
     let given = new_name(alloc, &finished.outcome)?;
     look_at_given(alloc, contexts, &given)?;
-    Ok((text, given))
+    Ok((outcome, given))
 }
 
 // The name of the communicator that a call gave, where it gave one.
@@ -371,12 +390,7 @@ fn harvest_to(
 }
 
 // Stores the results of a context until no further one can be had.
-fn harvest_all(
-    alloc: Global,
-    node: &mut Node,
-    name: &Name,
-    ops: &Ops,
-) -> Result<(), OutOfMemory>
+fn harvest_all(alloc: Global, node: &mut Node, name: &Name, ops: &Ops) -> Result<(), OutOfMemory>
     ensures { OnOk result (Harvests (⟦<Ops as Listing>⟧.operations ops.now) (node_of node.old) (node_of node.new)) }
 {
     node.harvest_all(alloc, name, ops)

@@ -1,5 +1,6 @@
 //! Who looks on at a run.
 
+use mpx_meaning::Line;
 use mpx_name::Name;
 use mpx_node::Node;
 
@@ -59,7 +60,7 @@ pub trait Observer: Drop {
     fn posted(&mut self, _turn: u32, _rank: u8, _name: &Name, _call: u32, _statement: usize) {}
 
     /// A rank has new lines in this turn, from 1 on, be it the one that ends the run: all its lines so far.
-    fn told(&mut self, _turn: u32, _rank: u8, _lines: &[String]) {}
+    fn told(&mut self, _turn: u32, _rank: u8, _lines: &[Line]) {}
 
     /// Whether it is to be told how far a run in threads is.
     fn follows_threads(&self) -> bool {

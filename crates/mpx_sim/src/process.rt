@@ -1,5 +1,5 @@
 //! A process of a run: a rank, which goes on with its statements, or a relay, which has none.
-ghost use Rattle.std.specs.Prelude.{◌≡◌, ◌<◌, ◌≤◌, List, IfOk, OnOk, Some, false, map, slice_get, string_bytes, true, ℕ};
+ghost use Rattle.std.specs.Prelude.{◌≡◌, ◌<◌, ◌≤◌, List, IfOk, OnOk, Some, false, map, slice_get, true, ℕ};
 ghost use Rattle.mpx_num.specs.declared.own.Operation.{Operation};
 ghost use Rattle.mpx_board.specs.Boards.{join_all};
 ghost use Rattle.mpx_node.specs.Deltas.{AreLacked, lacking_on};
@@ -21,6 +21,7 @@ use crate::start::world_of;
 use join_core::OutOfMemory;
 use mpx_board::Board;
 use mpx_group::Proc;
+use mpx_meaning::{Line, RankEnd};
 use mpx_node::Node;
 use mpx_num::{Listing, Ops};
 use mpx_rank::Interpreter;
@@ -42,7 +43,9 @@ pub(crate) struct Process<'a> {
 impl<'a> Process<'a> {
     ghost use Rattle.mpx_board.specs.Looks.{look};
     ghost use Rattle.mpx_node.specs.Nodes.{start_node};
+    ghost use Rattle.mpx_meaning.specs.Ends.{end_view};
     ghost use Rattle.mpx_rank.specs.Moves.{is_waiting};
+    ghost use Rattle.mpx_rank.specs.Places.{end_of_rank};
     ghost use Rattle.mpx_sim.specs.Ends.{Lacks};
     ghost use Rattle.mpx_sim.specs.Running.{Keeps, Moves};
     ghost use Rattle.mpx_sim.specs.SideBySide.{GoesOn, IsReady, Makes, taken, took};
@@ -358,7 +361,7 @@ impl<'a> Process<'a> {
     }
 
     /// Its lines so far.
-    pub(crate) fn lines(&self) -> &[String] {
+    pub(crate) fn lines(&self) -> &[Line] {
         self.rank.lines()
     }
 
@@ -387,12 +390,13 @@ impl<'a> Process<'a> {
         self.rank.is_waiting()
     }
 
-    /// Its node, and its lines.
-    pub(crate) fn into_parts(self) -> (Node, Vec<String>)
-        ensures node { node_of result.0 ≡ (process_of self.entry).node }
-        ensures lines { map string_bytes result.1.items ≡ (process_of self.entry).rank.lines }
+    /// Its node, and how its rank ends.
+    pub(crate) fn into_parts(self, alloc: Global) -> Result<(Node, RankEnd), OutOfMemory>
+        ensures node { IfOk result (λ parts. node_of parts.0 ≡ (process_of self.entry).node) }
+        ensures end { IfOk result (λ parts. end_view parts.1 ≡ end_of_rank (process_of self.entry).rank) }
     {
         let Process { carrier, rank, .. } = self;
-        (carrier.into_node(), rank.lines)
+        let end = rank.into_end(alloc)?;
+        Ok((carrier.into_node(), end))
     }
 }

@@ -3,7 +3,8 @@ ghost use Rattle.std.specs.Prelude.{◌≡◌, ◌++◌, ◌<◌, ◌≤◌, ◌
 ghost use Rattle.mpx_node.specs.Shown.{node_of};
 ghost use Rattle.mpx_meaning.specs.Evaluation.{State};
 ghost use Rattle.mpx_meaning.specs.Reports.{transcripts_of, which};
-ghost use Rattle.mpx_meaning.specs.Transcripts.{as_text};
+ghost use Rattle.mpx_meaning.specs.Ends.{end_view};
+ghost use Rattle.mpx_rank.specs.Places.{end_of_rank};
 ghost use Rattle.mpx_system.specs.Runs.{AreAll, AreWhole, Begin, IsEvaluationOf, IsOver, IsRun};
 ghost use Rattle.mpx_sim.specs.Ends.{AllMadeOr, nodes_of};
 ghost use Rattle.mpx_sim.specs.Running.{ProcessView, is_waiting_at};
@@ -14,10 +15,9 @@ use crate::observer::{Observer, Unobserved};
 use crate::process::Process;
 use crate::turns::simulate;
 use join_core::OutOfMemory;
-use mpx_meaning::Report;
+use mpx_meaning::{RankEnd, Report, push_where};
 use mpx_node::{Node, drop_nodes};
 use mpx_num::{Listing, Ops};
-use mpx_rank::push_where;
 use mpx_script::Script;
 use mpx_statement::Options;
 use std::alloc::Global;
@@ -100,13 +100,10 @@ pub fn run_sim_observed<R: Threads + Sync>(
     let (processes, turns) = ran?;
     let ranks = script.ranks();
     let waiting = waiting_of(alloc, processes.as_slice(), ranks)?;
-    let (mut transcripts, nodes) = parts_of(alloc, processes)?;
-    transcripts.truncate(ranks as usize);
+    let (mut ends, nodes) = parts_of(alloc, processes)?;
+    ends.truncate(ranks as usize);
     Ok(Run {
-        report: Report {
-            transcripts,
-            waiting,
-        },
+        report: Report { ends, waiting },
         nodes,
         turns,
     })
@@ -124,33 +121,34 @@ fn waiting_of(alloc: Global, processes: &[Process<'_>], ranks: u8) -> Result<Vec
     Ok(waiting)
 }
 
-// The lines and the node of each process.
+// How each process's rank ends, and its node.
 fn parts_of(
     alloc: Global,
     processes: Vec<Process<'_>>,
-) -> Result<(Vec<Vec<String>>, Vec<Node>), OutOfMemory>
-    ensures lines { IfOk result (λ parts. map as_text parts.0.items ≡ map (λ (v : ProcessView). v.rank.lines) (map process_of processes.entry.items)) }
+) -> Result<(Vec<RankEnd>, Vec<Node>), OutOfMemory>
+    ensures ends { IfOk result (λ parts. map end_view parts.0.items ≡ map (λ (v : ProcessView). end_of_rank v.rank) (map process_of processes.entry.items)) }
     ensures nodes { IfOk result (λ parts. map node_of parts.1.items ≡ nodes_of (map process_of processes.entry.items)) }
 {
-    let mut transcripts = Vec::new(alloc);
+    let mut ends = Vec::new(alloc);
     let mut nodes = Vec::new(alloc);
     for process in processes {
-        push_parts(process, &mut transcripts, &mut nodes)?;
+        push_parts(alloc, process, &mut ends, &mut nodes)?;
     }
-    Ok((transcripts, nodes))
+    Ok((ends, nodes))
 }
 
-// Adds the lines and the node of a process.
+// Adds the end and the node of a process.
 fn push_parts(
+    alloc: Global,
     process: Process<'_>,
-    transcripts: &mut Vec<Vec<String>>,
+    ends: &mut Vec<RankEnd>,
     nodes: &mut Vec<Node>,
 ) -> Result<(), OutOfMemory>
-    ensures lines { OnOk result (map as_text transcripts.new.items ≡ map as_text transcripts.old.items ++ (process_of process.entry).rank.lines ∷ []) }
+    ensures ends { OnOk result (map end_view ends.new.items ≡ map end_view ends.old.items ++ end_of_rank (process_of process.entry).rank ∷ []) }
     ensures nodes { OnOk result (map node_of nodes.new.items ≡ map node_of nodes.old.items ++ (process_of process.entry).node ∷ []) }
 {
-    let (node, lines) = process.into_parts();
-    transcripts.push(lines)?;
+    let (node, end) = process.into_parts(alloc)?;
+    ends.push(end)?;
     nodes.push(node)?;
     Ok(())
 }

@@ -1,9 +1,10 @@
 -- A rank whose desk is a thread's comes where its script leads by the plan's posts.
 use Rattle.std.proofs.Common.{◌≡◌, ℕ, zero, suc, ◌+◌, Bool, true, false, cond, List, [], ◌∷◌, ◌++◌, codes, take, Option, Some, None, refl, sym, ap, ◌∙◌, subst, arith}
-use Rattle.std.specs.Prelude.{slice_get, bytes_eq, is_some, ◌||◌, Ok, if◌then◌else◌}
+use Rattle.std.specs.Prelude.{slice_get, bytes_eq, Ok, if◌then◌else◌}
 use Rattle.std.specs.Option.{option_map}
 use Rattle.mpx_num.specs.declared.own.Operation.{Operation}
 use Rattle.mpx_name.specs.Name.{Name}
+use Rattle.mpx_value.specs.declared.outcomes.Outcome.{Outcome}
 use Rattle.mpx_value.specs.Histories.{Answer, Made, Results, has_freed}
 use Rattle.mpx_statement.specs.declared.statement.Posting.{Posting}
 use Rattle.mpx_statement.specs.declared.statement.Statement.{Statement}
@@ -13,26 +14,33 @@ use Rattle.mpx_statement.specs.Lookups.{named}
 use Rattle.mpx_meaning.specs.Ranks.{Communicator, Do, Local, attempt, communicator_of, doing, done, next_call, step}
 use Rattle.mpx_meaning.specs.Evaluation.{known, start_state, statements_of, world_of, IsPrefixOf}
 use Rattle.mpx_meaning.specs.Going.{Goes, stays, moves}
-use Rattle.mpx_meaning.specs.Standing.{WaitView, has_statements, todo_of}
-use Rattle.mpx_meaning.specs.Reports.{is_left}
+use Rattle.mpx_meaning.specs.Ends.{EndView}
+use Rattle.mpx_meaning.specs.Standing.{todo_of}
 use Rattle.mpx_meaning.proofs.Going.{goes-adds, goes-there}
 use Rattle.mpx_meaning.proofs.Steps.{posted, started, step_posts, step_starts}
 use Rattle.mpx_bus.specs.declared.act.Setup.{Setup}
 use Rattle.mpx_bus.specs.Rule.{planned_posts}
 use Rattle.mpx_rank.specs.Carriers.{IsToldWithin, Terms, outcomes_of}
-use Rattle.mpx_rank.specs.Moves.{GoesOn, MayGo, RankView, bound_first, communicator_in, is_waiting}
-use Rattle.mpx_rank.specs.Places.{CommunicatorView, StandsInScript, attempt_by, bound_as}
-use Rattle.mpx_rank.specs.Shown.{place_of}
+use Rattle.mpx_rank.specs.Moves.{GoesOn, MayGo, RankView, bound_first, communicator_in}
+use Rattle.mpx_rank.specs.Places.{CommunicatorView, StandsInScript, attempt_by, bound_as, end_of_rank}
+use Rattle.mpx_rank.proofs.Ending.{end_stands}
 use Rattle.mpx_rank.proofs.Stepping.{Came, GoesBy, StaysTold, goes_on_goes, ran_goes}
 use Rattle.mpx_rank.proofs.Words.{attempt_same, bound_there, communicator_same}
 use Rattle.mpx_script.specs.ScriptView.{ScriptView}
 use Rattle.mpx_threads.specs.declared.told.ToldCall.{ToldCall}
 use Rattle.mpx_threads.specs.Plans.{Plans, planned_results}
-use Rattle.mpx_threads.specs.Rest.{AreAwaited}
 use Rattle.mpx_threads.specs.ToldCalls.{DeskView, MayPost, first_posts, is_among, thread_terms, told_more, told_of}
 use Rattle.mpx_threads.specs.Work.{HasCome}
 use Rattle.mpx_threads.proofs.Plans.{births_are, planned_is, posts_are, results_are}
-use Rattle.mpx_threads.proofs.Resting.{waited_for}
+
+-- TOLD
+
+-- what was told is the plan's
+planned_told : (known : Results) (ts : List ToldCall) (name : Name) (call : ℕ) (outcome : Outcome) → outcomes_of (told_of known ts) name call ≡ Some outcome → outcomes_of known name call ≡ Some outcome
+planned_told known ts name call outcome e = by_test (is_among ts name call) e where
+  by_test : (b : Bool) → option_map (λ (a : Answer). a.outcome) (cond b (known name call) None) ≡ Some outcome → option_map (λ (a : Answer). a.outcome) (known name call) ≡ Some outcome
+  by_test true f = f
+  by_test false f = cc f
 
 -- LISTS
 
@@ -160,25 +168,17 @@ module _ (script : ScriptView) (relays : ℕ) (setup : Setup) (plan : Plans scri
         let came : Came setup.operations terms by me first c Fits s d = ran_goes setup.operations terms by me Fits goes_by r first me_is refl stands c s d moved fits_first ran in
         (whole, (lent, may_post came.to d came.fits s came.stands came.local_me posting rest waits todo))
 
-    pub has_come : (s : RankView CommunicatorView) (d : DeskView) (moved : Bool) → GoesOn terms r c s d moved → (lines : List (List ℕ)) (left : Bool) (calls : List (Name × ℕ)) → lines ≡ s.lines → left ≡ is_waiting s → AreAwaited (option_map place_of s.waits) s.requests s.todo calls → HasCome script setup me d.0 d.1 lines left calls
-    has_come s d moved on lines left calls lines_are waits_is awaited =
+    pub has_come : (s : RankView CommunicatorView) (d : DeskView) (moved : Bool) → GoesOn terms r c s d moved → (end : EndView) → end ≡ end_of_rank s → HasCome script setup me d.1 end
+    has_come s d moved on end is =
         let came : Came setup.operations terms by me first c Fits s d = goes_on_goes setup.operations terms by me Fits goes_by r first me_is refl stands c s d moved fits_first on in
         let count : before + d.1 ≡ d.1 = omega (arith, none) in
         record {
           to = came.to;
           goes = came.fits.goes;
-          lines_are = lines_are ∙ came.stands.lines;
-          waits_is = waits_is ∙ left_is s came.to came.stands;
-          calls_are = waited_for s came.to came.stands calls awaited;
+          end_is = is ∙ end_stands s came.to came.stands;
           made_is = came.fits.made ∙ ap (first_posts setup me) count;
-          tells = came.tells stay (λ i name call outcome e. cc e);
-        } where
-          left_is : (s : RankView CommunicatorView) (to : Local) → StandsInScript s to → is_waiting s ≡ is_left to.todo
-          left_is s to stands = by_wait s.waits s.todo ∙ ap is_left (sym stands.todo) where
-            by_wait : (w : Option WaitView) (rest : List Statement) → (is_some w || has_statements rest) ≡ is_left (todo_of w rest)
-            by_wait (Some w) rest = refl
-            by_wait None [] = refl
-            by_wait None (x ∷ rest) = refl
+          tells = λ i name call outcome e. planned_told (planned_results setup me) d.0 name call outcome (came.tells stay (λ i name call outcome e. cc e) i name call outcome e);
+        }
 
 -- THE START
 

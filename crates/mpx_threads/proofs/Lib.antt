@@ -7,6 +7,6 @@ pub mod Resting
 pub mod Reporting
 pub mod Telling
 pub mod Posting
-pub mod Calls
+pub mod Asked
 pub mod Jobs
 pub mod Asking

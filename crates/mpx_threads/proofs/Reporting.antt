@@ -1,6 +1,6 @@
 -- What all processes of a run come to together.
 use Rattle.std.proofs.Common.{◌≡◌, ℕ, ◌<◌, ◌≤◌, ◌⊎◌, Bool, List, [], length, map, take, true, false, Some, None, refl, sym, ap, ◌∙◌, subst, inl, inr, arith}
-use Rattle.std.specs.Prelude.{slice_get}
+use Rattle.std.specs.Prelude.{slice_get, is_some}
 use Rattle.std.proofs.lemmas.List.{length-map}
 use Rattle.std.specs.Option.{option_map}
 use Rattle.std.proofs.lemmas.Option.{same_Some, slice_get-map}
@@ -14,7 +14,9 @@ use Rattle.mpx_script.specs.ScriptView.{ScriptView}
 use Rattle.mpx_meaning.specs.Ranks.{Local, step}
 use Rattle.mpx_meaning.specs.Evaluation.{IsEvaluation, IsPrefixOf, State, known, start_state}
 use Rattle.mpx_meaning.specs.Going.{Goes, stays}
-use Rattle.mpx_meaning.specs.Reports.{is_left, waiting_in, which, lines_in as lines_of}
+use Rattle.mpx_meaning.specs.declared.end.RankEnd.{RankEnd}
+use Rattle.mpx_meaning.specs.Ends.{EndView, end_of, end_view, waiting_among, waits_at_view}
+use Rattle.mpx_meaning.specs.Reports.{end_text, is_left, waiting_in, lines_in as lines_of}
 use Rattle.mpx_meaning.specs.Transcripts.{line_text}
 use Rattle.mpx_meaning.proofs.Ahead.{confluent}
 use Rattle.mpx_meaning.proofs.Ends.{start_quiet}
@@ -22,12 +24,14 @@ use Rattle.mpx_meaning.proofs.Going.{goes-adds, goes-whole}
 use Rattle.mpx_meaning.proofs.Steps.{step_ends}
 use Rattle.mpx_system.specs.Runs.{AreAll, AreWhole, Begin}
 use Rattle.mpx_system.proofs.Results.{length_taken, mapped_at, nothing_left, prefix_map, some_at, taken_at, which_has}
-use Rattle.mpx_meaning.proofs.Reports.{which_same}
+use Rattle.mpx_meaning.proofs.Reports.{is_some-mapped, lines-said, waiting-left, waits-left}
 use Rattle.mpx_threads.specs.declared.worker.Worked.{Worked}
 use Rattle.mpx_threads.specs.Plans.{setup_by}
-use Rattle.mpx_threads.specs.Rest.{AreAtRest, AreWaitedFor, HaveBoardInCommon, HaveComeToRest, Lacks, LacksOne}
+use Rattle.mpx_statement.specs.Lookups.{named}
+use Rattle.mpx_threads.specs.Rest.{AreAtRest, AreWaitedFor, HaveBoardInCommon, HaveComeToRest, Lacks, LacksOne, calls_in}
 use Rattle.mpx_threads.specs.ThreadRuns.{IsDone, IsThreadRun}
-use Rattle.mpx_threads.specs.Work.{AreWorked, HasWorked, lines_in, waits_at}
+use Rattle.mpx_threads.specs.Work.{AreWorked, HasWorked}
+use Rattle.mpx_threads.proofs.Asked.{waited_for}
 use Rattle.mpx_threads.proofs.Plans.{lt_or_ge}
 use Rattle.mpx_threads.proofs.Resting.{HoldsPosts, at_end, needs_it, unknown}
 
@@ -43,11 +47,11 @@ module _ (script : ScriptView) (relays : ℕ) (setup : Setup) (table : TableId) 
   -- the rank stands there
   record IsAt (p : ℕ) (w : Worked) (s : Local) : Type 0 where
     done : IsDone setup.operations script end p w.port s
-    lines : lines_in w ≡ map line_text s.lines
-    waits : w.waits ≡ is_left s.todo
-    calls : AreWaitedFor s w.calls.items
+    ends : end_view w.end ≡ end_of s
+    waits : is_some w.end.waits ≡ is_left s.todo
+    calls : AreWaitedFor s (calls_in (end_view w.end))
 
-  worked_at : (p : ℕ) → p < script.ranks → (w : Worked) × ((slice_get ws p ≡ Some w) × HasWorked script relays setup p w.port (lines_in w) w.waits w.calls.items)
+  worked_at : (p : ℕ) → p < script.ranks → (w : Worked) × ((slice_get ws p ≡ Some w) × HasWorked script relays setup p w.port (end_view w.end))
   worked_at p l = let found = some_at ws p (omega (arith, l, are.count)) in (found.0, (found.1, (are.each p found.0 found.1).rank l))
 
   abbrev local_by : (p : ℕ) → (p < script.ranks) ⊎ (script.ranks ≤ p) → Local
@@ -62,7 +66,12 @@ module _ (script : ScriptView) (relays : ℕ) (setup : Setup) (table : TableId) 
   at_by p w e less (inl l) =
       let found = worked_at p l in
       let same : found.0 ≡ w = same_Some found.0 w (sym found.1.0 ∙ e) in
-      subst (λ v. IsAt p v found.1.1.to) same (record { done = found.1.1.done are.plan; lines = found.1.1.lines_are; waits = found.1.1.waits_is; calls = found.1.1.calls_are })
+      subst (λ v. IsAt p v found.1.1.to) same (record {
+        done = found.1.1.done are.plan;
+        ends = found.1.1.end_is;
+        waits = sym (is_some-mapped waits_at_view found.0.end.waits) ∙ ap (λ (x : EndView). is_some x.waits) found.1.1.end_is ∙ waits-left (named found.1.1.to.requests) found.1.1.to.todo;
+        calls = subst (λ (x : EndView). AreWaitedFor found.1.1.to (calls_in x)) (sym found.1.1.end_is) (waited_for found.1.1.to);
+      })
 
   at_local : (p : ℕ) (w : Worked) → slice_get ws p ≡ Some w → p < script.ranks → IsAt p w (local p)
   at_local p w e l = at_by p w e l (lt_or_ge p script.ranks)
@@ -83,7 +92,7 @@ module _ (script : ScriptView) (relays : ℕ) (setup : Setup) (table : TableId) 
   local_past : (p : ℕ) → script.ranks ≤ p → local p ≡ start_state script.statements script.ranks p
   local_past p g = past_by p g (lt_or_ge p script.ranks)
 
-  none_left : (p : ℕ) → p < script.ranks → (w : Worked) → slice_get ws p ≡ Some w → w.waits ≡ false → (local p).todo ≡ []
+  none_left : (p : ℕ) → p < script.ranks → (w : Worked) → slice_get ws p ≡ Some w → is_some w.end.waits ≡ false → (local p).todo ≡ []
   none_left p l w e idle =
       let none : is_left (local p).todo ≡ false = sym (at_local p w e l).waits ∙ idle in
       nothing_left (local p).todo (λ left. let never : true ≡ false = sym left ∙ none in cc never)
@@ -92,10 +101,10 @@ module _ (script : ScriptView) (relays : ℕ) (setup : Setup) (table : TableId) 
     abbrev holds_at : (p : ℕ) → p < script.ranks → HoldsPosts table setup p (local p)
     holds_at p l = let found = worked_at p l in record { port = found.0.port; lawful = (are.each p found.0 found.1.0).lawful; posts = (at_local p found.0 found.1.0 l).done.posts }
 
-    ended : (p : ℕ) → p < script.ranks → (w : Worked) → slice_get ws p ≡ Some w → w.waits ≡ false → step setup.operations (known setup.operations script.ranks local p) (local p) ≡ None
+    ended : (p : ℕ) → p < script.ranks → (w : Worked) → slice_get ws p ≡ Some w → is_some w.end.waits ≡ false → step setup.operations (known setup.operations script.ranks local p) (local p) ≡ None
     ended p l w e idle = step_ends setup.operations (known setup.operations script.ranks local p) (local p) (none_left p l w e idle)
 
-    lacking : HaveBoardInCommon script.ranks ws → (p : ℕ) (l : p < script.ranks) → LacksOne (node_in (holds_at p l).port) (worked_at p l).0.calls.items → step setup.operations (known setup.operations script.ranks local p) (local p) ≡ None
+    lacking : HaveBoardInCommon script.ranks ws → (p : ℕ) (l : p < script.ranks) → LacksOne (node_in (holds_at p l).port) (calls_in (end_view (worked_at p l).0.end)) → step setup.operations (known setup.operations script.ranks local p) (local p) ≡ None
     lacking one p l o =
         let found = worked_at p l in
         let call : Name × ℕ = o.1.0 in
@@ -124,19 +133,31 @@ module _ (script : ScriptView) (relays : ℕ) (setup : Setup) (table : TableId) 
     at_its_end : local ≡ end
     at_its_end = at_end setup.operations script.statements script.ranks end are.plan.evaluation local come stuck
 
-  module _ (ports : List PortView) (said : List (List (List ℕ))) (waiting : List ℕ) (ports_are : ports ≡ map (λ (w : Worked). w.port) ws) (lines_are : said ≡ take script.ranks (map lines_in ws)) (waiting_are : waiting ≡ which (λ p. waits_at (slice_get ws p)) script.ranks) where
+  module _ (ports : List PortView) (ends : List RankEnd) (waiting : List ℕ) (ports_are : ports ≡ map (λ (w : Worked). w.port) ws) (ends_are : ends ≡ take script.ranks (map (λ (w : Worked). w.end) ws)) (waiting_are : waiting ≡ waiting_among (map end_view ends)) where
     port_at : (p : ℕ) (port : PortView) → slice_get ports p ≡ Some port → (w : Worked) × (slice_get ws p ≡ Some w) × (w.port ≡ port)
     port_at p port e = mapped_at (λ (w : Worked). w.port) ws p port (ap (λ xs. slice_get xs p) (sym ports_are) ∙ e)
 
+    abbrev said : List (List (List ℕ))
+    said = map end_text ends
+
+    -- each of these ends is that of a rank that has worked
+    ended_at : (p : ℕ) (e : RankEnd) → slice_get ends p ≡ Some e → (p < script.ranks) × (end_view e ≡ end_of (local p))
+    ended_at p e f =
+        let taken = taken_at script.ranks (map (λ (w : Worked). w.end) ws) p e (ap (λ xs. slice_get xs p) (sym ends_are) ∙ f) in
+        let found = mapped_at (λ (w : Worked). w.end) ws p e taken.1 in
+        (taken.0, ap end_view (sym found.2) ∙ (at_local p found.0 found.1 taken.0).ends)
+
+    each_end : (p : ℕ) (e : EndView) → slice_get (map end_view ends) p ≡ Some e → e ≡ end_of (local p)
+    each_end p e f = let found = mapped_at end_view ends p e f in sym found.2 ∙ (ended_at p found.0 found.1).1
+
     lines_at : (p : ℕ) (lines : List (List ℕ)) → slice_get said p ≡ Some lines → (p < script.ranks) × (lines ≡ lines_of local p)
-    lines_at p lines e =
-        let taken = taken_at script.ranks (map lines_in ws) p lines (ap (λ xs. slice_get xs p) (sym lines_are) ∙ e) in
-        let found = mapped_at lines_in ws p lines taken.1 in
-        (taken.0, sym found.2 ∙ (at_local p found.0 found.1 taken.0).lines)
+    lines_at p lines e = let found = mapped_at end_text ends p lines e in ((ended_at p found.0 found.1).0, lines-said ends local each_end p lines e)
+
+    count : length ends ≡ script.ranks
+    count = ap length ends_are ∙ length_taken script.ranks (map (λ (w : Worked). w.end) ws) (omega (arith, length-map ws (λ (w : Worked). w.end), are.count))
 
     waiting_so : waiting ≡ waiting_in local script.ranks
-    waiting_so = waiting_are ∙ which_same (λ p. waits_at (slice_get ws p)) (λ p. is_left (local p).todo) script.ranks (λ p l.
-        let found = worked_at p l in ap waits_at found.1.0 ∙ (at_local p found.0 found.1.0 l).waits)
+    waiting_so = waiting_are ∙ waiting-left (map end_view ends) local each_end ∙ ap (waiting_in local) (length-map ends end_view ∙ count)
 
     -- the port of a process that has worked
     there : (p : ℕ) (w : Worked) → slice_get ws p ≡ Some w → slice_get ports p ≡ Some w.port
@@ -184,7 +205,7 @@ module _ (script : ScriptView) (relays : ℕ) (setup : Setup) (table : TableId) 
       relays_post_nothing = λ p port e past. let found = port_at p port e in ap made_in (sym found.2) ∙ (are.each p found.0 found.1).relay past;
       ranks = local;
       done = λ p port e l. let found = port_at p port e in subst (λ b. IsDone setup.operations script end p b (local p)) found.2 (at_local p found.0 found.1 l).done;
-      ranks_are = ap length lines_are ∙ length_taken script.ranks (map lines_in ws) (omega (arith, length-map ws lines_in, are.count));
+      ranks_are = length-map ends end_text ∙ count;
       lines = λ p lines e. (lines_at p lines e).1;
       waiting_are = waiting_so;
       rest = (λ e. ports_rest (so e), λ at. told_so rests (λ e. never e (worked_rest at)));
@@ -216,18 +237,21 @@ module _ (script : ScriptView) (relays : ℕ) (setup : Setup) (table : TableId) 
 
 -- the same by the operations that are lent, which are the setup's
 module _ (ops : List Operation) (script : ScriptView) (relays : ℕ) (setup : Setup) (table : TableId) (ws : List Worked) (are : AreWorked script relays setup table ws) (lent : ops ≡ setup.operations)
-    (ports : List PortView) (said : List (List (List ℕ))) (waiting : List ℕ) (ports_are : ports ≡ map (λ (w : Worked). w.port) ws) (lines_are : said ≡ take script.ranks (map lines_in ws)) (waiting_are : waiting ≡ which (λ p. waits_at (slice_get ws p)) script.ranks) where
+    (ports : List PortView) (ends : List RankEnd) (waiting : List ℕ) (ports_are : ports ≡ map (λ (w : Worked). w.port) ws) (ends_are : ends ≡ take script.ranks (map (λ (w : Worked). w.end) ws)) (waiting_are : waiting ≡ waiting_among (map end_view ends)) where
+  abbrev said_lent : List (List (List ℕ))
+  said_lent = map end_text ends
+
   by_setup : (evaluation : State) → IsEvaluation ops script.statements script.ranks evaluation → IsEvaluation setup.operations script.statements script.ranks evaluation
   by_setup evaluation is = subst (λ o. IsEvaluation o script.statements script.ranks evaluation) lent is
 
-  pub run_lent : (rests : Bool) → (rests ≡ true → HaveComeToRest script.ranks ws) → (rests ≡ false → HaveComeToRest script.ranks ws → ⊥) → IsThreadRun ops script relays table ports said waiting rests
-  run_lent rests so never = subst (λ o. IsThreadRun o script relays table ports said waiting rests) (sym lent) (is_thread_run script relays setup table ws are ports said waiting ports_are lines_are waiting_are rests so never)
+  pub run_lent : (rests : Bool) → (rests ≡ true → HaveComeToRest script.ranks ws) → (rests ≡ false → HaveComeToRest script.ranks ws → ⊥) → IsThreadRun ops script relays table ports said_lent waiting rests
+  run_lent rests so never = subst (λ o. IsThreadRun o script relays table ports said_lent waiting rests) (sym lent) (is_thread_run script relays setup table ws are ports ends waiting ports_are ends_are waiting_are rests so never)
 
-  pub begins_lent : (evaluation : State) → IsEvaluation ops script.statements script.ranks evaluation → Begin said evaluation
-  begins_lent evaluation is = begins script relays setup table ws are ports said waiting ports_are lines_are waiting_are evaluation (by_setup evaluation is)
+  pub begins_lent : (evaluation : State) → IsEvaluation ops script.statements script.ranks evaluation → Begin said_lent evaluation
+  begins_lent evaluation is = begins script relays setup table ws are ports ends waiting ports_are ends_are waiting_are evaluation (by_setup evaluation is)
 
-  pub whole_lent : (evaluation : State) → IsEvaluation ops script.statements script.ranks evaluation → AreWhole said waiting evaluation
-  whole_lent evaluation is = are_whole script relays setup table ws are ports said waiting ports_are lines_are waiting_are evaluation (by_setup evaluation is)
+  pub whole_lent : (evaluation : State) → IsEvaluation ops script.statements script.ranks evaluation → AreWhole said_lent waiting evaluation
+  whole_lent evaluation is = are_whole script relays setup table ws are ports ends waiting ports_are ends_are waiting_are evaluation (by_setup evaluation is)
 
-  pub all_lent : HaveComeToRest script.ranks ws → (evaluation : State) → IsEvaluation ops script.statements script.ranks evaluation → AreAll said waiting script.ranks evaluation
-  all_lent rest evaluation is = are_all script relays setup table ws are ports said waiting ports_are lines_are waiting_are evaluation (by_setup evaluation is) rest
+  pub all_lent : HaveComeToRest script.ranks ws → (evaluation : State) → IsEvaluation ops script.statements script.ranks evaluation → AreAll said_lent waiting script.ranks evaluation
+  all_lent rest evaluation is = are_all script relays setup table ws are ports ends waiting ports_are ends_are waiting_are evaluation (by_setup evaluation is) rest

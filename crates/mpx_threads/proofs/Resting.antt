@@ -24,12 +24,10 @@ use Rattle.mpx_shared.proofs.LawfulPorts.{lawful_birth, lawful_gone, lawful_stor
 use Rattle.mpx_shared.proofs.Plans.{birth_is_planned}
 use Rattle.mpx_script.specs.ScriptView.{ScriptView}
 use Rattle.mpx_statement.specs.declared.statement.Statement.{Statement}
-use Rattle.mpx_statement.specs.declared.statement.Statement.TheVariants.{Wait}
 use Rattle.mpx_statement.specs.Lookups.{named}
-use Rattle.mpx_meaning.specs.Ranks.{Await, Do, Local, answers, awaited_by, doing, step}
-use Rattle.mpx_meaning.specs.Evaluation.{IsEvaluation, IsPrefixOf, State, history, known, move, moves as moves_of, start_state, statements_of}
+use Rattle.mpx_meaning.specs.Ranks.{Local, answers, awaited_by, step}
+use Rattle.mpx_meaning.specs.Evaluation.{IsEvaluation, IsPrefixOf, State, history, known, move, moves as moves_of, start_state}
 use Rattle.mpx_meaning.specs.Going.{Goes, stays, moves}
-use Rattle.mpx_meaning.specs.Standing.{WaitView, todo_of}
 use Rattle.mpx_meaning.proofs.Ahead.{goes_on_cases}
 use Rattle.mpx_meaning.proofs.Fronts.{history-grows, prefix_trans}
 use Rattle.mpx_meaning.proofs.Going.{goes-adds}
@@ -38,13 +36,11 @@ use Rattle.mpx_meaning.proofs.Steps.{step_stays, step_waits}
 use Rattle.mpx_meaning.proofs.Tells.{mapped_some}
 use Rattle.mpx_meaning.proofs.Ways.{Way, here, on, step-grows, way-adds, way-stuck}
 use Rattle.mpx_rank.specs.Carriers.{outcomes_of}
-use Rattle.mpx_rank.specs.Moves.{RankView, are_done, is_done}
-use Rattle.mpx_rank.specs.Places.{CommunicatorView, StandsInScript}
-use Rattle.mpx_rank.specs.Shown.{place_of}
+use Rattle.mpx_rank.specs.Moves.{are_done, is_done}
 use Rattle.mpx_rank.proofs.Words.{answers_done}
-use Rattle.mpx_system.proofs.Results.{behind_first, none_mapped, one_fails}
+use Rattle.mpx_system.proofs.Results.{one_fails}
 use Rattle.mpx_threads.specs.Plans.{Plans}
-use Rattle.mpx_threads.specs.Rest.{AreAwaited, AreWaitedFor, IsAwaited, Lacks, WaitsFor, awaits, is_awaited, stands_at, waits_for}
+use Rattle.mpx_threads.specs.Rest.{Lacks, WaitsFor, awaits, stands_at}
 use Rattle.mpx_threads.specs.ToldCalls.{planned_birth}
 use Rattle.mpx_threads.proofs.Plans.{births_are, lt_or_ge, planned_is}
 
@@ -63,51 +59,6 @@ needs_it ops s call (stands_at words rest todo asked) told none =
     let missing : is_done (outcomes_of told) (named s.requests word) ≡ false = ap (is_done (outcomes_of told)) asked.1.1.1 ∙ ap (λ x. is_some (option_map (λ (a : Answer). a.outcome) x)) none in
     let not_done : are_done (outcomes_of told) (named s.requests) words ≡ false = one_fails (λ w. is_done (outcomes_of told) (named s.requests w)) words place word asked.1.1.0 missing in
     step_stays ops told s words rest todo (none_there (answers told (awaited_by s.requests words)) (answers_done told words s.requests ∙ not_done))
-
--- the calls that a rank waits for are those that the code looks up
-module _ (r : RankView CommunicatorView) (s : Local) (stands : StandsInScript r s) where
-  only_these : (call : Name × ℕ) → IsAwaited (option_map place_of r.waits) r.requests r.todo call → WaitsFor s call
-  only_these call (is_awaited e) =
-      let found = mapped_some place_of r.waits call e in
-      let w : WaitView = found.0 in
-      let todo : s.todo ≡ Await w.name w.call w.target ∷ doing r.todo = stands.todo ∙ ap (λ o. todo_of o r.todo) found.1 in
-      awaits w.target (doing r.todo) (todo ∙ ap (λ (c : Name × ℕ). Await c.0 c.1 w.target ∷ doing r.todo) found.2)
-  only_these call (waits_for words free first asked) =
-      let behind = behind_first r.todo (Wait words) first in
-      stands_at words (doing behind.0) (stands.todo ∙ λ i. todo_of (none_mapped place_of r.waits free i) (behind.1 i)) (asked.0, (asked.1.0, (asked.1.1.0, sym (stands.requests asked.1.0) ∙ asked.1.1.1)))
-
-  all_these : (call : Name × ℕ) → WaitsFor s call → IsAwaited (option_map place_of r.waits) r.requests r.todo call
-  all_these call (awaits target rest todo) = by_wait r.waits refl r.todo refl where
-    by_wait : (o : Option WaitView) → r.waits ≡ o → (xs : List Statement) → r.todo ≡ xs → IsAwaited (option_map place_of r.waits) r.requests r.todo call
-    by_wait (Some w) e xs f =
-        let same : Await w.name w.call w.target ∷ doing r.todo ≡ Await call.0 call.1 target ∷ rest = ap (λ o. todo_of o r.todo) (sym e) ∙ sym stands.todo ∙ todo in
-        let name : w.name ≡ call.0 = cc same in
-        let number : w.call ≡ call.1 = cc same in
-        is_awaited (ap (option_map place_of) e ∙ λ i. Some (name i, number i))
-    by_wait None e [] f = let same : doing [] ≡ Await call.0 call.1 target ∷ rest = (λ i. todo_of (sym e i) (sym f i)) ∙ sym stands.todo ∙ todo in cc same
-    by_wait None e (x ∷ xs) f = let same : Do x ∷ doing xs ≡ Await call.0 call.1 target ∷ rest = (λ i. todo_of (sym e i) (sym f i)) ∙ sym stands.todo ∙ todo in cc same
-  all_these call (stands_at words rest todo asked) = by_wait r.waits refl r.todo refl where
-    by_wait : (o : Option WaitView) → r.waits ≡ o → (xs : List Statement) → r.todo ≡ xs → IsAwaited (option_map place_of r.waits) r.requests r.todo call
-    by_wait (Some w) e xs f = let same : Await w.name w.call w.target ∷ doing r.todo ≡ Do (Wait words) ∷ rest = ap (λ o. todo_of o r.todo) (sym e) ∙ sym stands.todo ∙ todo in cc same
-    by_wait None e [] f = let same : doing [] ≡ Do (Wait words) ∷ rest = (λ i. todo_of (sym e i) (sym f i)) ∙ sym stands.todo ∙ todo in cc same
-    by_wait None e (x ∷ xs) f =
-        let same : Do x ∷ doing xs ≡ Do (Wait words) ∷ rest = (λ i. todo_of (sym e i) (sym f i)) ∙ sym stands.todo ∙ todo in
-        let first : x ≡ Wait words = cc same in
-        waits_for words (ap (option_map place_of) e) (ap (λ ys. slice_get ys 0) f ∙ ap Some first) (asked.0, (asked.1.0, (asked.1.1.0, stands.requests asked.1.0 ∙ asked.1.1.1)))
-
-  pub waited_for : (calls : List (Name × ℕ)) → AreAwaited (option_map place_of r.waits) r.requests r.todo calls → AreWaitedFor s calls
-  waited_for calls are = record {
-    only = λ i call e. only_these call (are.only i call e);
-    all = λ call waits. are.all call (all_these call waits);
-  }
-
--- who starts waits for no call
-pub starts_free : (script : List (List Statement)) (ranks p : ℕ) (call : Name × ℕ) → WaitsFor (start_state script ranks p) call → ⊥
-starts_free script ranks p call (awaits target rest todo) = by_list (statements_of script p) todo where
-  by_list : (xs : List Statement) → doing xs ≡ Await call.0 call.1 target ∷ rest → ⊥
-  by_list [] e = cc e
-  by_list (x ∷ xs) e = cc e
-starts_free script ranks p call (stands_at words rest todo asked) = cc asked.1.1.1
 
 -- WAYS
 

@@ -1,5 +1,6 @@
 -- When all ports say, once their threads have ended, that no rank can go on.
-use Rattle.std.specs.Prelude.{◌≡◌, ◌⊎◌, ℕ, ◌<◌, ◌≤◌, false, List, [], ◌∷◌, Option, Some, None, slice_get}
+use Rattle.std.specs.Prelude.{◌≡◌, ◌⊎◌, ℕ, ◌<◌, ◌≤◌, false, is_some, List, [], ◌∷◌, map, Option, Some, None, slice_get}
+use Rattle.std.specs.Option.{option_map_or}
 use Rattle.mpx_name.specs.Name.{Name}
 use Rattle.mpx_birth.specs.Births.{BirthView}
 use Rattle.mpx_board.specs.Boards.{Look, told}
@@ -8,6 +9,7 @@ use Rattle.mpx_bus.specs.Ports.{PortView, node_in}
 use Rattle.mpx_statement.specs.declared.statement.Statement.{Statement}
 use Rattle.mpx_statement.specs.declared.statement.Statement.TheVariants.{Wait}
 use Rattle.mpx_statement.specs.Lookups.{named}
+use Rattle.mpx_meaning.specs.Ends.{Asked, EndView, WaitsAtView, end_view}
 use Rattle.mpx_meaning.specs.Evaluation.{State}
 use Rattle.mpx_meaning.specs.Ranks.{Await, Do, Local, Todo}
 use Rattle.mpx_threads.specs.declared.worker.Worked.{Worked}
@@ -56,20 +58,6 @@ AreAtRest ranks s ports = ((p : ℕ) → p < ranks → (s p).todo ≡ [])
 
 -- WHAT IS KEPT OF THAT
 
--- these are the calls for which requests of these words are open
-pub record AreRequested (requests : List ℕ → Option (Name × ℕ)) (words : List (List ℕ)) (calls : List (Name × ℕ)) : Type 0 where
-  pub only : (i : ℕ) (call : Name × ℕ) → slice_get calls i ≡ Some call → IsRequested requests words call
-  pub all : (call : Name × ℕ) → IsRequested requests words call → IsOneOf call calls
-
--- it is the call whose outcome the rank waits for; or there is none, and the rank's next statement waits for a request that is open for it
-pub data IsAwaited (awaited : Option (Name × ℕ)) (requests : List ℕ → Option (Name × ℕ)) (todo : List Statement) (call : Name × ℕ) : Type 0 where
-  is_awaited : awaited ≡ Some call → IsAwaited awaited requests todo call
-  waits_for : (words : List (List ℕ)) → awaited ≡ None → slice_get todo 0 ≡ Some (Wait words) → IsRequested requests words call → IsAwaited awaited requests todo call
-
-pub record AreAwaited (awaited : Option (Name × ℕ)) (requests : List ℕ → Option (Name × ℕ)) (todo : List Statement) (calls : List (Name × ℕ)) : Type 0 where
-  pub only : (i : ℕ) (call : Name × ℕ) → slice_get calls i ≡ Some call → IsAwaited awaited requests todo call
-  pub all : (call : Name × ℕ) → IsAwaited awaited requests todo call → IsOneOf call calls
-
 -- these are the calls that the rank waits for
 pub record AreWaitedFor (s : Local) (calls : List (Name × ℕ)) : Type 0 where
   pub only : (i : ℕ) (call : Name × ℕ) → slice_get calls i ≡ Some call → WaitsFor s call
@@ -78,12 +66,19 @@ pub record AreWaitedFor (s : Local) (calls : List (Name × ℕ)) : Type 0 where
 abbrev pub LacksOne : NodeView → List (Name × ℕ) → Type 0
 LacksOne node calls = (i : ℕ) × ((call : Name × ℕ) × ((slice_get calls i ≡ Some call) × Lacks node call))
 
+-- the calls that a rank waits for, as it ends
+abbrev pub calls_with : Option WaitsAtView → List (Name × ℕ)
+calls_with waits = option_map_or (λ (w : WaitsAtView). map (λ (a : Asked). a.1) w.calls) waits []
+
+abbrev pub calls_in : EndView → List (Name × ℕ)
+calls_in end = calls_with end.waits
+
 -- the same of processes that have worked, of which these are kept
 abbrev pub EndedOrLacks : Worked → Type 0
-EndedOrLacks w = (w.waits ≡ false) ⊎ LacksOne (node_in w.port) w.calls.items
+EndedOrLacks w = (is_some w.end.waits ≡ false) ⊎ LacksOne (node_in w.port) (calls_in (end_view w.end))
 
 abbrev pub HaveEnded : (ranks : ℕ) → List Worked → Type 0
-HaveEnded ranks ws = (p : ℕ) (w : Worked) → p < ranks → slice_get ws p ≡ Some w → w.waits ≡ false
+HaveEnded ranks ws = (p : ℕ) (w : Worked) → p < ranks → slice_get ws p ≡ Some w → is_some w.end.waits ≡ false
 
 abbrev pub HaveBoardInCommon : (ranks : ℕ) → List Worked → Type 0
 HaveBoardInCommon ranks ws = (p q : ℕ) (w v : Worked) → p < ranks → q < ranks → slice_get ws p ≡ Some w → slice_get ws q ≡ Some v → (node_in v.port).board ≡ (node_in w.port).board

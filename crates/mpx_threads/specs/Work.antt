@@ -1,19 +1,20 @@
 -- How far a rank has come, and what its port holds of that.
-use Rattle.std.specs.Prelude.{◌≡◌, ℕ, ◌<◌, ◌≤◌, ◌+◌, Bool, false, Option, None, List, [], length, map, Some, slice_get}
+use Rattle.std.specs.Prelude.{◌≡◌, ℕ, ◌<◌, ◌≤◌, ◌+◌, Bool, true, is_some, Option, None, List, [], ◌∷◌, length, Some, slice_get}
+use Rattle.std.specs.List.{list_all}
 use Rattle.atomic_table.specs.Seated.{TableId}
 use Rattle.mpx_name.specs.Name.{Name}
 use Rattle.mpx_value.specs.declared.outcomes.Outcome.{Outcome}
+use Rattle.mpx_node.specs.Nodes.{NodeView, result_on}
 use Rattle.mpx_bus.specs.declared.act.Setup.{Setup}
 use Rattle.mpx_bus.specs.Ports.{PortView}
 use Rattle.mpx_shared.specs.LawfulPorts.{IsLawful, made_in}
 use Rattle.mpx_script.specs.ScriptView.{ScriptView}
-use Rattle.mpx_meaning.specs.Ranks.{Local, Told}
+use Rattle.mpx_statement.specs.declared.statement.Statement.{Statement}
+use Rattle.mpx_meaning.specs.Ends.{EndView, WaitsAtView, end_of, end_view}
+use Rattle.mpx_meaning.specs.Ranks.{Line, Local, Told}
 use Rattle.mpx_meaning.specs.Evaluation.{start_state}
 use Rattle.mpx_meaning.specs.Going.{Goes}
-use Rattle.mpx_meaning.specs.Reports.{is_left}
-use Rattle.mpx_meaning.specs.Transcripts.{as_text, line_text}
 use Rattle.mpx_rank.specs.Carriers.{outcomes_of}
-use Rattle.mpx_threads.specs.declared.told.ToldCall.{ToldCall}
 use Rattle.mpx_threads.specs.declared.worker.Worked.{Worked}
 use Rattle.mpx_threads.specs.declared.worker.ReadyProcess.{ReadyProcess}
 use Rattle.mpx_threads.specs.declared.gate.BusStep.{BusStep}
@@ -21,28 +22,23 @@ use Rattle.mpx_threads.specs.declared.gossip.GossipEnd.{GossipEnd}
 use Rattle.mpx_threads.specs.declared.gossip.GossipEnd.TheVariants.{GaveUp}
 use Rattle.mpx_threads.specs.Gates.{GivesUpWithin}
 use Rattle.mpx_threads.specs.Plans.{Plans, planned_results}
-use Rattle.mpx_threads.specs.Rest.{AreWaitedFor}
 use Rattle.mpx_threads.specs.ThreadRuns.{IsDone}
-use Rattle.mpx_threads.specs.ToldCalls.{first_posts, told_of}
+use Rattle.mpx_threads.specs.ToldCalls.{first_posts}
 
--- by what the plan's posts give it the rank has come there, with these lines, and something left or nothing; these are the
--- calls that it waits for; its posts are the first so many of the plan; and of each line that tells an outcome it was told that
-pub record HasCome (script : ScriptView) (setup : Setup) (me : ℕ) (told : List ToldCall) (count : ℕ) (lines : List (List ℕ)) (waits : Bool) (calls : List (Name × ℕ)) : Type 0 where
+-- by what the plan's posts give it the rank has come there, and ends so; its posts are the first so many of the plan; and each line
+-- that tells an outcome tells what the plan's posts give
+pub record HasCome (script : ScriptView) (setup : Setup) (me : ℕ) (count : ℕ) (end : EndView) : Type 0 where
   pub to : Local
   pub goes : Goes setup.operations (planned_results setup me) (start_state script.statements script.ranks me) to
-  pub lines_are : lines ≡ map line_text to.lines
-  pub waits_is : waits ≡ is_left to.todo
-  pub calls_are : AreWaitedFor to calls
+  pub end_is : end ≡ end_of to
   pub made_is : to.made ≡ first_posts setup me count
-  pub tells : (i : ℕ) (name : Name) (call : ℕ) (outcome : Outcome) → slice_get to.lines i ≡ Some (Told name call outcome) → outcomes_of (told_of (planned_results setup me) told) name call ≡ Some outcome
+  pub tells : (i : ℕ) (name : Name) (call : ℕ) (outcome : Outcome) → slice_get to.lines i ≡ Some (Told name call outcome) → outcomes_of (planned_results setup me) name call ≡ Some outcome
 
--- the rank has come so far, and these are the calls that it waits for; and its port holds what it was told
-pub record HasWorked (script : ScriptView) (relays : ℕ) (setup : Setup) (me : ℕ) (port : PortView) (lines : List (List ℕ)) (waits : Bool) (calls : List (Name × ℕ)) : Type 0 where
+-- the rank has come so far, and ends so; and its port holds what its lines tell
+pub record HasWorked (script : ScriptView) (relays : ℕ) (setup : Setup) (me : ℕ) (port : PortView) (end : EndView) : Type 0 where
   pub to : Local
   pub done : (plan : Plans script relays setup) → IsDone setup.operations script plan.end me port to
-  pub lines_are : lines ≡ map line_text to.lines
-  pub waits_is : waits ≡ is_left to.todo
-  pub calls_are : AreWaitedFor to calls
+  pub end_is : end ≡ end_of to
 
 -- the port of a process that has posted nothing yet, by the plan of the script's evaluation
 pub record IsReadyProcess (script : ScriptView) (relays : ℕ) (setup : Setup) (table : TableId) (j : ReadyProcess) : Type 0 where
@@ -62,13 +58,10 @@ pub record AreReady (script : ScriptView) (relays : ℕ) (setup : Setup) (table 
   pub count : length jobs ≡ script.ranks + relays
   pub each : (i : ℕ) (j : ReadyProcess) → slice_get jobs i ≡ Some j → (j.me ≡ i) × (IsReadyProcess script relays setup table j × (j.port.setup ≡ setup))
 
-abbrev pub lines_in : Worked → List (List ℕ)
-lines_in w = as_text w.lines
-
 -- a rank has worked so; a relay has posted nothing
 pub record IsWorked (script : ScriptView) (relays : ℕ) (setup : Setup) (table : TableId) (me : ℕ) (w : Worked) : Type 0 where
   pub lawful : IsLawful table setup me w.port
-  pub rank : me < script.ranks → HasWorked script relays setup me w.port (lines_in w) w.waits w.calls.items
+  pub rank : me < script.ranks → HasWorked script relays setup me w.port (end_view w.end)
   pub relay : script.ranks ≤ me → made_in w.port ≡ []
 
 -- where a process's gossip ended for the gate, that gives up at one of its first so many steps of some kind
@@ -85,10 +78,21 @@ pub record AreWorked (script : ScriptView) (relays : ℕ) (setup : Setup) (table
   pub count : length ws ≡ script.ranks + relays
   pub each : (i : ℕ) (w : Worked) → slice_get ws i ≡ Some w → IsWorked script relays setup table i w
 
--- whether the process of this number has something left
-abbrev pub waits_at : Option Worked → Bool
-waits_at None = false
-waits_at (Some w) = w.waits
+-- the node holds a result of the call of a line that tells an outcome
+abbrev pub is_held : NodeView → Line → Bool
+is_held node (Told name call outcome) = is_some (result_on node name call)
+is_held node line = true
+
+abbrev pub AreHeld : NodeView → List Line → Type 0
+AreHeld node lines = list_all (is_held node) lines ≡ true
+
+-- where a rank waits before these statements
+abbrev pub waits_first : List Statement → Option WaitsAtView
+waits_first [] = None
+waits_first (x ∷ xs) = Some (record { left = length (x ∷ xs); calls = [] })
+
+abbrev pub end_first : List Statement → EndView
+end_first statements = record { lines = []; origins = []; waits = waits_first statements }
 
 -- how the gossip of this process ended
 abbrev pub gossip_at : Option Worked → Option GossipEnd

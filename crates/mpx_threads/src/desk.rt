@@ -1,8 +1,7 @@
 //! The desk of a rank in a thread: it carries the rank's posts over a port that the rank shares with its gossip.
-ghost use Rattle.std.specs.Prelude.{◌≡◌, [], IfOk, IfSome, OnOk, Some, string_bytes, true};
+ghost use Rattle.std.specs.Prelude.{◌≡◌, [], IfOk, IfSome, OnOk, Some, true};
 ghost use Rattle.mpx_value.specs.Histories.{answer_with};
 ghost use Rattle.mpx_meaning.specs.Ranks.{bound_by};
-ghost use Rattle.mpx_meaning.specs.Transcripts.{outcome_text};
 ghost use Rattle.mpx_rank.specs.Answered.{answer_of};
 ghost use Rattle.mpx_rank.specs.Places.{bound_as};
 ghost use Rattle.mpx_shared.specs.LawfulPorts.{planned_birth};
@@ -16,7 +15,7 @@ use crate::told::Told;
 use join_core::OutOfMemory;
 use mpx_birth::Birth;
 use mpx_group::Proc;
-use mpx_meaning::line;
+use mpx_meaning::Line;
 use mpx_name::Name;
 use mpx_node::Finished;
 use mpx_num::Ops;
@@ -29,22 +28,22 @@ use std::alloc::Global;
 use std::marker::Model;
 use std::sync::Wait;
 
-/// What a rank is told of a call: the line of its outcome, and the communicator that it gave, where it gave one.
+/// What a rank is told of a call: its outcome, and the communicator that it gave, where it gave one.
 #[derive(Drop)]
 struct Said {
-    text: String,
+    outcome: Outcome,
     given: Option<(Name, Birth)>,
 }
 
 impl Said {
     // What is told by an answer.
     fn by(alloc: Global, answered: &Answered) -> Result<Said, OutOfMemory>
-        ensures text { IfOk result (λ said. string_bytes said.text ≡ outcome_text answered.now.outcome) }
+        ensures outcome { IfOk result (λ said. said.outcome ≡ answered.now.outcome) }
         ensures given { IfOk result (λ said. bound_as said.given ≡ bound_by answered.now.outcome answered.now.born) }
     {
-        let text = line(alloc, &answered.outcome)?;
+        let outcome = answered.outcome.copy(alloc)?;
         let given = answered.given(alloc)?;
-        Ok(Said { text, given })
+        Ok(Said { outcome, given })
     }
 }
 
@@ -92,9 +91,9 @@ impl<'a, L: PortLock, R: Wait> ThreadDesk<'a, L, R> {
         }
     }
 
-    /// What it was told, and the right to post.
-    pub(crate) fn into_parts(self) -> (Told<L>, Poster<L>)
-        ensures { (result.0 ≡ self.entry.0) × (result.1.share.amount ≡ self.entry.1) }
+    /// The right to post.
+    pub(crate) fn into_poster(self) -> Poster<L>
+        ensures { result.share.amount ≡ self.entry.1 }
     {
         let ThreadDesk {
             rt: _,
@@ -103,7 +102,8 @@ impl<'a, L: PortLock, R: Wait> ThreadDesk<'a, L, R> {
             poster,
             told,
         } = self;
-        (told, poster)
+        drop(told);
+        poster
     }
 
     // What came of a call, once that can be had: until then it looks. A communicator has to be known with how it came to be.
@@ -205,6 +205,12 @@ impl<'a, L: PortLock, R: Wait> Carrier for ThreadDesk<'a, L, R> {
 
     ghost terms = { λ operations. thread_terms operations L.setup L.me L.before ((L.all ≡ L.parts) × (0 < L.parts)) };
 
+    fn into_place(call: Ticket) -> (Name, u32) {
+        let Ticket { name, call, post } = call;
+        drop(post);
+        (name, call)
+    }
+
     fn post(
         &mut self,
         alloc: Global,
@@ -252,9 +258,14 @@ impl<'a, L: PortLock, R: Wait> Carrier for ThreadDesk<'a, L, R> {
         _ops: &Ops,
     ) -> Result<Heard<Ticket, (Name, Birth)>, OutOfMemory> {
         match self.tell(alloc, &call) {
-            Ok(Some(Said { text, given })) => {
-                drop(call);
-                Ok(Heard::Told { text, given })
+            Ok(Some(Said { outcome, given })) => {
+                let (name, call) = Self::into_place(call);
+                let line = Line::Told {
+                    name,
+                    call,
+                    outcome,
+                };
+                Ok(Heard::Told { line, given })
             }
             Ok(None) => Ok(Heard::NotYet(call)),
             Err(e) => {

@@ -3,12 +3,14 @@ ghost use Rattle.std.specs.Prelude.{◌≡◌, ◌≤◌, false, length, true};
 ghost use Rattle.mpx_board.specs.Looks.{look};
 ghost use Rattle.mpx_node.specs.Shown.{node_of};
 ghost use Rattle.mpx_bus.specs.Ports.{node_in};
+ghost use Rattle.mpx_meaning.specs.Ends.{asked_view};
 ghost use Rattle.mpx_threads.specs.Rest.{EndedOrLacks, HaveBoardInCommon, HaveComeToRest, HaveEnded, HaveEndedOrLack, Lacks, OneLacks};
 
 use crate::worker::Worked;
 use join_core::Exact;
 use mpx_board::Board;
 use mpx_group::Proc;
+use mpx_meaning::AskedCall;
 use mpx_name::Name;
 use mpx_node::Node;
 
@@ -34,7 +36,7 @@ fn have_ended(worked: &[Worked], ranks: usize) -> bool
     ensures no { result ≡ false → HaveEnded ranks worked.now → ⊥ }
 {
     for p in 0..ranks {
-        if worked[p].waits {
+        if worked[p].end.waits.is_some() {
             return false;
         }
     }
@@ -78,10 +80,10 @@ fn has_ended_or_lacks(worked: &Worked) -> bool
     ensures yes { result ≡ true → EndedOrLacks worked.now }
     ensures no { result ≡ false → EndedOrLacks worked.now → ⊥ }
 {
-    if !worked.waits {
+    let Some(waits) = &worked.end.waits else {
         return true;
-    }
-    let calls = worked.calls.as_slice();
+    };
+    let calls = waits.calls.as_slice();
     for i in 0..calls.len() {
         if lacks(worked.port.node(), &calls[i]) {
             return true;
@@ -91,18 +93,18 @@ fn has_ended_or_lacks(worked: &Worked) -> bool
 }
 
 // Whether the node hasn't harvested the call, and its board lacks the post of a member.
-fn lacks(node: &Node, call: &(Name, u32)) -> bool
-    ensures yes { result ≡ true → Lacks (node_of node.now) call.now }
-    ensures no { result ≡ false → Lacks (node_of node.now) call.now → ⊥ }
+fn lacks(node: &Node, asked: &AskedCall) -> bool
+    ensures yes { result ≡ true → Lacks (node_of node.now) (asked_view asked.now).1 }
+    ensures no { result ≡ false → Lacks (node_of node.now) (asked_view asked.now).1 → ⊥ }
 {
-    let (name, number) = call;
-    if *number < node.front(name) {
+    let (name, call) = (&asked.name, asked.call);
+    if call < node.front(name) {
         return false;
     }
     let Some(birth) = node.board().birth(name) else {
         return false;
     };
-    one_lacks(node.board(), name, *number, birth.members())
+    one_lacks(node.board(), name, call, birth.members())
 }
 
 fn one_lacks(board: &Board, name: &Name, call: u32, members: &[Proc]) -> bool

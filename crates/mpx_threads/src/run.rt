@@ -2,7 +2,6 @@
 ghost use Rattle.std.specs.Prelude.{◌≡◌, ◌+◌, ◌++◌, ◌∷◌, ◌<◌, ◌≤◌, [], ℕ, IfErr, IfOk, IsFalse, IsTrue, Ok, OnOk, length, map, slice_get, true};
 ghost use Rattle.mpx_meaning.specs.Evaluation.{State};
 ghost use Rattle.mpx_meaning.specs.Reports.{transcripts_of, which};
-ghost use Rattle.mpx_meaning.specs.Transcripts.{as_text};
 ghost use Rattle.mpx_system.specs.Runs.{AreAll, AreWhole, Begin, IsEvaluationOf};
 ghost use Rattle.mpx_bus.specs.Buses.{table_of};
 ghost use Rattle.mpx_bus.specs.declared.act.Setup.{Setup};
@@ -10,7 +9,7 @@ ghost use Rattle.mpx_threads.specs.declared.worker.Worked.{Worked as WorkedView}
 ghost use Rattle.mpx_threads.specs.Gates.{GivesUpAmong};
 ghost use Rattle.mpx_threads.specs.Plans.{Plans};
 ghost use Rattle.mpx_threads.specs.ThreadRuns.{IsThreadRun};
-ghost use Rattle.mpx_threads.specs.Work.{AreJobs, AreReady, NoneGaveUp, OneGaveUp, lines_in, waits_at};
+ghost use Rattle.mpx_threads.specs.Work.{AreJobs, AreReady, NoneGaveUp, OneGaveUp};
 
 use crate::gate::Gate;
 use crate::gossip::GossipEnd;
@@ -20,9 +19,8 @@ use crate::rest::are_at_rest;
 use crate::worker::{ReadyProcess, Worked};
 use join_core::OutOfMemory;
 use mpx_bus::{Bus, Named, Port};
-use mpx_meaning::Report;
+use mpx_meaning::{RankEnd, Report};
 use mpx_num::{Listing, Ops};
-use mpx_rank::push_where;
 use mpx_script::Script;
 use mpx_statement::Options;
 use std::alloc::Global;
@@ -99,15 +97,12 @@ pub fn run_threads<G: Gate + Sync, O: Onlooker, R: Threads + Wait + Sync>(
     let (bus, jobs) = planned_bus(alloc, script, options.relays, ops)?;
     let worked = work_all(rt, alloc, &bus, gate, script, options, jobs, onlooker, ops)?;
     none_gave_up(worked.as_slice())?;
-    let waiting = waiting_of(alloc, worked.as_slice(), script.ranks())?;
     let rests = are_at_rest(worked.as_slice(), script.ranks() as usize);
-    let (mut transcripts, ports) = parts_of(alloc, worked)?;
-    transcripts.truncate(script.ranks() as usize);
+    let (mut ends, ports) = parts_of(alloc, worked)?;
+    ends.truncate(script.ranks() as usize);
+    let report = Report::of(alloc, ends)?;
     Ok(ThreadRun {
-        report: Report {
-            transcripts,
-            waiting,
-        },
+        report,
         bus,
         ports,
         rests,
@@ -185,45 +180,30 @@ fn has_given_up(worked: &[Worked]) -> bool
     false
 }
 
-// The ranks that have something left, in rising order.
-fn waiting_of(alloc: Global, worked: &[Worked], ranks: u8) -> Result<Vec<u8>, OutOfMemory>
-    requires { ranks ≤ length worked.now }
-    ensures { IfOk result (λ waiting. waiting.items ≡ which (λ p. waits_at (slice_get worked.now p)) ranks) }
-{
-    let mut waiting = Vec::new(alloc);
-    for p in 0..ranks {
-        push_where(&mut waiting, p, worked[p as usize].waits)?;
-    }
-    Ok(waiting)
-}
-
-// The lines and the port of each process.
-fn parts_of(
-    alloc: Global,
-    worked: Vec<Worked>,
-) -> Result<(Vec<Vec<String>>, Vec<Port>), OutOfMemory>
-    ensures lines { IfOk result (λ parts. map as_text parts.0.items ≡ map lines_in worked.items) }
+// How each process's rank ends, and its port.
+fn parts_of(alloc: Global, worked: Vec<Worked>) -> Result<(Vec<RankEnd>, Vec<Port>), OutOfMemory>
+    ensures ends { IfOk result (λ parts. parts.0.items ≡ map (λ (w : WorkedView). w.end) worked.items) }
     ensures ports { IfOk result (λ parts. parts.1.items ≡ map (λ (w : WorkedView). w.port) worked.items) }
 {
-    let mut transcripts = Vec::new(alloc);
+    let mut ends = Vec::new(alloc);
     let mut ports = Vec::new(alloc);
     for one in worked {
-        push_parts(one, &mut transcripts, &mut ports)?;
+        push_parts(one, &mut ends, &mut ports)?;
     }
-    Ok((transcripts, ports))
+    Ok((ends, ports))
 }
 
-// Adds the lines and the port of a process.
+// Adds the end and the port of a process.
 fn push_parts(
     worked: Worked,
-    transcripts: &mut Vec<Vec<String>>,
+    ends: &mut Vec<RankEnd>,
     ports: &mut Vec<Port>,
 ) -> Result<(), OutOfMemory>
-    ensures lines { OnOk result (map as_text transcripts.new.items ≡ map as_text transcripts.old.items ++ lines_in worked ∷ []) }
+    ensures ends { OnOk result (ends.new.items ≡ ends.old.items ++ worked.end ∷ []) }
     ensures ports { OnOk result (ports.new.items ≡ ports.old.items ++ worked.port ∷ []) }
 {
-    let Worked { port, lines, .. } = worked;
-    transcripts.push(lines)?;
+    let Worked { port, end, .. } = worked;
+    ends.push(end)?;
     ports.push(port)?;
     Ok(())
 }

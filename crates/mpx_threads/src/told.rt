@@ -1,13 +1,11 @@
 //! What a rank was told of its calls.
 ghost use Rattle.std.specs.Prelude.{◌≡◌, ◌++◌, ◌∷◌, [], IfNone, IfSome, OnOk, Some, true, false};
-ghost use Rattle.mpx_node.specs.Shown.{node_of};
 ghost use Rattle.mpx_rank.specs.Answered.{answer_of};
 ghost use Rattle.mpx_threads.specs.Plans.{planned_results};
-ghost use Rattle.mpx_threads.specs.ToldCalls.{AllHeld, is_among};
+ghost use Rattle.mpx_threads.specs.ToldCalls.{is_among};
 
 use join_core::{Exact, OutOfMemory};
 use mpx_name::Name;
-use mpx_node::Node;
 use mpx_rank::Answered;
 use mpx_shared::{PortLock, Ticket};
 use std::alloc::Global;
@@ -83,18 +81,5 @@ impl<L: PortLock> Told<L> {
             }
         }
         None
-    }
-
-    /// Whether the node holds a result of each of these calls.
-    pub(crate) fn are_held(&self, node: &Node) -> bool
-        ensures held { result ≡ true → AllHeld (node_of node.now) self.now }
-        ensures lacks { result ≡ false → ¬ (AllHeld (node_of node.now) self.now) }
-    {
-        for told in &self.calls {
-            if node.result(&told.name, told.call).is_none() {
-                return false;
-            }
-        }
-        true
     }
 }

@@ -1,27 +1,30 @@
 //! A process of a run: a rank works in two threads over one port, a relay in one.
-ghost use Rattle.std.specs.Prelude.{◌≡◌, ◌+◌, ◌<◌, ◌≤◌, ℕ, IfOk, [], length, map, string_bytes};
+ghost use Rattle.std.specs.Prelude.{◌≡◌, ◌+◌, ◌<◌, ◌≤◌, ℕ, IfOk, [], length};
+ghost use Rattle.std.specs.List.{list_all};
 ghost use Rattle.mpx_bus.specs.Buses.{table_of};
+ghost use Rattle.mpx_node.specs.Shown.{node_of};
 ghost use Rattle.mpx_bus.specs.Ports.{node_in};
 ghost use Rattle.mpx_shared.specs.LawfulPorts.{IsLawful, made_in};
 ghost use Rattle.mpx_threads.specs.Gates.{GivesUpWithin};
 ghost use Rattle.mpx_threads.specs.Plans.{Plans};
-ghost use Rattle.mpx_threads.specs.ToldCalls.{AllHeld};
-ghost use Rattle.mpx_threads.specs.Work.{GossipEndsSo, HasCome, HasWorked, IsNewLedger, IsReadyProcess, IsWorked, lines_in};
+ghost use Rattle.mpx_threads.specs.Work.{AreHeld, GossipEndsSo, HasCome, HasWorked, IsNewLedger, IsReadyProcess, IsWorked, end_first, is_held};
+ghost use Rattle.mpx_meaning.specs.Ends.{end_view};
 
 use crate::carry::{Carried, carry_out};
 use crate::gate::Gate;
 use crate::gossip::{Bench, GossipEnd, gossip};
 use crate::looks::Looks;
-use crate::told::Told;
 use crate::watch::Signal;
 use join_core::OutOfMemory;
 use mpx_at_once::{Task, both};
 use mpx_bus::Port;
 use mpx_group::Proc;
-use mpx_name::Name;
+use mpx_meaning::{Line, RankEnd, WaitsAt};
+use mpx_node::Node;
 use mpx_num::{Listing, Ops};
 use mpx_script::Script;
 use mpx_shared::{PortLock, Poster, SharedPort};
+use mpx_statement::Statement;
 use std::alloc::Global;
 use std::marker::Brand;
 use std::sync::Wait;
@@ -35,15 +38,12 @@ pub(crate) struct ReadyProcess {
     pub(crate) port: Port,
 }
 
-/// A process when it has worked: its port, how its gossip ended, and, of a rank, its lines, whether it has something left, and the calls
-/// that it waits for.
+/// A process when it has worked: its port, how its gossip ended, how its rank ends (of a relay it says nothing).
 #[derive(Drop)]
 pub(crate) struct Worked {
     pub(crate) port: Port,
     pub(crate) gossip: GossipEnd,
-    pub(crate) lines: Vec<String>,
-    pub(crate) waits: bool,
-    pub(crate) calls: Vec<(Name, u32)>,
+    pub(crate) end: RankEnd,
 }
 
 /// Lets a process work.
@@ -95,7 +95,7 @@ fn work_as_rank<L: PortLock + Send + Sync, G: Gate + Sync, R: Threads + Wait + S
     requires queue { table_of bench.now.bus.now ≡ L.table }
     requires plan { Plans script.now bench.now.relays L.setup }
     ensures lawful { IfOk result (λ worked. IsLawful L.table L.setup L.me worked.port) }
-    ensures worked { IfOk result (λ worked. HasWorked script.now bench.now.relays L.setup L.me worked.port (lines_in worked) worked.waits worked.calls.items) }
+    ensures worked { IfOk result (λ worked. HasWorked script.now bench.now.relays L.setup L.me worked.port (end_view worked.end)) }
     ensures gate { IfOk result (λ worked. worked.gossip ≡ GossipEnd.GaveUp → GivesUpWithin (G.gives_up bench.now.gate.now) me bench.now.turns) }
 {
     let (shared, poster) = SharedPort::<L>::new(alloc, port, me, blank);
@@ -103,15 +103,9 @@ fn work_as_rank<L: PortLock + Send + Sync, G: Gate + Sync, R: Threads + Wait + S
     let (carried, gossip) = carry_and_gossip(
         rt, alloc, bench, script, me, &shared, &signal, poster, ops,
     )?;
-    let Carried {
-        lines,
-        waits,
-        calls,
-        told,
-        poster,
-    } = carried;
+    let Carried { end, poster } = carried;
     let port = shared.into_port(poster);
-    Ok(with_port(script, me, port, gossip, lines, waits, calls, &told))
+    Ok(with_port(alloc, script, me, port, gossip, end))
 }
 
 // Both at once; where the thread is refused, the run stops.
@@ -132,7 +126,7 @@ fn carry_and_gossip<L: PortLock + Send + Sync, G: Gate + Sync, R: Threads + Wait
     requires new { (L.before ≡ 0) × (poster.share.amount ≡ 0) }
     requires queue { table_of bench.now.bus.now ≡ L.table }
     requires plan { Plans script.now bench.now.relays L.setup }
-    ensures come { IfOk result (λ both. HasCome script.now L.setup me both.0.told both.0.poster.share.amount (map string_bytes both.0.lines.items) both.0.waits both.0.calls.items) }
+    ensures come { IfOk result (λ both. HasCome script.now L.setup me both.0.poster.share.amount (end_view both.0.end)) }
     ensures gate { IfOk result (λ both. both.1 ≡ GossipEnd.GaveUp → GivesUpWithin (G.gives_up bench.now.gate.now) me bench.now.turns) }
 {
     let carrying = Carrying {
@@ -180,7 +174,7 @@ impl<'a, L: PortLock, G: Gate, R: Wait> Task<Ops> for Carrying<'a, L, G, R> {
 
     ghost can_run = { λ t operations. (operations ≡ L.setup.operations) × (IsNewLedger L.all L.parts L.before t.poster.share.amount × ((t.me ≡ L.me) × ((t.me < t.script.now.ranks) × Plans t.script.now t.bench.now.relays L.setup))) };
 
-    ghost gives = { λ t r. IfOk r (λ carried. HasCome t.script.now L.setup t.me carried.told carried.poster.share.amount (map string_bytes carried.lines.items) carried.waits carried.calls.items) };
+    ghost gives = { λ t r. IfOk r (λ carried. HasCome t.script.now L.setup t.me carried.poster.share.amount (end_view carried.end)) };
 
     fn run(self, ops: &Ops) -> Result<Carried<L>, OutOfMemory> {
         let Carrying {
@@ -245,7 +239,7 @@ fn carry<L: PortLock, G: Gate, R: Wait>(
     requires me { (me ≡ L.me) × (me < script.now.ranks) }
     requires new { (L.before ≡ 0) × (poster.share.amount ≡ 0) }
     requires plan { Plans script.now bench.now.relays L.setup }
-    ensures { IfOk result (λ carried. HasCome script.now L.setup me carried.told carried.poster.share.amount (map string_bytes carried.lines.items) carried.waits carried.calls.items) }
+    ensures { IfOk result (λ carried. HasCome script.now L.setup me carried.poster.share.amount (end_view carried.end)) }
 {
     let looks = Looks {
         watch: bench.watch,
@@ -261,45 +255,75 @@ fn carry<L: PortLock, G: Gate, R: Wait>(
     carried
 }
 
-// The rank's lines beside its port, which holds what they tell; none, if ever it didn't.
+// The rank's end beside its port, which holds what its lines tell; that before its statements, if ever it didn't.
 fn with_port<L: PortLock>(
+    alloc: Global,
     script: &Script,
     me: Proc,
     port: Port,
     gossip: GossipEnd,
-    lines: Vec<String>,
-    waits: bool,
-    calls: Vec<(Name, u32)>,
-    told: &Told<L>,
+    end: RankEnd,
 ) -> Worked
     requires port { IsLawful L.table L.setup L.me port }
     requires me { me ≡ L.me }
-    requires come { HasCome script.now L.setup L.me told.now (length (made_in port)) (map string_bytes lines.items) waits calls.items }
+    requires come { HasCome script.now L.setup L.me (length (made_in port)) (end_view end) }
     ensures port { result.port ≡ port }
     ensures gossip { result.gossip ≡ gossip }
-    ensures worked { (relays : ℕ) → HasWorked script.now relays L.setup L.me port (lines_in result) result.waits result.calls.items }
-    ensures whole { AllHeld (node_in port) told.now → (lines_in result ≡ map string_bytes lines.items) × (result.waits ≡ waits) × (result.calls.items ≡ calls.items) }
+    ensures worked { (relays : ℕ) → HasWorked script.now relays L.setup L.me port (end_view result.end) }
+    ensures whole { AreHeld (node_in port) end.lines.items → result.end ≡ end }
 {
-    if told.are_held(port.node()) {
-        return Worked {
-            port,
-            gossip,
-            lines,
-            waits,
-            calls,
-        };
+    if are_held(port.node(), end.lines.as_slice()) {
+        return Worked { port, gossip, end };
     }
-    let mut lines = lines;
-    lines.clear();
-    let mut calls = calls;
-    calls.clear();
-    let waits = !script.statements(me.number()).is_empty();
-    Worked {
-        port,
-        gossip,
-        lines,
-        waits,
-        calls,
+    drop(end);
+    let end = end_first(alloc, script.statements(me.number()));
+    Worked { port, gossip, end }
+}
+
+// Whether the node holds a result of the call of each of these lines that tells an outcome.
+fn are_held(node: &Node, lines: &[Line]) -> bool
+    ensures { result ≡ list_all (is_held (node_of node.now)) lines.now }
+{
+    lines.iter().all(|line| is_held(node, line))
+}
+
+// The same of one line.
+fn is_held(node: &Node, line: &Line) -> bool
+    ensures { result ≡ is_held (node_of node.now) line.now }
+{
+    match line {
+        Line::Told { name, call, .. } => node.result(name, *call).is_some(),
+        Line::Refused(_) => true,
+        Line::Idle => true,
+        Line::Near { .. } => true,
+        Line::Compared(_) => true,
+        Line::Translated(_) => true,
+        Line::StrayRank => true,
+    }
+}
+
+// How a rank with these statements would end before them.
+fn end_first(alloc: Global, statements: &[Statement]) -> RankEnd
+    ensures { end_view result ≡ end_first statements.now }
+{
+    let mut end = no_end(alloc);
+    if !statements.is_empty() {
+        end.waits = Some(WaitsAt {
+            left: statements.len(),
+            calls: Vec::new(alloc),
+        });
+    }
+    end
+}
+
+// The end of a rank without statements.
+fn no_end(alloc: Global) -> RankEnd
+    ensures { end_view result ≡ end_first [] }
+{
+    RankEnd {
+        lines: Vec::new(alloc),
+        origins: Vec::new(alloc),
+        waits: None,
     }
 }
 
@@ -329,8 +353,6 @@ fn work_as_relay<L: PortLock, G: Gate, R: Wait>(
     Ok(Worked {
         port: shared.into_port(poster),
         gossip,
-        lines: Vec::new(alloc),
-        waits: false,
-        calls: Vec::new(alloc),
+        end: no_end(alloc),
     })
 }

@@ -3,6 +3,7 @@ ghost use Rattle.std.specs.Prelude.{◌≡◌};
 
 use crate::holding::Newest;
 use crate::news::News;
+use mpx_meaning::Line;
 use mpx_node::Node;
 use mpx_sim::{FrameSeen, Observer, Progress};
 use std::alloc::Global;
@@ -133,9 +134,11 @@ impl<W: Write + Drop> Observer for Table<W> {
         let _ = self.take(frame, node);
     }
 
-    fn told(&mut self, _turn: u32, rank: u8, lines: &[String]) {
+    fn told(&mut self, _turn: u32, rank: u8, lines: &[Line]) {
         for line in self.news.of(rank, lines) {
-            let _ = self.get(rank, line.as_str());
+            if let Ok(line) = line.text(self.alloc) {
+                let _ = self.get(rank, line.as_str());
+            }
         }
     }
 

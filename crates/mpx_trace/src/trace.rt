@@ -4,6 +4,7 @@ ghost use Rattle.std.specs.Prelude.{◌≡◌};
 use crate::holding::{push_held, push_name};
 use crate::news::News;
 use crate::script_lines::ScriptLines;
+use mpx_meaning::Line;
 use mpx_name::Name;
 use mpx_node::Node;
 use mpx_sim::{FrameSeen, Observer, Progress};
@@ -111,9 +112,11 @@ impl<W: Write + Drop> Observer for Trace<W> {
         let _ = self.tell_post(turn, rank, name, call, statement);
     }
 
-    fn told(&mut self, turn: u32, rank: u8, lines: &[String]) {
+    fn told(&mut self, turn: u32, rank: u8, lines: &[Line]) {
         for line in self.news.of(rank, lines) {
-            let _ = self.tell_line(turn, rank, line.as_str());
+            if let Ok(line) = line.text(self.alloc) {
+                let _ = self.tell_line(turn, rank, line.as_str());
+            }
         }
     }
 

@@ -1,33 +1,10 @@
-use Rattle.std.proofs.Common.{◌≡◌, List, ℕ, map, length, ap, sym, ◌∙◌, subst}
-use Rattle.std.specs.Prelude.{slice_get}
-use Rattle.mpx_num.specs.declared.own.Operation.{Operation}
-use Rattle.mpx_num.specs.Own.{operation_of}
-use Rattle.mpx_meaning.specs.Evaluation.{start_state}
-use Rattle.mpx_meaning.specs.Reports.{transcripts_of, which}
-use Rattle.mpx_name.specs.Name.{Name}
-use Rattle.mpx_rank.specs.declared.interpreter.Interpreter.{Interpreter}
-use Rattle.mpx_eval.specs.declared.table.Table.{Table}
-use Rattle.mpx_rank.specs.Places.{CommunicatorView}
-use Rattle.mpx_eval.specs.Places.{TableRank}
-use Rattle.mpx_eval.specs.Rounds.{AreIn, is_waiting_at}
-use Rattle.mpx_eval.specs.Carrying.{shown}
-use Rattle.mpx_eval.specs.Tables.{table_of}
-use Rattle.mpx_eval.proofs.Going.{written_back}
-use Rattle.mpx_eval.proofs.Reporting.{are_in_start, evaluated, reached_start}
+use Rattle.std.proofs.Common.{◌≡◌, ap, map, sym, ◌∙◌}
+use Rattle.mpx_meaning.specs.Ends.{end_view, waiting_among}
+use Rattle.mpx_eval.specs.Evaluated.{EndSo, IsEvaluated}
+use Rattle.mpx_eval.proofs.Reporting.{evaluated}
 use Rattle.mpx_eval.proofs.evaluation.eval.Goals as goal
 
-pub returns : goal.returns
-returns g c =
-    let ops : List Operation = map (λ b. let o = goal.OwnOp-dyn g (b.vtable, b.value) in operation_of (o.word_bytes b.value) (o.fits_type b.value) (o.combination b.value)) c.args.ops.now.list.items in
-    let script = c.args.script.now in
-    let xs = c.in_ok-ranks.ranks.items in
-    let many : length script.statements ≡ script.ranks = c.ranks.ensures.each_rank ∙ c.ranks.ensures.ranks in
-    let t = table_of c.new-table.result in
-    let begin = start_state script.statements script.ranks in
-    let are : AreIn ops script.ranks (map shown xs) t begin = are_in_start ops script.statements script.ranks (map shown xs) t many c.in_ok-ranks.ensures c.new-table.ensures in
-    let lent : AreIn ops script.ranks (map shown c.deref_mut.result.now) t begin = subst (λ (ps : List (Interpreter Table CommunicatorView (Name × ℕ))). AreIn ops script.ranks (map shown ps) t begin) (sym c.deref_mut.ensures.value) are in
-    let ran = c.in-Ok.ensures script.statements script.ranks begin (reached_start ops script.statements script.ranks) lent in
-    let same = written_back c.in_ok-ranks.ranks.len xs c.rounds.new.ranks (c.rounds.auto.ranks ∙ ap length c.deref_mut.ensures.value) (sym (ap length c.deref_mut.ensures.value) ∙ c.deref_mut.ensures.len) in
-    evaluated ops script (map shown c.rounds.new.ranks) (table_of c.rounds.new.table) ran (transcripts_of (record { transcripts = c.in_ok-transcripts.transcripts; waiting = c.in-Ok-waiting_of.waiting })) c.in-Ok-waiting_of.waiting.items
-    (c.in_ok-transcripts.ensures ∙ ap (λ (ps : List (Interpreter Table CommunicatorView (Name × ℕ))). map (λ (r : TableRank). r.lines) (map shown ps)) same)
-    (c.in-Ok-waiting_of.ensures ∙ ap (λ (ps : List (Interpreter Table CommunicatorView (Name × ℕ))). which (λ p. is_waiting_at (slice_get (map shown ps) p)) c.ranks.result) (c.as_slice.ensures.value ∙ same) ∙ ap (which (λ p. is_waiting_at (slice_get (map shown c.rounds.new.ranks) p))) c.ranks.ensures.ranks)
+pub returns-clause-lines : goal.returns-clause-lines
+returns-clause-lines g c = evaluated _ c.args.script.now c.in_ok-report.report.ends.items c.in_ok-report.report.waiting.items
+    (rw (c.in_ok-report.ensures.ends) c.in_ok-ends.ensures)
+    (rw (c.in_ok-report.ensures.ends) c.in_ok-report.ensures.waiting)

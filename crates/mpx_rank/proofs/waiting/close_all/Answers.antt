@@ -1,9 +1,7 @@
-use Rattle.std.proofs.Common.{◌≡◌, ◌++◌, [], ◌∷◌, ◌+◌, map, drop, string_bytes, refl, sym, ap, ◌∙◌, append_assoc}
+use Rattle.std.proofs.Common.{◌≡◌, ◌++◌, [], ◌∷◌, ◌+◌, drop, refl, sym, ap, ◌∙◌, append_assoc}
 use Rattle.mpx_meaning.specs.Standing.{closed, closed_all}
-use Rattle.mpx_meaning.specs.Transcripts.{line_text}
 use Rattle.mpx_rank.specs.Moves.{are_done, wait_lines}
 use Rattle.mpx_rank.specs.Shown.{requests_of}
-use Rattle.mpx_rank.proofs.Moving.{lines_push}
 use Rattle.mpx_rank.proofs.Telling.{done_first, done_later, line_later}
 use Rattle.mpx_post.proofs.Lists.{next_left}
 use Rattle.mpx_rank.proofs.waiting.close_all.Goals as goal
@@ -37,16 +35,16 @@ loop-word-preserved g c =
     let rest = drop (c.loop-word.word-index + 1) c.args.words.now in
     let left : drop c.loop-word.word-index c.args.words.now ≡ word ∷ rest = next_left c.args.words.now c.loop-word.word-index word c.loop-word-test.true c.word-item.is in
     let done = done_first told requests word rest (ap (are_done told requests) (sym left) ∙ c.loop-word.invariant.done) in
-    let closed_now : requests_of place c.close.new.requests ≡ closed word requests = λ i other. c.in_ok-text.ensures.requests other i in
-    let text = string_bytes c.in_ok-text.text in
-    let lines = map string_bytes c.loop-word.lines.items in
+    let closed_now : requests_of place c.close.new.requests ≡ closed word requests = λ i other. c.in_ok-line.ensures.requests other i in
+    let line = c.in_ok-line.line in
+    let lines = c.loop-word.lines.items in
     record {
-      hears = laws.hears_more _ first before now c.loop-word.invariant.hears c.in_ok-text.ensures.hears;
+      hears = laws.hears_more _ first before now c.loop-word.invariant.hears c.in_ok-line.ensures.hears;
       lines =
-          (λ i. lines_push string_bytes c.loop-word.lines.items c.push.new.self.items c.in_ok-text.text text c.in_ok-push.ensures.items refl i ++ map line_text (wait_lines told (closed_now i) rest))
-          ∙ append_assoc lines (text ∷ []) (map line_text (wait_lines told (closed word requests) rest))
-          ∙ (λ i. lines ++ (c.in_ok-text.ensures.line ∙ ap line_text (line_later told (terms.tells before c.args.me) (laws.stays_told _ first before c.loop-word.invariant.hears c.args.me) (requests word) done.0)) i ∷ map line_text (wait_lines told (closed word requests) rest))
-          ∙ ap (λ ws. lines ++ map line_text (wait_lines told requests ws)) (sym left)
+          (λ i. c.in_ok-push.ensures.items i ++ wait_lines told (closed_now i) rest)
+          ∙ append_assoc lines (line ∷ []) (wait_lines told (closed word requests) rest)
+          ∙ (λ i. lines ++ (c.in_ok-line.ensures.line ∙ line_later told (terms.tells before c.args.me) (laws.stays_told _ first before c.loop-word.invariant.hears c.args.me) (requests word) done.0) i ∷ wait_lines told (closed word requests) rest)
+          ∙ ap (λ ws. lines ++ wait_lines told requests ws) (sym left)
           ∙ c.loop-word.invariant.lines;
       requests = λ other. (λ i. closed_all rest (closed_now i) other) ∙ ap (λ ws. closed_all ws requests other) (sym left) ∙ c.loop-word.invariant.requests other;
       done = ap (λ r. are_done told r rest) closed_now ∙ done.1;

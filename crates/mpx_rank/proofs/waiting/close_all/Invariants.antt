@@ -1,6 +1,5 @@
-use Rattle.std.proofs.Common.{◌≡◌, ◌++◌, ℕ, List, map, drop, string_bytes, true}
+use Rattle.std.proofs.Common.{◌≡◌, ◌++◌, ℕ, List, map, drop, true}
 use Rattle.mpx_meaning.specs.Standing.{closed_all}
-use Rattle.mpx_meaning.specs.Transcripts.{line_text}
 use Rattle.mpx_num.specs.Own.{operation_of}
 use Rattle.mpx_rank.specs.Moves.{are_done, wait_lines}
 use Rattle.mpx_rank.specs.Shown.{requests_of}
@@ -15,7 +14,7 @@ invariant-loop-word g l =
     let left = drop l.word-index l.words in
     record {
       hears : terms.hears l.fn.carrier l.carrier;
-      lines : map string_bytes l.lines.items ++ map line_text (wait_lines told now left) ≡ map string_bytes l.fn.lines.items ++ map line_text (wait_lines told first l.words);
+      lines : l.lines.items ++ wait_lines told now left ≡ l.fn.lines.items ++ wait_lines told first l.words;
       requests : (word : List ℕ) → closed_all left now word ≡ closed_all l.words first word;
       done : are_done told now left ≡ true;
     }

@@ -1,11 +1,10 @@
 use Rattle.std.proofs.Common.{◌≡◌, ◌+◌, ◌∙◌, ℕ, List, ap, map, subst, sym, take}
 use Rattle.std.specs.Prelude.{slice_get}
 use Rattle.mpx_bus.specs.Buses.{table_of}
-use Rattle.mpx_meaning.specs.Reports.{transcripts_of, which}
-use Rattle.mpx_system.proofs.Results.{map_taken}
+use Rattle.mpx_meaning.specs.Ends.{end_view, waiting_among}
 use Rattle.mpx_threads.specs.declared.worker.Worked.{Worked}
 use Rattle.mpx_threads.specs.Rest.{HaveComeToRest}
-use Rattle.mpx_threads.specs.Work.{gossip_at, lines_in, waits_at}
+use Rattle.mpx_threads.specs.Work.{gossip_at}
 use Rattle.mpx_threads.proofs.Jobs.{gave_up_among, if_err}
 use Rattle.mpx_threads.proofs.Reporting.{all_lent, begins_lent, run_lent, whole_lent}
 use Rattle.mpx_threads.proofs.run.run_threads.Goals as goal
@@ -22,40 +21,40 @@ returns-clause-run g c =
     let script = c.args.script.now in
     let made = c.in_ok-worked.ensures.worked in
     let ws = c.in_ok-worked.worked.items in
-    let said = transcripts_of (record { transcripts = c.truncate.new.self; waiting = c.in_ok-waiting.waiting }) in
-    let lines : said ≡ take script.ranks (map lines_in ws) = ap (map _) c.truncate.ensures.items ∙ map_taken _ c.ranks-3.result c.in_ok-transcripts.transcripts.items ∙ ap (take c.ranks-3.result) c.in_ok-transcripts.ensures.lines ∙ ap (λ n. take n (map lines_in ws)) c.ranks-3.ensures.ranks in
-    let waiting : c.in_ok-waiting.waiting.items ≡ which (λ p. waits_at (slice_get ws p)) script.ranks = c.in_ok-waiting.ensures ∙ ap (λ xs. which (λ p. waits_at (slice_get xs p)) c.ranks.result) c.as_slice-2.ensures.value ∙ ap (which (λ p. waits_at (slice_get ws p))) c.ranks.ensures.ranks in
-    run_lent _ script c.args.options.now.relays made.0 (table_of c.in_ok-bus.bus) ws made.1.0 made.1.1 c.in_ok-transcripts.ports.items said c.in_ok-waiting.waiting.items c.in_ok-transcripts.ensures.ports lines waiting c.are_at_rest-rests.result
-    (λ so. subst (λ (x : ℕ × List Worked). HaveComeToRest x.0 x.1) (λ i. (c.ranks-2.ensures.ranks i, c.as_slice-3.ensures.value i)) (c.are_at_rest-rests.ensures.yes so))
-    (λ so rest. c.are_at_rest-rests.ensures.no so (subst (λ (x : ℕ × List Worked). HaveComeToRest x.0 x.1) (λ i. (sym c.ranks-2.ensures.ranks i, sym c.as_slice-3.ensures.value i)) rest))
+    let report = c.in_ok-report.report in
+    let ends : report.ends.items ≡ take script.ranks (map (λ (w : Worked). w.end) ws) = ap (λ v. v.items) c.in_ok-report.ensures.ends ∙ c.truncate.ensures.items ∙ ap (take c.ranks-2.result) c.in_ok-ends.ensures.ends ∙ ap (λ n. take n (map (λ (w : Worked). w.end) ws)) c.ranks-2.ensures.ranks in
+    let waiting : report.waiting.items ≡ waiting_among (map end_view report.ends.items) = c.in_ok-report.ensures.waiting ∙ ap (λ v. waiting_among (map end_view v.items)) (sym c.in_ok-report.ensures.ends) in
+    run_lent _ script c.args.options.now.relays made.0 (table_of c.in_ok-bus.bus) ws made.1.0 made.1.1 c.in_ok-ends.ports.items report.ends.items report.waiting.items c.in_ok-ends.ensures.ports ends waiting c.are_at_rest-rests.result
+    (λ so. subst (λ (x : ℕ × List Worked). HaveComeToRest x.0 x.1) (λ i. (c.ranks.ensures.ranks i, c.as_slice-2.ensures.value i)) (c.are_at_rest-rests.ensures.yes so))
+    (λ so rest. c.are_at_rest-rests.ensures.no so (subst (λ (x : ℕ × List Worked). HaveComeToRest x.0 x.1) (λ i. (sym c.ranks.ensures.ranks i, sym c.as_slice-2.ensures.value i)) rest))
 
 pub returns-clause-begins : goal.returns-clause-begins
 returns-clause-begins g c =
     let script = c.args.script.now in
     let made = c.in_ok-worked.ensures.worked in
     let ws = c.in_ok-worked.worked.items in
-    let said = transcripts_of (record { transcripts = c.truncate.new.self; waiting = c.in_ok-waiting.waiting }) in
-    let lines : said ≡ take script.ranks (map lines_in ws) = ap (map _) c.truncate.ensures.items ∙ map_taken _ c.ranks-3.result c.in_ok-transcripts.transcripts.items ∙ ap (take c.ranks-3.result) c.in_ok-transcripts.ensures.lines ∙ ap (λ n. take n (map lines_in ws)) c.ranks-3.ensures.ranks in
-    let waiting : c.in_ok-waiting.waiting.items ≡ which (λ p. waits_at (slice_get ws p)) script.ranks = c.in_ok-waiting.ensures ∙ ap (λ xs. which (λ p. waits_at (slice_get xs p)) c.ranks.result) c.as_slice-2.ensures.value ∙ ap (which (λ p. waits_at (slice_get ws p))) c.ranks.ensures.ranks in
-    begins_lent _ script c.args.options.now.relays made.0 (table_of c.in_ok-bus.bus) ws made.1.0 made.1.1 c.in_ok-transcripts.ports.items said c.in_ok-waiting.waiting.items c.in_ok-transcripts.ensures.ports lines waiting
+    let report = c.in_ok-report.report in
+    let ends : report.ends.items ≡ take script.ranks (map (λ (w : Worked). w.end) ws) = ap (λ v. v.items) c.in_ok-report.ensures.ends ∙ c.truncate.ensures.items ∙ ap (take c.ranks-2.result) c.in_ok-ends.ensures.ends ∙ ap (λ n. take n (map (λ (w : Worked). w.end) ws)) c.ranks-2.ensures.ranks in
+    let waiting : report.waiting.items ≡ waiting_among (map end_view report.ends.items) = c.in_ok-report.ensures.waiting ∙ ap (λ v. waiting_among (map end_view v.items)) (sym c.in_ok-report.ensures.ends) in
+    begins_lent _ script c.args.options.now.relays made.0 (table_of c.in_ok-bus.bus) ws made.1.0 made.1.1 c.in_ok-ends.ports.items report.ends.items report.waiting.items c.in_ok-ends.ensures.ports ends waiting
 
 pub returns-clause-whole : goal.returns-clause-whole
 returns-clause-whole g c =
     let script = c.args.script.now in
     let made = c.in_ok-worked.ensures.worked in
     let ws = c.in_ok-worked.worked.items in
-    let said = transcripts_of (record { transcripts = c.truncate.new.self; waiting = c.in_ok-waiting.waiting }) in
-    let lines : said ≡ take script.ranks (map lines_in ws) = ap (map _) c.truncate.ensures.items ∙ map_taken _ c.ranks-3.result c.in_ok-transcripts.transcripts.items ∙ ap (take c.ranks-3.result) c.in_ok-transcripts.ensures.lines ∙ ap (λ n. take n (map lines_in ws)) c.ranks-3.ensures.ranks in
-    let waiting : c.in_ok-waiting.waiting.items ≡ which (λ p. waits_at (slice_get ws p)) script.ranks = c.in_ok-waiting.ensures ∙ ap (λ xs. which (λ p. waits_at (slice_get xs p)) c.ranks.result) c.as_slice-2.ensures.value ∙ ap (which (λ p. waits_at (slice_get ws p))) c.ranks.ensures.ranks in
-    whole_lent _ script c.args.options.now.relays made.0 (table_of c.in_ok-bus.bus) ws made.1.0 made.1.1 c.in_ok-transcripts.ports.items said c.in_ok-waiting.waiting.items c.in_ok-transcripts.ensures.ports lines waiting
+    let report = c.in_ok-report.report in
+    let ends : report.ends.items ≡ take script.ranks (map (λ (w : Worked). w.end) ws) = ap (λ v. v.items) c.in_ok-report.ensures.ends ∙ c.truncate.ensures.items ∙ ap (take c.ranks-2.result) c.in_ok-ends.ensures.ends ∙ ap (λ n. take n (map (λ (w : Worked). w.end) ws)) c.ranks-2.ensures.ranks in
+    let waiting : report.waiting.items ≡ waiting_among (map end_view report.ends.items) = c.in_ok-report.ensures.waiting ∙ ap (λ v. waiting_among (map end_view v.items)) (sym c.in_ok-report.ensures.ends) in
+    whole_lent _ script c.args.options.now.relays made.0 (table_of c.in_ok-bus.bus) ws made.1.0 made.1.1 c.in_ok-ends.ports.items report.ends.items report.waiting.items c.in_ok-ends.ensures.ports ends waiting
 
 pub returns-clause-rests : goal.returns-clause-rests
 returns-clause-rests g c so evaluation is =
     let script = c.args.script.now in
     let made = c.in_ok-worked.ensures.worked in
     let ws = c.in_ok-worked.worked.items in
-    let said = transcripts_of (record { transcripts = c.truncate.new.self; waiting = c.in_ok-waiting.waiting }) in
-    let lines : said ≡ take script.ranks (map lines_in ws) = ap (map _) c.truncate.ensures.items ∙ map_taken _ c.ranks-3.result c.in_ok-transcripts.transcripts.items ∙ ap (take c.ranks-3.result) c.in_ok-transcripts.ensures.lines ∙ ap (λ n. take n (map lines_in ws)) c.ranks-3.ensures.ranks in
-    let waiting : c.in_ok-waiting.waiting.items ≡ which (λ p. waits_at (slice_get ws p)) script.ranks = c.in_ok-waiting.ensures ∙ ap (λ xs. which (λ p. waits_at (slice_get xs p)) c.ranks.result) c.as_slice-2.ensures.value ∙ ap (which (λ p. waits_at (slice_get ws p))) c.ranks.ensures.ranks in
-    let rest = subst (λ (x : ℕ × List Worked). HaveComeToRest x.0 x.1) (λ i. (c.ranks-2.ensures.ranks i, c.as_slice-3.ensures.value i)) (c.are_at_rest-rests.ensures.yes so) in
-    all_lent _ script c.args.options.now.relays made.0 (table_of c.in_ok-bus.bus) ws made.1.0 made.1.1 c.in_ok-transcripts.ports.items said c.in_ok-waiting.waiting.items c.in_ok-transcripts.ensures.ports lines waiting rest evaluation is
+    let report = c.in_ok-report.report in
+    let ends : report.ends.items ≡ take script.ranks (map (λ (w : Worked). w.end) ws) = ap (λ v. v.items) c.in_ok-report.ensures.ends ∙ c.truncate.ensures.items ∙ ap (take c.ranks-2.result) c.in_ok-ends.ensures.ends ∙ ap (λ n. take n (map (λ (w : Worked). w.end) ws)) c.ranks-2.ensures.ranks in
+    let waiting : report.waiting.items ≡ waiting_among (map end_view report.ends.items) = c.in_ok-report.ensures.waiting ∙ ap (λ v. waiting_among (map end_view v.items)) (sym c.in_ok-report.ensures.ends) in
+    let rest = subst (λ (x : ℕ × List Worked). HaveComeToRest x.0 x.1) (λ i. (c.ranks.ensures.ranks i, c.as_slice-2.ensures.value i)) (c.are_at_rest-rests.ensures.yes so) in
+    all_lent _ script c.args.options.now.relays made.0 (table_of c.in_ok-bus.bus) ws made.1.0 made.1.1 c.in_ok-ends.ports.items report.ends.items report.waiting.items c.in_ok-ends.ensures.ports ends waiting rest evaluation is

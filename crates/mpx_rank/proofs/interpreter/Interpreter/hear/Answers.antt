@@ -1,10 +1,9 @@
-use Rattle.std.proofs.Common.{sym, refl, subst, string_bytes, Some}
+use Rattle.std.proofs.Common.{◌∷◌, ◌++◌, [], ap, sym, refl, subst, ◌∙◌, Some}
 use Rattle.mpx_meaning.specs.Standing.{WaitView}
 use Rattle.mpx_rank.specs.declared.carrier.Heard.TheVariants.{NotYet, Told}
 use Rattle.mpx_rank.specs.Carriers.{HearsOf}
 use Rattle.mpx_rank.specs.Moves.{Move, RankView, hears, waits_on}
 use Rattle.mpx_rank.specs.Shown.{rank_of, wait_of}
-use Rattle.mpx_rank.proofs.Moving.{lines_push}
 use Rattle.mpx_rank.proofs.interpreter.Interpreter.hear.Goals as goal
 
 pub returns-in-NotYet : goal.returns-in-NotYet
@@ -25,9 +24,8 @@ returns-in_ok-bind-in-Told g c =
     let old = rank_of place c.args.self.now in
     let w : WaitView = wait_of place c.args.wait in
     let waiting : RankView g.row.C-Communicator.Denot = record old { waits = Some w } in
-    let heard : HearsOf terms c.hear.new.self old.me (place c.args.wait.call) c.args.wait.call (Told c.in-Told.text c.in-Told.given) = subst (HearsOf terms c.hear.new.self old.me (place c.args.wait.call) c.args.wait.call) c.in-Told.is c.in_ok-call.ensures.told in
-    let text = string_bytes c.in-Told.text in
-    let lines = lines_push string_bytes c.args.self.now.lines.items c.push.new.self.items c.in-Told.text text c.in_ok-push-in-Told.ensures.items refl in
+    let heard : HearsOf terms c.hear.new.self old.me (place c.args.wait.call) c.args.wait.call (Told c.in-Told.line c.in-Told.given) = subst (HearsOf terms c.hear.new.self old.me (place c.args.wait.call) c.args.wait.call) c.in-Told.is c.in_ok-call.ensures.told in
+    let lines = c.in_ok-push-in-Told.ensures.items ∙ ap (λ l. old.lines ++ l ∷ []) heard.2 in
     subst (λ (r : RankView g.row.C-Communicator.Denot). Move terms waiting c.args.carrier.now r c.hear.new.self)
     (λ i. record { me = old.me; bound = λ word. sym (c.in_ok-bind-in-Told.ensures.bound word) i; requests = old.requests; todo = old.todo; waits = sym c.requires i; lines = sym lines i; origins = sym c.in_ok-push_origins-in-Told.ensures i })
-    (hears w heard.0 text c.in-Told.given refl c.in_ok-call.ensures.hears heard.1 heard.2 heard.3)
+    (hears w heard.0 c.in-Told.given refl c.in_ok-call.ensures.hears heard.1 heard.3)

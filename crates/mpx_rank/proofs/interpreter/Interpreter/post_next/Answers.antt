@@ -4,9 +4,7 @@ use Rattle.std.specs.Option.{option_copied, option_map}
 use Rattle.mpx_num.specs.declared.own.Operation.{Operation}
 use Rattle.mpx_num.specs.Own.{operation_of}
 use Rattle.mpx_statement.specs.Statements.{communicator_word, started_as}
-use Rattle.mpx_meaning.specs.Ranks.{Refused}
 use Rattle.mpx_meaning.specs.Standing.{looked_up}
-use Rattle.mpx_meaning.specs.Transcripts.{line_text}
 use Rattle.mpx_meaning.proofs.Standing.{binds_seen}
 use Rattle.mpx_rank.specs.Moves.{Move, RankView, communicator_in, is_refused, posts, posts_not, starts}
 use Rattle.mpx_rank.specs.Shown.{rank_of}
@@ -62,7 +60,7 @@ returns-in-Err g c =
     let on : option_copied c.communicator-on.result ≡ communicator_in (old.bound (communicator_word posting)) = c.communicator-on.ensures ∙ ap (λ w. communicator_in (old.bound w)) c.words_of-words.ensures.on in
     let tried = subst (λ o. terms.tries c.args.carrier.now old.me posting o (Err c.in-Err.refusal) c.post.new.self) on c.in-Err.ensures in
     subst (λ (r : RankView g.row.C-Communicator.Denot). Move terms old c.args.carrier.now r c.post.new.self) (sym c.in_ok-be_refused-in-Err.ensures.line)
-    (is_refused posting c.args.rest.now c.in-Err.refusal (line_text (Refused c.in-Err.refusal)) c.requires.waits c.requires.todo c.in_ok-be_refused-in-Err.ensures.other tried refl)
+    (is_refused posting c.args.rest.now c.in-Err.refusal c.requires.waits c.requires.todo c.in_ok-be_refused-in-Err.ensures.other tried)
 
 pub post-requires : goal.post-requires
 post-requires g c =
