@@ -85,7 +85,7 @@ fn all_posted<H: Host>(
 ) -> Option<Vec<Request>> {
     let mut requests = Vec::new(alloc);
     for _ in 0..calls {
-        let list = vec![in alloc; GREATEST, 4_096].ok()?;
+        let list = vec![in alloc; GREATEST; 4_096].ok()?;
         let items = Numbers::new(alloc, list).ok()?;
         let request = desk.iallgather(alloc, world, Ty::I64, items, ops).ok()?;
         requests.push(request).ok()?;
