@@ -14,6 +14,8 @@ mod desks;
 #[cfg(test)]
 mod had;
 #[cfg(test)]
+mod job_sizes;
+#[cfg(test)]
 mod jobs;
 #[cfg(test)]
 mod let_go;
