@@ -10,7 +10,9 @@ use Rattle.mpx_script.specs.ScriptView.{ScriptView}
 use Rattle.mpx_meaning.specs.Ranks.{Local, doing}
 use Rattle.mpx_meaning.specs.Evaluation.{Script, State, IsEvaluation, IsPrefixOf, known}
 use Rattle.mpx_meaning.specs.Transcripts.{line_text}
-use Rattle.mpx_meaning.specs.Reports.{which, is_left, lines_in, waiting_in}
+use Rattle.mpx_meaning.specs.declared.end.RankEnd.{RankEnd}
+use Rattle.mpx_meaning.specs.Ends.{EndView, end_of, end_view, waiting_among}
+use Rattle.mpx_meaning.specs.Reports.{end_text, is_left, lines_in, waiting_in}
 use Rattle.mpx_meaning.proofs.Ways.{Way, way-adds}
 use Rattle.mpx_meaning.proofs.Ahead.{confluent, on_way-reached, finished}
 use Rattle.mpx_meaning.proofs.Steps.{step_ends}
@@ -20,15 +22,21 @@ use Rattle.mpx_system.specs.Systems.{System, IsOfHappenings, start_system}
 use Rattle.mpx_system.proofs.Happenings.{of_happenings}
 use Rattle.mpx_system.proofs.Coupling.{tells_results}
 use Rattle.mpx_system.proofs.Results.{length_taken, mapped_at, nothing_left, prefix_map, some_at, taken_at, which_has}
-use Rattle.mpx_meaning.proofs.Reports.{which_same}
+use Rattle.mpx_meaning.proofs.Reports.{waiting-left}
+use Rattle.mpx_rank.specs.Places.{end_of_rank}
+use Rattle.mpx_rank.proofs.Ending.{end_stands}
 use Rattle.mpx_system.proofs.Settled.{stuck_ends}
 use Rattle.mpx_sim.specs.Ends.{AllLack, RestsBy, nodes_of}
 use Rattle.mpx_sim.specs.Draws.{first_schedule}
 use Rattle.mpx_sim.specs.Turns.{Alone, AreAfter, AreTurns, FrameView, IsLeft, Moment, first_moment}
-use Rattle.mpx_sim.specs.Running.{IsUnderWay, ProcessView, is_waiting_at}
+use Rattle.mpx_sim.specs.Running.{IsUnderWay, ProcessView, is_waiting_at, with_births}
 use Rattle.mpx_sim.proofs.Ends.{which_none}
 use Rattle.mpx_sim.proofs.Resting.{no_move, rests_ends}
 use Rattle.mpx_sim.proofs.Running.{couples}
+
+-- the lines of a rank's end, as text
+abbrev view_text : EndView → List (List ℕ)
+view_text e = map line_text e.lines
 
 left_doing : (todo : List Statement) → has_statements todo ≡ is_left (doing todo)
 left_doing [] = refl
@@ -46,17 +54,34 @@ left_at ops script ranks size begun processes frames run p l waits = by_view (sl
   by_view (Some v) e w = record { rank = p; among = l; left = sym (left_todo v.rank.waits v.rank.todo ∙ ap is_left (sym ((run.each p v e).stands l).stands.todo)) ∙ w }
 
 module _ (ops : List Operation) (script : ScriptView) (relays : ℕ) (begun : Moment) (processes : List ProcessView) (frames : List FrameView) (run : IsUnderWay ops script.statements script.ranks (script.ranks + relays) begun Alone processes frames) where
+  -- how the ranks end
+  abbrev ended : List EndView
+  ended = take script.ranks (map (λ (v : ProcessView). end_of_rank v.rank) processes)
+
   abbrev transcripts : List (List (List ℕ))
-  transcripts = take script.ranks (map (λ (v : ProcessView). v.rank.lines) processes)
+  transcripts = map view_text ended
 
   abbrev waiting : List ℕ
-  waiting = which (λ p. is_waiting_at (slice_get processes p)) script.ranks
+  waiting = waiting_among ended
+
+  ended_so : (p : ℕ) (e : EndView) → slice_get ended p ≡ Some e → (p < script.ranks) × (e ≡ end_of (run.system.ranks p))
+  ended_so p e f =
+      let taken = taken_at script.ranks (map (λ (v : ProcessView). end_of_rank v.rank) processes) p e f in
+      let found = mapped_at (λ (v : ProcessView). end_of_rank v.rank) processes p e taken.1 in
+      let stands = (run.each p found.0 found.1).stands taken.0 in
+      (taken.0, sym found.2 ∙ end_stands (with_births stands.bound found.0.rank) (run.system.ranks p) stands.stands)
+
+  lines_at : (p : ℕ) (lines : List (List ℕ)) → slice_get transcripts p ≡ Some lines → (p < script.ranks) × (lines ≡ lines_in run.system.ranks p)
+  lines_at p lines e =
+      let found = mapped_at view_text ended p lines e in
+      let so = ended_so p found.0 found.1 in
+      (so.0, sym found.2 ∙ ap view_text so.1)
 
   lines_so : (p : ℕ) (lines : List (List ℕ)) → slice_get transcripts p ≡ Some lines → lines ≡ lines_in run.system.ranks p
-  lines_so p lines e =
-      let taken = taken_at script.ranks (map (λ (v : ProcessView). v.rank.lines) processes) p lines e in
-      let found = mapped_at (λ (v : ProcessView). v.rank.lines) processes p lines taken.1 in
-      sym found.2 ∙ ((run.each p found.0 found.1).stands taken.0).stands.lines
+  lines_so p lines e = (lines_at p lines e).1
+
+  count : length ended ≡ script.ranks
+  count = length_taken script.ranks (map (λ (v : ProcessView). end_of_rank v.rank) processes) (omega (arith, length-map processes (λ (v : ProcessView). end_of_rank v.rank), run.count))
 
   waits_at : (p : ℕ) → p < script.ranks → is_waiting_at (slice_get processes p) ≡ is_left (run.system.ranks p).todo
   waits_at p l =
@@ -65,7 +90,7 @@ module _ (ops : List Operation) (script : ScriptView) (relays : ℕ) (begun : Mo
       ap is_waiting_at found.1 ∙ left_todo r.waits r.todo ∙ ap is_left (sym ((run.each p found.0 found.1).stands l).stands.todo)
 
   waiting_so : waiting ≡ waiting_in run.system.ranks script.ranks
-  waiting_so = which_same (λ p. is_waiting_at (slice_get processes p)) (λ p. is_left (run.system.ranks p).todo) script.ranks waits_at
+  waiting_so = waiting-left ended run.system.ranks (λ p e f. (ended_so p e f).1) ∙ ap (waiting_in run.system.ranks) count
 
   pub is_run : IsRun ops script relays (nodes_of processes) transcripts waiting
   is_run =
@@ -81,7 +106,7 @@ module _ (ops : List Operation) (script : ScriptView) (relays : ℕ) (begun : Mo
         relays_post_nothing = λ p over. c.made p ∙ c.relays p over;
         carries_out = c.told;
         told = tells_results ops script.statements script.ranks run.system c;
-        ranks_are = length_taken script.ranks (map (λ (v : ProcessView). v.rank.lines) processes) (omega (arith, length-map processes (λ (v : ProcessView). v.rank.lines), run.count));
+        ranks_are = length-map ended view_text ∙ count;
         lines = lines_so;
         waiting_are = waiting_so;
       }
@@ -93,7 +118,7 @@ module _ (ops : List Operation) (script : ScriptView) (relays : ℕ) (begun : Mo
       no_move ops script.ranks run.system p l v.0 (run.each p v.0 v.1) told hand (lack p v.0 l v.1)
 
   pub is_over : (loss : ℕ) → RestsBy loss script.ranks processes → IsOver ops script relays loss (nodes_of processes) transcripts waiting
-  is_over loss (inl finished) = record { run = is_run; over = inl (which_none (λ p. is_waiting_at (slice_get processes p)) script.ranks finished) }
+  is_over loss (inl finished) = record { run = is_run; over = inl (waiting_so ∙ which_none (λ p. is_left (run.system.ranks p).todo) script.ranks (λ p l. sym (waits_at p l) ∙ finished p l)) }
   is_over loss (inr (inl rest)) = record { run = is_run; over = inr (inl rest.0, all_wait rest.1) }
   is_over loss (inr (inr lost)) = record { run = is_run; over = inr (inr lost.0, all_wait lost.1) }
 
@@ -116,7 +141,7 @@ module _ (ops : List Operation) (script : ScriptView) (relays : ℕ) (begun : Mo
 
     pub are_whole : AreWhole transcripts waiting end
     are_whole p lines e other =
-        let l = (taken_at script.ranks (map (λ (v : ProcessView). v.rank.lines) processes) p lines e).0 in
+        let l = (lines_at p lines e).0 in
         let todo : (run.system.ranks p).todo ≡ [] = nothing_left (run.system.ranks p).todo (λ is.
         let found = which_has (λ q. is_left (run.system.ranks q).todo) script.ranks p l is in
         other found.0 (ap (λ ws. slice_get ws found.0) waiting_so ∙ found.1)) in
@@ -135,12 +160,21 @@ module _ (ops : List Operation) (script : ScriptView) (relays : ℕ) (begun : Mo
     are_all rest e is = subst (AreAll transcripts waiting script.ranks) (confluent ops script.statements script.ranks run.system.ranks e (has_come rest) is) (record { lines = lines_so; who = waiting_so })
 
 module _ (ops : List Operation) (script : ScriptView) (relays ranks : ℕ) (same : ranks ≡ script.ranks) (begun : Moment) (processes : List ProcessView) (frames : List FrameView) (run : IsUnderWay ops script.statements script.ranks (script.ranks + relays) begun Alone processes frames)
-    (told : List NodeView) (said : List (List (List ℕ))) (wait : List ℕ) (nodes_so : told ≡ nodes_of processes) (lines_said : said ≡ take ranks (map (λ (v : ProcessView). v.rank.lines) processes)) (wait_so : wait ≡ which (λ p. is_waiting_at (slice_get processes p)) ranks) where
+    (told : List NodeView) (ends : List RankEnd) (wait : List ℕ) (nodes_so : told ≡ nodes_of processes) (ends_so : map end_view ends ≡ take ranks (map (λ (v : ProcessView). end_of_rank v.rank) processes)) (wait_so : wait ≡ waiting_among (map end_view ends)) where
+  abbrev said : List (List (List ℕ))
+  said = map end_text ends
+
+  ended_are : map end_view ends ≡ ended ops script relays begun processes frames run
+  ended_are = ends_so ∙ ap (λ n. take n (map (λ (v : ProcessView). end_of_rank v.rank) processes)) same
+
   said_so : transcripts ops script relays begun processes frames run ≡ said
-  said_so = sym (lines_said ∙ ap (λ n. take n (map (λ (v : ProcessView). v.rank.lines) processes)) same)
+  said_so = sym (ap (map view_text) ended_are) ∙ viewed ends where
+    viewed : (es : List RankEnd) → map view_text (map end_view es) ≡ map end_text es
+    viewed [] = refl
+    viewed (e ∷ es) = ap (λ rest. end_text e ∷ rest) (viewed es)
 
   waiting_is : waiting ops script relays begun processes frames run ≡ wait
-  waiting_is = sym (wait_so ∙ ap (which (λ p. is_waiting_at (slice_get processes p))) same)
+  waiting_is = sym (wait_so ∙ ap waiting_among ended_are)
 
   pub run_said : IsRun ops script relays told said wait
   run_said = subst (λ ns. IsRun ops script relays ns said wait) (sym nodes_so) (subst (λ ls. IsRun ops script relays (nodes_of processes) ls wait) said_so (subst (IsRun ops script relays (nodes_of processes) (transcripts ops script relays begun processes frames run)) waiting_is (is_run ops script relays begun processes frames run)))

@@ -1,13 +1,13 @@
 //! What a run comes to.
-ghost use Rattle.std.specs.Prelude.{◌≡◌, ◌++◌, ◌<◌, ◌≤◌, ◌+◌, ◌∷◌, [], IfOk, OnOk, length, map, slice_get};
+ghost use Rattle.std.specs.Prelude.{◌≡◌, ◌++◌, ◌<◌, ◌≤◌, ◌+◌, ◌∷◌, [], IfOk, OnOk, map};
 ghost use Rattle.mpx_node.specs.Shown.{node_of};
 ghost use Rattle.mpx_meaning.specs.Evaluation.{State};
-ghost use Rattle.mpx_meaning.specs.Reports.{transcripts_of, which};
+ghost use Rattle.mpx_meaning.specs.Reports.{transcripts_of};
 ghost use Rattle.mpx_meaning.specs.Ends.{end_view};
 ghost use Rattle.mpx_rank.specs.Places.{end_of_rank};
 ghost use Rattle.mpx_system.specs.Runs.{AreAll, AreWhole, Begin, IsEvaluationOf, IsOver, IsRun};
 ghost use Rattle.mpx_sim.specs.Ends.{AllMadeOr, nodes_of};
-ghost use Rattle.mpx_sim.specs.Running.{ProcessView, is_waiting_at};
+ghost use Rattle.mpx_sim.specs.Running.{ProcessView};
 ghost use Rattle.mpx_sim.specs.Shown.{process_of};
 ghost use Rattle.mpx_sim.specs.Turns.{AreAfter};
 
@@ -15,7 +15,7 @@ use crate::observer::{Observer, Unobserved};
 use crate::process::Process;
 use crate::turns::simulate;
 use join_core::OutOfMemory;
-use mpx_meaning::{RankEnd, Report, push_where};
+use mpx_meaning::{RankEnd, Report};
 use mpx_node::{Node, drop_nodes};
 use mpx_num::{Listing, Ops};
 use mpx_script::Script;
@@ -99,26 +99,19 @@ pub fn run_sim_observed<R: Threads + Sync>(
     observer.over();
     let (processes, turns) = ran?;
     let ranks = script.ranks();
-    let waiting = waiting_of(alloc, processes.as_slice(), ranks)?;
     let (mut ends, nodes) = parts_of(alloc, processes)?;
     ends.truncate(ranks as usize);
-    Ok(Run {
-        report: Report { ends, waiting },
-        nodes,
-        turns,
-    })
-}
-
-// The ranks that have something left, in rising order.
-fn waiting_of(alloc: Global, processes: &[Process<'_>], ranks: u8) -> Result<Vec<u8>, OutOfMemory>
-    requires { ranks ≤ length processes.now }
-    ensures { IfOk result (λ waiting. waiting.items ≡ which (λ p. is_waiting_at (slice_get (map process_of processes.now) p)) ranks) }
-{
-    let mut waiting = Vec::new(alloc);
-    for p in 0..ranks {
-        push_where(&mut waiting, p, processes[p as usize].is_waiting())?;
+    match Report::of(alloc, ends) {
+        Ok(report) => Ok(Run {
+            report,
+            nodes,
+            turns,
+        }),
+        Err(e) => {
+            drop_nodes(nodes);
+            Err(e)
+        }
     }
-    Ok(waiting)
 }
 
 // How each process's rank ends, and its node.

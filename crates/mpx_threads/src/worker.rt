@@ -105,7 +105,7 @@ fn work_as_rank<L: PortLock + Send + Sync, G: Gate + Sync, R: Threads + Wait + S
     )?;
     let Carried { end, poster } = carried;
     let port = shared.into_port(poster);
-    Ok(with_port(alloc, script, me, port, gossip, end))
+    Ok(with_port::<L>(alloc, script, me, port, gossip, end))
 }
 
 // Both at once; where the thread is refused, the run stops.

@@ -1,9 +1,0 @@
-use Rattle.std.proofs.Common.{◌≡◌, map}
-use Rattle.std.specs.Prelude.{slice_get}
-use Rattle.mpx_meaning.specs.Reports.{which}
-use Rattle.mpx_sim.specs.Running.{is_waiting_at}
-use Rattle.mpx_sim.specs.Shown.{process_of}
-use Rattle.mpx_sim.proofs.report.waiting_of.Given as goal
-
-abbrev pub invariant-loop-p : goal.invariant-loop-p
-invariant-loop-p l = l.waiting.items ≡ which (λ p. is_waiting_at (slice_get (map process_of l.processes) p)) l.p
