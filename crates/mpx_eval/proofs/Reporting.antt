@@ -16,7 +16,7 @@ use Rattle.mpx_meaning.proofs.Ends.{start_quiet}
 use Rattle.mpx_meaning.proofs.Reports.{lines-said, waiting-left}
 use Rattle.mpx_meaning.specs.declared.end.RankEnd.{RankEnd}
 use Rattle.mpx_rank.specs.Places.{end_of_rank}
-use Rattle.mpx_rank.proofs.Ending.{end_stands}
+use Rattle.mpx_rank.proofs.RankEnds.{end_stands}
 use Rattle.mpx_eval.specs.Evaluated.{EndSo, IsEvaluated}
 use Rattle.mpx_meaning.specs.Standing.{WaitView, has_statements, todo_of}
 use Rattle.mpx_eval.specs.Places.{TableRank}

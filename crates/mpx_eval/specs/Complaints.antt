@@ -1,5 +1,5 @@
 -- Which calls were refused, and which are faults, by the lines of an evaluation's transcripts.
-use Rattle.std.specs.Prelude.{ℕ, zero, suc, ◌-◌, Bool, true, false, cond, List, [], ◌∷◌, ◌++◌, bytes_eq, length, slice_get, Option, Some, None}
+use Rattle.std.specs.Prelude.{ℕ, zero, suc, ◌-◌, Bool, true, false, cond, List, [], ◌∷◌, ◌++◌, bytes_eq, length, slice_get, Option, Some}
 use Rattle.std.specs.List.{flat_map, position_or_len, zip}
 use Rattle.std.specs.Option.{option_map_or}
 use Rattle.mpx_statement.specs.Statements.{request_of}

@@ -1,14 +1,12 @@
 -- Who waits at the end of an evaluation: at which statement, for which calls, and for whose posts to them.
-use Rattle.std.specs.Prelude.{ℕ, ◌-◌, Bool, nat_le, is_none, List, [], ◌∷◌, length, map, Option, Some, None}
+use Rattle.std.specs.Prelude.{ℕ, ◌-◌, Bool, nat_le, is_none, List, [], length, map, Option, Some, None}
 use Rattle.std.specs.List.{filter}
 use Rattle.mpx_num.specs.declared.own.Operation.{Operation}
 use Rattle.mpx_name.specs.Name.{Name}
 use Rattle.mpx_birth.specs.Births.{BirthView}
 use Rattle.mpx_value.specs.Histories.{Results, birth_of, has_freed, posts_on}
 use Rattle.mpx_statement.specs.declared.statement.Statement.{Statement}
-use Rattle.mpx_statement.specs.declared.statement.Statement.TheVariants.{Post, Wait, Ask}
-use Rattle.mpx_statement.specs.Lookups.{named}
-use Rattle.mpx_meaning.specs.Ranks.{Todo, Do, Await, Local, Next, End, Asks}
+use Rattle.mpx_meaning.specs.Ranks.{Next, End, Asks}
 use Rattle.mpx_meaning.specs.Standing.{closed}
 use Rattle.mpx_meaning.specs.Evaluation.{State, history, known, statements_of}
 pub use Rattle.mpx_meaning.specs.Ends.{Asked, asked, asked_at, asked_by, asked_of, asked_then}

@@ -1,4 +1,4 @@
-pub mod Ending
+pub mod RankEnds
 pub mod Moving
 pub mod Stepping
 pub mod Telling

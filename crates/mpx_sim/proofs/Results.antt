@@ -24,7 +24,7 @@ use Rattle.mpx_system.proofs.Coupling.{tells_results}
 use Rattle.mpx_system.proofs.Results.{length_taken, mapped_at, nothing_left, prefix_map, some_at, taken_at, which_has}
 use Rattle.mpx_meaning.proofs.Reports.{waiting-left}
 use Rattle.mpx_rank.specs.Places.{end_of_rank}
-use Rattle.mpx_rank.proofs.Ending.{end_stands}
+use Rattle.mpx_rank.proofs.RankEnds.{end_stands}
 use Rattle.mpx_system.proofs.Settled.{stuck_ends}
 use Rattle.mpx_sim.specs.Ends.{AllLack, RestsBy, nodes_of}
 use Rattle.mpx_sim.specs.Draws.{first_schedule}

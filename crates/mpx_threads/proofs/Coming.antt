@@ -23,7 +23,7 @@ use Rattle.mpx_bus.specs.Rule.{planned_posts}
 use Rattle.mpx_rank.specs.Carriers.{IsToldWithin, Terms, outcomes_of}
 use Rattle.mpx_rank.specs.Moves.{GoesOn, MayGo, RankView, bound_first, communicator_in}
 use Rattle.mpx_rank.specs.Places.{CommunicatorView, StandsInScript, attempt_by, bound_as, end_of_rank}
-use Rattle.mpx_rank.proofs.Ending.{end_stands}
+use Rattle.mpx_rank.proofs.RankEnds.{end_stands}
 use Rattle.mpx_rank.proofs.Stepping.{Came, GoesBy, StaysTold, goes_on_goes, ran_goes}
 use Rattle.mpx_rank.proofs.Words.{attempt_same, bound_there, communicator_same}
 use Rattle.mpx_script.specs.ScriptView.{ScriptView}

@@ -6,7 +6,6 @@ use Rattle.mpx_birth.specs.Births.{BirthView}
 use Rattle.mpx_board.specs.Boards.{Look, told}
 use Rattle.mpx_node.specs.Nodes.{NodeView, front_on}
 use Rattle.mpx_bus.specs.Ports.{PortView, node_in}
-use Rattle.mpx_statement.specs.declared.statement.Statement.{Statement}
 use Rattle.mpx_statement.specs.declared.statement.Statement.TheVariants.{Wait}
 use Rattle.mpx_statement.specs.Lookups.{named}
 use Rattle.mpx_meaning.specs.Ends.{Asked, EndView, WaitsAtView, end_view}

@@ -1,6 +1,3 @@
-use Rattle.std.proofs.Common.{◌≡◌, ap, map, sym, ◌∙◌}
-use Rattle.mpx_meaning.specs.Ends.{end_view, waiting_among}
-use Rattle.mpx_eval.specs.Evaluated.{EndSo, IsEvaluated}
 use Rattle.mpx_eval.proofs.Reporting.{evaluated}
 use Rattle.mpx_eval.proofs.evaluation.eval.Goals as goal
 

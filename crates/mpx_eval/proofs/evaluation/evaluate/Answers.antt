@@ -1,4 +1,4 @@
-use Rattle.std.proofs.Common.{◌≡◌, ◌<◌, ℕ, List, map, length, ap, sym, ◌∙◌, subst, arith}
+use Rattle.std.proofs.Common.{◌≡◌, ℕ, List, map, length, ap, sym, ◌∙◌, subst}
 use Rattle.std.proofs.lemmas.Result.{IfOk-weaker}
 use Rattle.mpx_num.specs.declared.own.Operation.{Operation}
 use Rattle.mpx_num.specs.Own.{operation_of}
@@ -8,12 +8,11 @@ use Rattle.mpx_name.specs.Name.{Name}
 use Rattle.mpx_rank.specs.declared.interpreter.Interpreter.{Interpreter}
 use Rattle.mpx_rank.specs.Places.{CommunicatorView, end_of_rank}
 use Rattle.mpx_eval.specs.declared.table.Table.{Table}
-use Rattle.mpx_eval.specs.Evaluated.{EndSo}
 use Rattle.mpx_eval.specs.Rounds.{AreIn}
 use Rattle.mpx_eval.specs.Carrying.{shown}
 use Rattle.mpx_eval.specs.Tables.{table_of}
 use Rattle.mpx_eval.proofs.Going.{written_back}
-use Rattle.mpx_eval.proofs.Reporting.{are_in_start, end_so, evaluated, reached_start}
+use Rattle.mpx_eval.proofs.Reporting.{are_in_start, end_so, reached_start}
 use Rattle.mpx_eval.proofs.evaluation.evaluate.Goals as goal
 
 pub returns : goal.returns

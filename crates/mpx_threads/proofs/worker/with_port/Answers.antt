@@ -1,8 +1,7 @@
-use Rattle.std.proofs.Common.{◌≡◌, ◌∙◌, ap, length, subst, sym}
-use Rattle.std.specs.List.{list_all}
+use Rattle.std.proofs.Common.{◌∙◌, ap, length, sym}
 use Rattle.mpx_shared.specs.LawfulPorts.{made_in}
 use Rattle.mpx_meaning.specs.Ends.{end_view}
-use Rattle.mpx_threads.specs.Work.{AreHeld, end_first, is_held}
+use Rattle.mpx_threads.specs.Work.{end_first}
 use Rattle.mpx_threads.proofs.Holding.{has_not_worked, has_worked}
 use Rattle.mpx_threads.proofs.Plans.{statements_at}
 use Rattle.mpx_threads.proofs.worker.with_port.Goals as goal
