@@ -21,7 +21,8 @@ use Rattle.mpx_statement.specs.declared.statement.Statement.TheVariants.{Post, W
 use Rattle.mpx_statement.specs.Statements.{bound_to, started_as}
 use Rattle.mpx_statement.specs.Lookups.{named}
 use Rattle.mpx_script.specs.ScriptView.{ScriptView}
-use Rattle.mpx_meaning.specs.Ranks.{Await, Bindings, Do, Line, Local, Requests, Todo, attempt, awaited_by, awaited_then, doing, next, next_call, next_by, posts_or_refuses, without}
+use Rattle.mpx_meaning.specs.declared.line.Line.{Line}
+use Rattle.mpx_meaning.specs.Ranks.{Await, Bindings, Do, Local, Requests, Todo, attempt, awaited_by, awaited_then, doing, next, next_call, next_by, posts_or_refuses, without}
 use Rattle.mpx_meaning.specs.Standing.{WaitView, awaited, closed, closed_all, looked_up, or_new, todo_of}
 use Rattle.mpx_meaning.specs.Evaluation.{bound_at_start, known, statements_of}
 use Rattle.mpx_meaning.specs.Reports.{is_left, which}

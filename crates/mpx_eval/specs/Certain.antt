@@ -11,7 +11,7 @@ use Rattle.mpx_statement.specs.declared.statement.Posting.TheVariants.{CreateGro
 use Rattle.mpx_statement.specs.declared.statement.Statement.{Statement}
 use Rattle.mpx_statement.specs.declared.statement.Statement.TheVariants.{Post}
 use Rattle.mpx_script.specs.ScriptView.{ScriptView}
-use Rattle.mpx_meaning.specs.Ranks.{Refused}
+use Rattle.mpx_meaning.specs.declared.line.Line.TheVariants.{Refused}
 use Rattle.mpx_meaning.specs.Transcripts.{line_text}
 use Rattle.mpx_eval.specs.Complaints.{ComplaintView, complaints_upto}
 use Rattle.mpx_eval.specs.Unheard.{complaint_by}

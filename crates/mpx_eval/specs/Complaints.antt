@@ -9,7 +9,8 @@ use Rattle.mpx_value.specs.declared.outcomes.Outcome.{Outcome}
 use Rattle.mpx_value.specs.declared.outcomes.Outcome.TheVariants.{Fault}
 use Rattle.mpx_meaning.specs.declared.origin.Origin.{Origin}
 use Rattle.mpx_meaning.specs.Evaluation.{State, statements_of}
-use Rattle.mpx_meaning.specs.Ranks.{Line, Refused, StrayRank, Told}
+use Rattle.mpx_meaning.specs.declared.line.Line.{Line}
+use Rattle.mpx_meaning.specs.declared.line.Line.TheVariants.{Refused, StrayRank, Told}
 use Rattle.mpx_meaning.specs.Transcripts.{line_text}
 
 -- a line of a rank's transcript that says so, and the place of the statement of its call among the rank's statements

@@ -5,7 +5,8 @@ use Rattle.mpx_name.specs.Name.{Name}
 use Rattle.mpx_statement.specs.declared.statement.Question.{Question}
 use Rattle.mpx_statement.specs.declared.statement.Statement.{Statement}
 use Rattle.mpx_statement.specs.declared.statement.Statement.TheVariants.{Ask}
-use Rattle.mpx_meaning.specs.Ranks.{Line, answered_by, doing}
+use Rattle.mpx_meaning.specs.declared.line.Line.{Line}
+use Rattle.mpx_meaning.specs.Ranks.{answered_by, doing}
 use Rattle.mpx_meaning.specs.Standing.{WaitView, awaited, closed, todo_of}
 use Rattle.mpx_rank.specs.Carriers.{Outcomes, Terms}
 use Rattle.mpx_rank.specs.Moves.{Move, RankView, answered, found_by, left_of, asks, hears, is_refused, passes, posts, starts, wait_lines}

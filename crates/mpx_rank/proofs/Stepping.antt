@@ -16,7 +16,9 @@ use Rattle.mpx_statement.specs.declared.statement.Statement.{Statement}
 use Rattle.mpx_statement.specs.declared.statement.Statement.TheVariants.{Post, Wait, Ask}
 use Rattle.mpx_statement.specs.Statements.{bound_to, communicator_word, started_as}
 use Rattle.mpx_statement.specs.Lookups.{named}
-use Rattle.mpx_meaning.specs.Ranks.{Act, Communicator, Do, Line, Local, Refused, Todo, Told, answered as answer_line, answered_by, answers, attempt, awaited_by, bind, bound_by, communicator_of, doing, done, found_of, next_call, origins_of, step, waited_lines}
+use Rattle.mpx_meaning.specs.declared.line.Line.{Line}
+use Rattle.mpx_meaning.specs.declared.line.Line.TheVariants.{Refused, Told}
+use Rattle.mpx_meaning.specs.Ranks.{Act, Communicator, Do, Local, Todo, answered as answer_line, answered_by, answers, attempt, awaited_by, bind, bound_by, communicator_of, doing, done, found_of, next_call, origins_of, step, waited_lines}
 use Rattle.mpx_meaning.specs.Going.{Goes, stays as stays_there, moves}
 use Rattle.mpx_meaning.specs.Standing.{WaitView, awaited, binds, todo_of}
 use Rattle.mpx_meaning.proofs.Fronts.{slice_get-parts}

@@ -5,7 +5,7 @@ use Rattle.std.proofs.lemmas.Option.{same_Some}
 use Rattle.std.specs.Str.{bytes_eq}
 use Rattle.mpx_name.specs.Name.{Name}
 use Rattle.mpx_value.specs.declared.outcomes.Outcome.{Outcome}
-use Rattle.mpx_meaning.specs.Ranks.{Told}
+use Rattle.mpx_meaning.specs.declared.line.Line.TheVariants.{Told}
 use Rattle.mpx_meaning.specs.Standing.{closed}
 use Rattle.mpx_rank.specs.Carriers.{IsToldWithin, Outcomes, Terms, is_told}
 use Rattle.mpx_rank.specs.Waits.{WasNotDone}

@@ -11,7 +11,8 @@ use Rattle.mpx_statement.specs.declared.statement.Posting.{Posting}
 use Rattle.mpx_statement.specs.Lookups.{named}
 use Rattle.mpx_meaning.specs.declared.asking.Found.{Found}
 use Rattle.mpx_meaning.specs.declared.asking.Found.TheVariants as W
-use Rattle.mpx_meaning.specs.Ranks.{Bindings, Bound, Communicator, NullCommunicator, Requests, Idle, answers, attempt_on, awaited_by, awaited_then, bind, communicator_of, found_as, found_of, line_then, open_or_null, waited_lines, without}
+use Rattle.mpx_meaning.specs.declared.line.Line.TheVariants.{Idle}
+use Rattle.mpx_meaning.specs.Ranks.{Bindings, Bound, Communicator, NullCommunicator, Requests, answers, attempt_on, awaited_by, awaited_then, bind, communicator_of, found_as, found_of, line_then, open_or_null, waited_lines, without}
 use Rattle.mpx_meaning.specs.Standing.{binds, closed}
 use Rattle.mpx_meaning.proofs.Standing.{binds_seen, named_behind, named_without, same_word}
 use Rattle.mpx_rank.specs.Carriers.{outcomes_of}

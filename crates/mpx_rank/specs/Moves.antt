@@ -14,7 +14,9 @@ use Rattle.mpx_statement.specs.Statements.{bound_to, communicator_word, started_
 use Rattle.mpx_meaning.specs.declared.origin.Origin.{Origin}
 use Rattle.mpx_meaning.specs.declared.asking.Found.{Found}
 use Rattle.mpx_meaning.specs.declared.asking.Found.TheVariants as W
-use Rattle.mpx_meaning.specs.Ranks.{Line, Told, Refused, Idle, answered_by, found_as, origins_of}
+use Rattle.mpx_meaning.specs.declared.line.Line.{Line}
+use Rattle.mpx_meaning.specs.declared.line.Line.TheVariants.{Told, Refused, Idle}
+use Rattle.mpx_meaning.specs.Ranks.{answered_by, found_as, origins_of}
 use Rattle.mpx_meaning.specs.Standing.{WaitView, awaited, binds, closed, closed_all, has_statements}
 use Rattle.mpx_rank.specs.Carriers.{Outcomes, Terms, is_told}
 

@@ -70,7 +70,7 @@ fn requested<C: Carrier>(
     mut requests: BTreeMap<Word, C::Call>,
     words: &[Word],
 ) -> Result<Vec<AskedCall>, OutOfMemory>
-    ensures { IfOk result (λ calls. map asked_view calls.items ≡ asked_by (requests_of C.place requests.entry) words.now) }
+    ensures { IfOk result (λ calls. map asked_view calls.items ≡ asked_by (requests_of C.place requests) words.now) }
 {
     let mut calls = Vec::new(alloc);
     for word in words {

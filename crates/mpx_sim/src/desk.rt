@@ -4,7 +4,7 @@ ghost use Rattle.std.specs.Option.{option_copied};
 ghost use Rattle.mpx_num.specs.declared.own.Operation.{Operation};
 ghost use Rattle.mpx_node.specs.Nodes.{has_next, start_node};
 ghost use Rattle.mpx_node.specs.Shown.{node_of};
-ghost use Rattle.mpx_meaning.specs.Ranks.{Told as TellsOutcome};
+ghost use Rattle.mpx_meaning.specs.declared.line.Line.TheVariants.{Told as TellsOutcome};
 ghost use Rattle.mpx_statement.specs.Statements.{gathers_of};
 ghost use Rattle.mpx_rank.specs.Shown.{requests_of};
 ghost use Rattle.mpx_sim.specs.declared.desk.Posted.{Posted as PostedView};

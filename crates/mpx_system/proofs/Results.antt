@@ -7,7 +7,8 @@ use Rattle.std.proofs.lemmas.List.{map-append}
 use Rattle.std.proofs.lemmas.Option.{same_Some, slice_get-map}
 use Rattle.std.proofs.lemmas.Bool.Decides.{nat_tests}
 use Rattle.mpx_world.proofs.Lists.{slice_get-push}
-use Rattle.mpx_meaning.specs.Ranks.{Todo, Line}
+use Rattle.mpx_meaning.specs.declared.line.Line.{Line}
+use Rattle.mpx_meaning.specs.Ranks.{Todo}
 use Rattle.mpx_meaning.specs.Evaluation.{IsPrefixOf}
 use Rattle.mpx_meaning.specs.Transcripts.{line_text}
 use Rattle.mpx_meaning.specs.Reports.{which, is_left}

@@ -17,7 +17,8 @@ use Rattle.mpx_statement.specs.declared.statement.Statement.{Statement}
 use Rattle.mpx_statement.specs.declared.statement.Statement.TheVariants.{Post}
 use Rattle.mpx_statement.specs.Statements.{Gathers as Asked, draft_of, gathers_of, communicator_word}
 use Rattle.mpx_statement.specs.Lookups.{named}
-use Rattle.mpx_meaning.specs.Ranks.{Bindings, Bound, Communicator, Todo, Do, Local, Told, post_gathered, post_on}
+use Rattle.mpx_meaning.specs.declared.line.Line.TheVariants.{Told}
+use Rattle.mpx_meaning.specs.Ranks.{Bindings, Bound, Communicator, Todo, Do, Local, post_gathered, post_on}
 use Rattle.mpx_meaning.specs.Evaluation.{State, start_state, rank_goes_on}
 
 pub record System : Type 0 where

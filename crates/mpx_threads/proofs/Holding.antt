@@ -22,7 +22,9 @@ use Rattle.mpx_statement.specs.declared.statement.Statement.{Statement}
 use Rattle.mpx_statement.specs.declared.statement.Statement.TheVariants.{Ask, Post, Wait}
 use Rattle.mpx_statement.specs.Lookups.{named}
 use Rattle.mpx_meaning.specs.Ends.{EndView, waits_with}
-use Rattle.mpx_meaning.specs.Ranks.{Line, Told, doing}
+use Rattle.mpx_meaning.specs.declared.line.Line.{Line}
+use Rattle.mpx_meaning.specs.declared.line.Line.TheVariants.{Told}
+use Rattle.mpx_meaning.specs.Ranks.{doing}
 use Rattle.mpx_meaning.specs.Evaluation.{IsPrefixOf, bound_at_start, known, start_state, statements_of}
 use Rattle.mpx_meaning.specs.Going.{Goes, stays}
 use Rattle.mpx_meaning.specs.Told.{CarriesOut, none}

@@ -8,7 +8,9 @@ use Rattle.mpx_value.specs.declared.outcomes.Outcome.{Outcome}
 use Rattle.mpx_value.specs.Histories.{Answer, Made, Results, Within}
 use Rattle.mpx_statement.specs.declared.statement.Statement.{Statement}
 use Rattle.mpx_statement.specs.Lookups.{named}
-use Rattle.mpx_meaning.specs.Ranks.{Bindings, Line, Local, Requests, Told, answers, awaited_by, awaited_then, line_then, next_call, waited_lines, without}
+use Rattle.mpx_meaning.specs.declared.line.Line.{Line}
+use Rattle.mpx_meaning.specs.declared.line.Line.TheVariants.{Told}
+use Rattle.mpx_meaning.specs.Ranks.{Bindings, Local, Requests, answers, awaited_by, awaited_then, line_then, next_call, waited_lines, without}
 use Rattle.mpx_meaning.specs.Told.{CarriesOut, Passes, accepted, asked, none, refused, started, waited}
 use Rattle.mpx_post.proofs.Lists.{slice_get-append}
 

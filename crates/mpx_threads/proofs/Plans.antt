@@ -12,7 +12,8 @@ use Rattle.mpx_shared.specs.LawfulPorts.{plan_history}
 use Rattle.mpx_statement.specs.declared.statement.Statement.{Statement}
 use Rattle.mpx_statement.specs.declared.statement.Statement.TheVariants.{Post}
 use Rattle.mpx_script.specs.ScriptView.{ScriptView}
-use Rattle.mpx_meaning.specs.Ranks.{Bindings, Line, Local, Requests}
+use Rattle.mpx_meaning.specs.declared.line.Line.{Line}
+use Rattle.mpx_meaning.specs.Ranks.{Bindings, Local, Requests}
 use Rattle.mpx_meaning.specs.Evaluation.{State, bound_at_start, history, known, statements_of}
 use Rattle.mpx_meaning.specs.Told.{CarriesOut, Passes, accepted, asked, none, refused, started, waited}
 use Rattle.mpx_meaning.proofs.Ends.{eval_of}

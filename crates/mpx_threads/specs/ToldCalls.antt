@@ -1,5 +1,5 @@
 -- What a rank was told of its calls, and what its carrier says of itself.
-use Rattle.std.specs.Prelude.{◌≡◌, ℕ, ℤ, ◌<◌, string_bytes, ◌+◌, ◌==◌, Bool, true, false, ◌&&◌, ◌||◌, cond, List, [], ◌∷◌, ◌++◌, length, take, Option, Some, None, Result, Ok, Err, IsTrue, is_some, slice_get}
+use Rattle.std.specs.Prelude.{◌≡◌, ℕ, ℤ, ◌<◌, ◌+◌, ◌==◌, Bool, true, false, ◌&&◌, ◌||◌, cond, List, [], ◌∷◌, ◌++◌, length, take, Option, Some, None, Result, Ok, Err, slice_get}
 use Rattle.std.proofs.Common.{refl, sym, ap, ◌∙◌, subst}
 use Rattle.std.specs.Option.{option_map}
 use Rattle.mpx_num.specs.declared.own.Operation.{Operation}
@@ -13,9 +13,7 @@ use Rattle.mpx_value.specs.Histories.{Answer, Made, Results, has_freed}
 use Rattle.mpx_statement.specs.declared.statement.Posting.{Posting}
 use Rattle.mpx_statement.specs.Statements.{draft_of, gathers_of}
 use Rattle.mpx_meaning.specs.Ranks.{attempt_in, bound_by, next_call, post_gathered, post_on}
-use Rattle.mpx_meaning.specs.Transcripts.{outcome_text}
 use Rattle.mpx_meaning.specs.Evaluation.{IsPrefixOf}
-use Rattle.mpx_node.specs.Nodes.{NodeView, result_on}
 use Rattle.mpx_bus.specs.declared.act.Setup.{Setup}
 use Rattle.mpx_bus.specs.Rule.{planned_posts}
 use Rattle.mpx_ticket.specs.declared.ticket.Ticket.{Ticket}
@@ -39,10 +37,6 @@ is_at name call t = (t.call == call) && same_name t.name name
 abbrev pub is_among : List ToldCall → Name → ℕ → Bool
 is_among [] name call = false
 is_among (t ∷ ts) name call = is_at name call t || is_among ts name call
-
--- the node holds a result of each of these calls
-abbrev pub AllHeld : NodeView → List ToldCall → Type 0
-AllHeld node told = (i : ℕ) (t : ToldCall) → slice_get told i ≡ Some t → IsTrue (is_some (result_on node t.name t.call))
 
 -- of these answers those of calls that were told
 abbrev pub told_of : Results → List ToldCall → Results
@@ -115,7 +109,7 @@ HearsMore d e = IsPrefixOf d.0 e.0 × (e.1 ≡ d.1)
 
 -- the outcome of the call is told, and the communicator that it gave; or nothing is told of it
 abbrev pub TellsCall : Results → List ToldCall → Name → (call : ℕ) → Option Said → Type 0
-TellsCall known told name call (Some said) = (answer : Answer) × (told_of known told name call ≡ Some answer) × (string_bytes said.text ≡ outcome_text answer.outcome) × (bound_as said.given ≡ bound_by answer.outcome answer.born)
+TellsCall known told name call (Some said) = (answer : Answer) × (told_of known told name call ≡ Some answer) × (said.outcome ≡ answer.outcome) × (bound_as said.given ≡ bound_by answer.outcome answer.born)
 TellsCall known told name call None = told_of known told name call ≡ None
 
 -- what was told is of the plan's posts; a communicator is its name and its birth, and is closed where a free is among the first so many

@@ -11,7 +11,9 @@ use Rattle.mpx_shared.specs.LawfulPorts.{IsLawful, made_in}
 use Rattle.mpx_script.specs.ScriptView.{ScriptView}
 use Rattle.mpx_statement.specs.declared.statement.Statement.{Statement}
 use Rattle.mpx_meaning.specs.Ends.{EndView, WaitsAtView, end_of, end_view}
-use Rattle.mpx_meaning.specs.Ranks.{Line, Local, Told}
+use Rattle.mpx_meaning.specs.declared.line.Line.{Line}
+use Rattle.mpx_meaning.specs.declared.line.Line.TheVariants.{Told}
+use Rattle.mpx_meaning.specs.Ranks.{Local}
 use Rattle.mpx_meaning.specs.Evaluation.{start_state}
 use Rattle.mpx_meaning.specs.Going.{Goes}
 use Rattle.mpx_rank.specs.Carriers.{outcomes_of}

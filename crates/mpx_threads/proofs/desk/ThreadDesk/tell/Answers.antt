@@ -24,6 +24,6 @@ returns-in_ok-add-in-Some-clause-told g c =
     let so = subst (λ o. IfSome o (λ x. known name call ≡ Some (answer_of x))) c.in-Some.is c.in_ok-answered.ensures in (
       a,
       subst (λ xs. told_of known xs name call ≡ Some a) (sym c.in_ok-add-in-Some.ensures) (told_last known c.self.inside.told new name call a (at_same name call new refl refl) so),
-      c.in_ok-said-in-Some.ensures.text,
+      c.in_ok-said-in-Some.ensures.outcome,
       c.in_ok-said-in-Some.ensures.given,
     )
