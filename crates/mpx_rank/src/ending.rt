@@ -1,7 +1,7 @@
 //! Where a rank waits that goes no further.
-ghost use Rattle.std.specs.Prelude.{◌≡◌, ◌∷◌, [], IfOk, None, Some, map};
+ghost use Rattle.std.specs.Prelude.{◌≡◌, ◌++◌, ◌∷◌, [], IfOk, None, OnOk, Some, map};
 ghost use Rattle.std.specs.Option.{option_map};
-ghost use Rattle.mpx_meaning.specs.Ends.{asked_at, asked_by, asked_view, waits_at_view, waits_with};
+ghost use Rattle.mpx_meaning.specs.Ends.{asked_at, asked_by, asked_then, asked_view, waits_at_view, waits_with};
 ghost use Rattle.mpx_meaning.specs.Standing.{todo_of};
 ghost use Rattle.mpx_rank.specs.Shown.{requests_of, wait_of};
 
@@ -74,11 +74,25 @@ fn requested<C: Carrier>(
 {
     let mut calls = Vec::new(alloc);
     for word in words {
-        if let Some(call) = requests.remove(word) {
-            calls.push(asked_call::<C>(alloc, word, call)?)?;
-        }
+        let call = requests.remove(word);
+        push_asked::<C>(alloc, word, call, &mut calls)?;
     }
     Ok(calls)
+}
+
+// Adds the call of a request, where it is open.
+fn push_asked<C: Carrier>(
+    alloc: Global,
+    word: &Word,
+    call: Option<C::Call>,
+    calls: &mut Vec<AskedCall>,
+) -> Result<(), OutOfMemory>
+    ensures { OnOk result (map asked_view calls.new.items ≡ map asked_view calls.old.items ++ asked_then word.now (option_map C.place call) []) }
+{
+    match call {
+        Some(call) => Ok(calls.push(asked_call::<C>(alloc, word, call)?)?),
+        None => Ok(()),
+    }
 }
 
 // The call of a request.
