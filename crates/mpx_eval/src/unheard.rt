@@ -180,14 +180,21 @@ fn fault_line(
 ) -> Result<Option<String>, OutOfMemory>
     ensures { IfOk result (λ text. option_map string_bytes text ≡ fault_line outcome) }
 {
-    let Outcome::Fault(_) = outcome else {
-        return Ok(None);
-    };
-    let name = name.copy(alloc)?;
-    let line = Line::Told {
-        name,
-        call,
-        outcome,
-    };
-    Ok(Some(line.text(alloc)?))
+    match outcome {
+        Outcome::Fault(fault) => {
+            let name = name.copy(alloc)?;
+            let outcome = Outcome::Fault(fault);
+            let line = Line::Told {
+                name,
+                call,
+                outcome,
+            };
+            Ok(Some(line.text(alloc)?))
+        }
+        Outcome::Nothing => Ok(None),
+        Outcome::Absent => Ok(None),
+        Outcome::Items(_) => Ok(None),
+        Outcome::NewComm { .. } => Ok(None),
+        Outcome::Null => Ok(None),
+    }
 }
