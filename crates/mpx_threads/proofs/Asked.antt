@@ -1,14 +1,19 @@
 -- The calls that a rank's end asks for are those that the rank waits for.
 use Rattle.std.proofs.Common.{◌≡◌, ℕ, zero, suc, Bool, true, false, cond, List, [], ◌∷◌, map, Option, Some, None, refl, sym, ap, ◌∙◌}
 use Rattle.std.specs.Prelude.{bytes_eq, slice_get}
-use Rattle.std.proofs.lemmas.Option.{same_Some}
+use Rattle.std.specs.Option.{option_map}
+use Rattle.std.proofs.lemmas.Option.{same_Some, slice_get-map}
 use Rattle.mpx_name.specs.Name.{Name}
 use Rattle.mpx_statement.specs.declared.statement.Statement.TheVariants.{Ask, Post, Wait}
 use Rattle.mpx_statement.specs.Lookups.{named}
-use Rattle.mpx_meaning.specs.Ends.{Asked, asked_by, asked_then, end_of, waits_with}
+use Rattle.mpx_meaning.specs.declared.end.AskedCall.{AskedCall}
+use Rattle.mpx_meaning.specs.declared.end.RankEnd.{RankEnd}
+use Rattle.mpx_meaning.specs.declared.end.WaitsAt.{WaitsAt}
+use Rattle.mpx_meaning.specs.Ends.{Asked, asked_by, asked_then, asked_view, end_of, end_view, waits_at_view, waits_with}
 use Rattle.mpx_meaning.specs.Ranks.{Await, Do, Local, Todo}
 use Rattle.mpx_meaning.specs.Standing.{closed}
 use Rattle.mpx_meaning.proofs.Standing.{same_word}
+use Rattle.mpx_system.proofs.Results.{mapped_at}
 use Rattle.mpx_threads.specs.Rest.{AreWaitedFor, IsOneOf, IsRequested, WaitsFor, awaits, calls_in, calls_with, stands_at}
 
 abbrev Open : Type 0
@@ -99,3 +104,20 @@ waited_for s = by_todo s.todo refl where
         let same : Do (Wait words) ∷ rest ≡ Do (Wait others) ∷ more = sym e ∙ f in
         let words_are : others ≡ words = cc same in
         all_asked (named s.requests) words call asked.0 asked.1.0 (ap (λ ws. slice_get ws asked.0) (sym words_are) ∙ asked.1.1.0) asked.1.1.1
+
+-- THE CODE'S ENDS
+
+-- a call of an end's list is one of those that it asks for
+pub calls_there : (end : RankEnd) (w : WaitsAt) → end.waits ≡ Some w → (i : ℕ) (a : AskedCall) → slice_get w.calls.items i ≡ Some a → slice_get (calls_in (end_view end)) i ≡ Some (asked_view a).1
+calls_there end w is i a e =
+    ap (λ o. slice_get (calls_with (option_map waits_at_view o)) i) is
+    ∙ slice_get-map (λ (x : Asked). x.1) (map asked_view w.calls.items) i
+    ∙ ap (option_map (λ (x : Asked). x.1)) (slice_get-map asked_view w.calls.items i ∙ ap (option_map asked_view) e)
+
+-- and each of these is one
+pub calls_from : (end : RankEnd) (w : WaitsAt) → end.waits ≡ Some w → (i : ℕ) (call : Name × ℕ) → slice_get (calls_in (end_view end)) i ≡ Some call → (a : AskedCall) × ((slice_get w.calls.items i ≡ Some a) × ((asked_view a).1 ≡ call))
+calls_from end w is i call e =
+    let all = ap (λ o. slice_get (calls_with (option_map waits_at_view o)) i) (sym is) ∙ e in
+    let asked = mapped_at (λ (x : Asked). x.1) (map asked_view w.calls.items) i call all in
+    let found = mapped_at asked_view w.calls.items i asked.0 asked.1 in
+    (found.0, (found.1, ap (λ (x : Asked). x.1) found.2 ∙ asked.2))

@@ -1,28 +1,32 @@
-use Rattle.std.proofs.Common.{◌∙◌, ℕ, Some, ap, arith, inl, inr, subst, sym}
-use Rattle.std.specs.Prelude.{◌≡◌, slice_get}
+use Rattle.std.proofs.Common.{◌≡◌, ◌∙◌, Some, ap, arith, inl, inr, subst, sym}
+use Rattle.std.specs.Prelude.{slice_get}
 use Rattle.std.proofs.lemmas.Bool.{cases_eq}
 use Rattle.std.proofs.lemmas.Option.{same_Some}
 use Rattle.mpx_name.specs.Name.{Name}
 use Rattle.mpx_node.specs.Nodes.{NodeView}
-use Rattle.mpx_threads.specs.Rest.{Lacks}
+use Rattle.mpx_meaning.specs.Ends.{asked_view}
+use Rattle.mpx_meaning.specs.declared.end.AskedCall.{AskedCall}
+use Rattle.mpx_threads.specs.Rest.{Lacks, calls_in}
+use Rattle.mpx_threads.proofs.Asked.{calls_from, calls_there}
 use Rattle.mpx_threads.proofs.Jobs.{read_at}
 use Rattle.mpx_at_once.proofs.Tasks.{within_get}
 use Rattle.mpx_threads.proofs.rest.has_ended_or_lacks.Goals as goal
 
 pub returns-clause-no : goal.returns-clause-no
 returns-clause-no c t ended = elim ended [
-  | inl idle ↦ cc (idle, c.if-not-worked.false)
+  | inl idle ↦ cc (idle, c.in-Some.is)
   | inr o ↦
-      let at : slice_get c.as_slice-calls.result.now o.0 ≡ Some o.1.0 = ap (λ xs. slice_get xs o.0) c.as_slice-calls.ensures.value ∙ o.1.1.0 in
-      c.loop-i.invariant o.0 o.1.0 (omega (arith, within_get c.as_slice-calls.result.now o.0 o.1.0 at, c.loop-i-test.false)) at o.1.1.1
+      let found = calls_from c.args.worked.now.end c.in-Some.waits.now c.in-Some.is o.0 o.1.0 o.1.1.0 in
+      let at = ap (λ xs. slice_get xs o.0) c.as_slice-calls.ensures.value ∙ found.1.0 in
+      c.loop-i.invariant o.0 found.0 (omega (arith, within_get c.as_slice-calls.result.now o.0 found.0 at, c.loop-i-test.false)) at (subst (Lacks _) (sym found.1.1) o.1.1.1)
 ]
 
 pub loop-i-preserved : goal.loop-i-preserved
-loop-i-preserved c k call less at lacks = elim (cases_eq k c.loop-i.i) [
+loop-i-preserved c k asked less at lacks = elim (cases_eq k c.loop-i.i) [
   | inl same ↦
       let calls = c.as_slice-calls.result.now in
       let here : slice_get calls c.loop-i.i ≡ Some c.index-calls-i.result = read_at calls c.loop-i.i c.index-calls-i.result (omega arith) c.index-calls-i.is in
-      let call_is = same_Some call c.index-calls-i.result (sym at ∙ ap (slice_get calls) same ∙ here) in
-      c.lacks.ensures.no c.if-lacks.false (subst (λ (x : NodeView × (Name × ℕ)). Lacks x.0 x.1) (λ i. (sym c.node.ensures.node i, call_is i)) lacks)
-  | inr other ↦ c.loop-i.invariant k call (omega (arith, less, other)) at lacks
+      let is = same_Some asked c.index-calls-i.result (sym at ∙ ap (slice_get calls) same ∙ here) in
+      c.lacks.ensures.no c.if-lacks.false (subst (λ (x : NodeView × AskedCall). Lacks x.0 (asked_view x.1).1) (λ i. (sym c.node.ensures.node i, is i)) lacks)
+  | inr other ↦ c.loop-i.invariant k asked (omega (arith, less, other)) at lacks
 ]
