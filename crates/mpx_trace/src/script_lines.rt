@@ -41,8 +41,26 @@ impl ScriptLines {
         push_words(line_of(&self.text, number), told)
     }
 
-    // The number of that line, or 0 where there is none. The lines of a rank are looked up once.
-    fn number_of(&mut self, alloc: Global, rank: u8, statement: usize) -> io::Result<u32> {
+    /// How many digits the number of its last line has.
+    pub(crate) fn digits(&self, alloc: Global) -> io::Result<usize> {
+        let mut ends: usize = 0;
+        for byte in &self.text {
+            if *byte == b'\n' {
+                ends = ends.saturating_add(1);
+            }
+        }
+        let mut number = Vec::new(alloc);
+        write!(number, "{ends}")?;
+        Ok(number.len())
+    }
+
+    /// The number of the line that gives a rank the statement of this number, or 0 where there is none. The lines of a rank are looked up once.
+    pub(crate) fn number_of(
+        &mut self,
+        alloc: Global,
+        rank: u8,
+        statement: usize,
+    ) -> io::Result<u32> {
         let place = usize::from(rank);
         for next in self.numbers.len()..place + 1 {
             let rank = u8::try_from(next).unwrap_or(u8::MAX);
