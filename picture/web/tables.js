@@ -57,7 +57,7 @@ function waitsByCall(run, turn) {
 }
 
 function unheardWords(unheard) {
-  return unheard.length > 4 ? counted(unheard.length, "rank lacks", "ranks lack") + " some" : joined(unheard.map(([rank, others]) => `${rank} of ${spoken(others)}`));
+  return unheard.length > 4 ? counted(unheard.length, "rank lacks", "ranks lack") + " some" : joined(unheard.map(([rank, others]) => `${rank} lacks ${spoken(others)}`));
 }
 
 // Who waits for whom. The last turn's are the program's own, where it says them.
