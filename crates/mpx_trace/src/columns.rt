@@ -9,7 +9,7 @@ const WIDTH: usize = 80;
 
 const WIDE: &str = "Columns are ranks. \"line 3\": the rank makes the call in line 3 of the script.
 Below, a mark for each rank from 0 on: # its post to that call has come,
-. its post is missing, - it isn't in the communicator.
+. its post is missing, - it isn't in the communicator, blank: not known yet.
 ";
 
 const NARROW: &str = "Columns are ranks: # all posts to the rank's newest call have come, . some are
@@ -36,7 +36,7 @@ impl Columns {
             return Columns {
                 ranks,
                 is_narrow: true,
-                first: digits.saturating_mul(2).saturating_add(7),
+                first: digits.saturating_mul(2).saturating_add(7).max(11),
                 step: 1,
             };
         }
