@@ -52,12 +52,7 @@ impl ScriptLines {
     }
 
     // The number of that line. The lines of a rank are looked up once.
-    fn number_of(
-        &mut self,
-        alloc: Global,
-        rank: u8,
-        statement: usize,
-    ) -> io::Result<Option<u32>> {
+    fn number_of(&mut self, alloc: Global, rank: u8, statement: usize) -> io::Result<Option<u32>> {
         let place = usize::from(rank);
         for next in self.numbers.len()..place + 1 {
             let rank = u8::try_from(next).unwrap_or(u8::MAX);
