@@ -57,9 +57,9 @@ keys_seen : {V W : Type 0} (view : V → W) (es : List (Name × V)) → map (λ 
 keys_seen view [] = refl
 keys_seen view (e ∷ es) = ap (λ ks. e.0 ∷ ks) (keys_seen view es)
 
-key_at : {V : Type 0} (es : List (Name × V)) (i : ℕ) (name : Name) → slice_get (map (λ e. e.0) es) i ≡ Some name → (e : Name × V) × (slice_get es i ≡ Some e) × (e.0 ≡ name)
+key_at : {V : Type 0} (es : List (Name × V)) (i : ℕ) (name : Name) → slice_get (map (λ e. e.0) es) i ≡ Some name → (e : Name × V) × ((slice_get es i ≡ Some e) × (e.0 ≡ name))
 key_at [] i name e = cc e
-key_at (x ∷ es) zero name e = (x, refl, cc e)
+key_at (x ∷ es) zero name e = (x, (refl, cc e))
 key_at (x ∷ es) (suc i) name e = key_at es i name e
 
 said_in : (parts : PartsView) (name : Name) → (look_of parts).contexts name ≡ or_nothing (find name_cmp name (entries parts.0))
