@@ -32,6 +32,32 @@ impl Program for Barriers {
     }
 }
 
+// This number of barriers, all posted before the first wait. A rank answers how many ended.
+#[derive(Drop)]
+struct OpenBarriers {
+    calls: u32,
+}
+
+impl Program for OpenBarriers {
+    type Answer = usize;
+
+    fn run<H: Host>(&self, alloc: Global, desk: &mut Desk<H>, world: &Comm, ops: &Ops) -> usize {
+        let mut requests = Vec::new(alloc);
+        for _ in 0..self.calls {
+            let Ok(request) = desk.ibarrier(alloc, world, ops) else {
+                return 0;
+            };
+            if requests.push(request).is_err() {
+                return 0;
+            }
+        }
+        match desk.waitall(alloc, requests, TURNS, ops) {
+            Ok(all) => all.len(),
+            Err(_) => 0,
+        }
+    }
+}
+
 // This number of allgathers, each of 4,096 items a rank, all posted before the first wait. A rank answers how many items it has in the end.
 #[derive(Drop)]
 struct Gathers {
@@ -59,7 +85,7 @@ fn all_posted<H: Host>(
 ) -> Option<Vec<Request>> {
     let mut requests = Vec::new(alloc);
     for _ in 0..calls {
-        let list = vec![in alloc; GREATEST, 4_096].ok()?;
+        let list = vec![in alloc; GREATEST; 4_096].ok()?;
         let items = Numbers::new(alloc, list).ok()?;
         let request = desk.iallgather(alloc, world, Ty::I64, items, ops).ok()?;
         requests.push(request).ok()?;
@@ -103,9 +129,12 @@ where
 
 #[test]
 fn results_of_20_000_calls_are_kept(rt: HostRuntime) -> Result<(), Fail> {
-    let answers = answers_of(&rt, rt.alloc(), 2, &Barriers { calls: 20_000 });
-    let wanted = vec![in rt.alloc(); 20_000, 20_000]?;
-    assert_eq!(rt; answers, Some(wanted));
+    let alone = answers_of(&rt, rt.alloc(), 1, &Barriers { calls: 20_000 });
+    let wanted = vec![in rt.alloc(); 20_000u32]?;
+    assert_eq!(rt; alone, Some(wanted));
+    let both = answers_of(&rt, rt.alloc(), 2, &OpenBarriers { calls: 20_000 });
+    let wanted = vec![in rt.alloc(); 20_000usize, 20_000]?;
+    assert_eq!(rt; both, Some(wanted));
     Ok(())
 }
 

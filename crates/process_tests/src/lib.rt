@@ -36,6 +36,8 @@ mod questions;
 #[cfg(test)]
 mod queue_steps;
 #[cfg(test)]
+mod settling_rows;
+#[cfg(test)]
 mod shared_pairs;
 #[cfg(test)]
 mod world_rows;
