@@ -29,7 +29,7 @@ void find_sides(const Arguments *a, int is_root, Parts *parts)
 
 /* ---- counts, in items, or of what has no name here in bytes ---- */
 
-static long scaled(long count, Type as, MPI_Datatype type) { return as == RAW ? count * size_of(type) : count; }
+static long scaled(long count, Type as, MPI_Datatype type) { return count * items_each(type, as); }
 
 static Counts one_count(long count, Type as, MPI_Datatype type)
 {

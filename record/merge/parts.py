@@ -18,6 +18,7 @@ WIDTH['2int'] = 8
 # Types that scripts don't have, by their bits: how many numbers an item has.
 BITS = dict(f32=1, f64=1, f80=2, c64=2, c128=2, f32_int=2, f64_int=2, f80_int=3, i64_int=2, i16_int=2)
 BITS['2f32'] = BITS['2f64'] = 2
+BITS['logical'] = 1
 OPERATIONS = 'max min sum prod land lor lxor band bor bxor maxloc minloc user'.split()
 TAGS = ('call', 'begun', 'left', 'unknown', 'abort', 'unseen')
 SHAPES = dict(R=re.compile(r'-?\d+'), O=re.compile('|'.join(OPERATIONS)), L=re.compile(r'-|\d+(,\d+)*'), T=re.compile('|'.join([*WIDTH, *BITS, 'bytes'])))
@@ -39,14 +40,15 @@ class Part:
     how it was told before its numbers became bytes; `named` what a report calls its communicator, where that is known; `own` the program's
     operation by which it goes, and `fold` what that gives in the order of ranks."""
     __slots__ = ('rank id tag thread place kind nonblocking communicator root operation type lists items name request'
-                 ' result key graph words sent awaited slips shown spelled position plain named own fold grid').split()
+                 ' result key graph words sent awaited slips shown spelled position plain named own fold grid digests total').split()
 
     def __init__(self, rank, ident, tag, place, kind, rest=''):
         self.rank, self.id, self.tag, self.place = rank, ident, tag, place
         self.communicator = self.root = self.operation = self.type = self.name = self.request = None
         self.result = self.key = self.graph = self.sent = self.awaited = self.shown = self.spelled = self.words = self.plain = self.named = None
         self.lists, self.items, self.nonblocking, self.thread, self.slips = [], '', False, 1, ()
-        self.own = self.fold = self.grid = None
+        self.own = self.fold = self.grid = self.total = None
+        self.digests = {}
         self.kind = kind
         if kind.startswith('i') and kind[1:] in FIELDS: self.kind, self.nonblocking = kind[1:], True
         if tag == 'call': self.read_call(rest)

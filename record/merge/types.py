@@ -64,7 +64,7 @@ def sides_of(part, size):
     if part.kind == 'scatter': return ([(part.amount() // size, basics)] if part.items else None), lists[0]
     if part.kind == 'scatterv': return lists[0] or None, lists[1]
     if part.kind == 'alltoall': return lists[0], lists[0]
-    if part.kind in ('alltoallv', 'neighbor_alltoallv', 'neighbor_alltoall'): return lists[0], lists[1]
+    if part.kind in ('alltoallv', 'alltoallw', 'neighbor_alltoallv', 'neighbor_alltoallw', 'neighbor_alltoall'): return lists[0], lists[1]
     if part.kind.startswith('neighbor_allgather'): return own, lists[0]
     return None, None
 
