@@ -222,27 +222,46 @@ int put_items(const Blocks *blocks, Type as)
 
 /* ---- whether buffers change ---- */
 
-/* By words of eight bytes in their order, the last one filled with zeros; merge/digests.py has the same. */
-static uint64_t hash_bytes(uint64_t hash, const unsigned char *bytes, long number)
+/* The bytes of each float in a type. */
+static int width_of_floats(Type as)
 {
+    if (as == F32 || as == C64 || as == TWO_F32) return 4;
+    return as == F64 || as == C128 || as == TWO_F64 ? 8 : 0;
+}
+
+/* Of a NaN, or of two halves that may be one, the same word as of any other. */
+static uint64_t with_one_nan(uint64_t word, int width)
+{
+    uint64_t low = UINT32_MAX, sign = 1u << 31, infinity = 0x7f800000;
+    if (width == 8) return (word & INT64_MAX) > 0x7ff0000000000000 ? UINT64_MAX : word;
+    if ((word & (low ^ sign)) > infinity) word |= low;
+    return (word >> 32 & (low ^ sign)) > infinity ? word | low << 32 : word;
+}
+
+/* By words of eight bytes in their order, the last one filled with zeros; merge/digests.py has the same. */
+static uint64_t hash_bytes(uint64_t hash, const unsigned char *bytes, long number, Type as)
+{
+    int width = width_of_floats(as);
     for (long i = 0; i < number; i += 8) {
         uint64_t word = 0;
         memcpy(&word, bytes + i, number - i < 8 ? number - i : 8);
+        if (width) word = with_one_nan(word, width);
         hash = (hash ^ word) * 1099511628211u;
         hash ^= hash >> 32;
     }
     return hash;
 }
 
-static uint64_t hash_of_block(uint64_t hash, const Blocks *blocks, const Block *block)
+/* RAW: of the bytes as they are; else all NaNs are one. */
+static uint64_t hash_of_block(uint64_t hash, const Blocks *blocks, const Block *block, Type as)
 {
     const char *from = blocks->base + block->place;
     MPI_Aint extent = extent_without_gaps(block);
     unsigned char *bytes;
     if (block->length <= 0) return hash;
-    if (extent) return hash_bytes(hash, (const unsigned char *)from, block->length * extent);
+    if (extent) return hash_bytes(hash, (const unsigned char *)from, block->length * extent, as);
     int number = pack(from, block->length, block->type, &bytes);
-    hash = hash_bytes(hash, bytes, number);
+    hash = hash_bytes(hash, bytes, number, as);
     free(bytes);
     return hash;
 }
@@ -252,15 +271,15 @@ enum { SEED = 1469598103 };
 uint64_t hash_of(const Blocks *blocks)
 {
     uint64_t hash = SEED;
-    for (int i = 0; i < blocks->number; i++) hash = hash_of_block(hash, blocks, &blocks->list[i]);
+    for (int i = 0; i < blocks->number; i++) hash = hash_of_block(hash, blocks, &blocks->list[i], RAW);
     return hash;
 }
 
-void put_hashes(const Blocks *blocks)
+void put_hashes(const Blocks *blocks, Type as)
 {
     put_text(blocks->number ? " " : " -");
     for (int i = 0; i < blocks->number; i++) {
         if (i) put_text(",");
-        put_digits(hash_of_block(SEED, blocks, &blocks->list[i]) >> 1);
+        put_digits(hash_of_block(SEED, blocks, &blocks->list[i], as) >> 1);
     }
 }

@@ -222,7 +222,7 @@ static void put_digests(int id, Kind kind, int size, const Blocks *blocks, int i
     }
     begin_plain("digest", id);
     put_word(is_sent ? "sent" : "got");
-    put_hashes(&each);
+    put_hashes(&each, RAW);
     end_line();
     if (is_whole) drop_blocks(&each);
 }
@@ -359,7 +359,7 @@ static void put_made(const Call *call)
 static void put_digests_got(Call *call)
 {
     if (call->digested && call->out.number) put_digests(call->id, call->kind, call->digested, &call->out, 0);
-    if (call->whole.number) { begin_plain("digest", call->id); put_word("got"); put_hashes(&call->whole); end_line(); }
+    if (call->whole.number) { begin_plain("digest", call->id); put_word("got"); put_hashes(&call->whole, call->type); end_line(); }
 }
 
 void put_result(int id, Call *call, int error)

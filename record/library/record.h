@@ -157,7 +157,7 @@ long items_in(const Blocks *blocks, Type as);
 int can_read(const Blocks *blocks);
 int put_items(const Blocks *blocks, Type as);           /* 0 where MPI_Pack refuses */
 uint64_t hash_of(const Blocks *blocks);
-void put_hashes(const Blocks *blocks);                  /* of each block */
+void put_hashes(const Blocks *blocks, Type as);         /* of each block; of floats all NaNs are one, but as RAW */
 
 /* ---- overlaps.c ---- */
 int do_overlap(const Blocks *some, const Blocks *others);

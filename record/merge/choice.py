@@ -244,7 +244,7 @@ class Choice:
         self.shortened['%s of %s' % (self.calls.kind_of(key), row[min(row)].type)] += 1
         hashes = {rank: part.digests['got'] for rank, part in row.items() if 'got' in part.digests}
         other = next((rank for rank in sorted(hashes) if hashes[rank] != hashes[min(hashes)]), None)
-        if other is None or row[other].type not in WIDTH: return
+        if other is None or row[other].type not in digests.COMPARED: return
         self.tell_results(key, 'has other results at other ranks, where MPI requires identical ones', [(row[rank], ['    (by a hash of all %d items)' % row[rank].total]) for rank in (min(hashes), other)])
 
     def hold_digests(self, key, row):

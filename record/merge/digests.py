@@ -8,6 +8,7 @@ from .parts import WIDTH
 SEED, PRIME, MASK = 1469598103, 1099511628211, (1 << 64) - 1
 BYTES = {'bytes': 'B', 'f32': 'I', 'f64': 'Q', 'c64': 'I', 'c128': 'Q', 'logical': 'i', '2int': 'i', 'i8': 'b', 'i16': 'h', 'i32': 'i', 'i64': 'q',
          'u8': 'B', 'u16': 'H', 'u32': 'I', 'u64': 'Q', '2f32': 'I', '2f64': 'Q'}
+COMPARED = set(BYTES) - {'bytes', 'logical'}       # results that are one where their bits are; of floats the recorder makes all NaNs one
 
 
 def hash_of(numbers, letter):

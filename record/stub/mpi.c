@@ -305,6 +305,8 @@ DEFINE(Init, int *argc, char ***argv) { (void)argc; (void)argv; return 0; }
 DEFINE(Init_thread, int *argc, char ***argv, int required, int *provided) { (void)argc; (void)argv; *provided = required; return 0; }
 DEFINE(Finalize, void) { return 0; }
 DEFINE(Abort, MPI_Comm comm, int code) { (void)comm; exit(code); }
+double MPI_Wtime(void) { return 0; }
+
 DEFINE(Get_version, int *version, int *part) { *version = 3; *part = 1; return 0; }
 DEFINE(Get_library_version, char *version, int *size) { strcpy(version, "stub of one rank"); *size = strlen(version); return 0; }
 DEFINE(Error_class, int error, int *class) { *class = error; return 0; }

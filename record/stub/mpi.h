@@ -188,6 +188,7 @@ BOTH(Finalize, void)
 BOTH(Abort, MPI_Comm, int)
 BOTH(Get_library_version, char *, int *)
 BOTH(Get_version, int *, int *)
+double MPI_Wtime(void);
 BOTH(Error_class, int, int *)
 BOTH(Error_string, int, char *, int *)
 BOTH(Errhandler_free, MPI_Errhandler *)
