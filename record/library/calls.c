@@ -38,10 +38,11 @@ static int is_misplaced(const Arguments *a, const Communicator *communicator)
 static const char *reason_of(const Arguments *a, const Communicator *communicator, const Parts *parts)
 {
     int size = communicator->size;
-    const char *reason = 0;
+    const char *reason = communicator->remote ? reason_across(a, communicator, is_own(a)) : 0;
+    if (reason) return reason;
     if (size > MEMBERS) return "members";
-    if (has_root(a->kind) && (a->root < 0 || a->root >= size)) return "root";
-    if (is_misplaced(a, communicator)) return "in_place";
+    if (!communicator->remote && has_root(a->kind) && (a->root < 0 || a->root >= size)) return "root";
+    if (!communicator->remote && is_misplaced(a, communicator)) return "in_place";
     if (is_neighbourhood(a->kind) && !communicator->has_neighbours) return "topology";
     if (parts->sends) reason = reason_of_side(a, communicator, 1);
     if (parts->receives && !reason) reason = reason_of_side(a, communicator, 0);
@@ -106,7 +107,7 @@ static void put_counts(const Counts *counts) { if (counts->number >= 0) put_sepa
 static int put_statement(const Arguments *a, const Communicator *communicator, const Parts *parts, Type as)
 {
     put_word(communicator->name);
-    if (has_root(a->kind)) put_number(a->root);
+    if (has_root(a->kind)) put_number(communicator->remote ? root_across(a, communicator) : a->root);
     if (is_fold(a->kind)) put_word(fold_word(a->operation));
     if (a->kind != BARRIER) put_word(type_word(as));
     put_counts(&parts->given);
@@ -117,7 +118,8 @@ static int put_statement(const Arguments *a, const Communicator *communicator, c
 static void put_left_out(const Arguments *a, const Communicator *communicator, const char *reason)
 {
     put_word(communicator->name);
-    if (has_root(a->kind)) put_number(a->root); else put_word("-");
+    int hides_root = communicator->remote && strcmp(reason, "root");      /* which differs there by the rank's part */
+    if (has_root(a->kind) && !hides_root) put_number(a->root); else put_word("-");
     put_word(is_fold(a->kind) ? fold_word(a->operation) : "-");
     put_word("-");
     put_word(reason);
@@ -191,7 +193,8 @@ static int is_gather(Kind kind) { return (kind >= GATHER && kind <= GATHERV) || 
 
 static int is_long(const Arguments *a, const Communicator *communicator, const Parts *parts, Type as)
 {
-    long most = is_gather(a->kind) ? most_items * (communicator->size > communicator->sources ? communicator->size : communicator->sources) : most_items;
+    int ranks = communicator->remote ? communicator->remote : communicator->size > communicator->sources ? communicator->size : communicator->sources;
+    long most = is_gather(a->kind) ? most_items * ranks : most_items;
     return items_in(&parts->in, as) > most_items || items_in(&parts->out, as) > most;
 }
 
@@ -237,7 +240,7 @@ static void write_left(Call *call, const Arguments *a, const Communicator *commu
     put_left_out(a, communicator, reason);
     end_line();
     call->fixed = "-";
-    if (strcmp(reason, "members") && strcmp(reason, "root") && strcmp(reason, "in_place") && strcmp(reason, "topology") && a->kind != BARRIER)
+    if (strcmp(reason, "inter") && strcmp(reason, "members") && strcmp(reason, "root") && strcmp(reason, "in_place") && strcmp(reason, "topology") && a->kind != BARRIER)
         put_types(call->id, a, communicator, parts);
 }
 
@@ -254,7 +257,7 @@ static int write_in_full(Call *call, const Arguments *a, const Communicator *com
     end_line();
     if (call->total) { begin_plain("cut", call->id); put_number(call->total); end_line(); }
     if ((call->type == RAW || (call->type == U8 && is_own(a))) && a->kind != BARRIER) put_types(call->id, a, communicator, parts);
-    note_own_amounts(call->id, a, parts);
+    if (!communicator->remote) note_own_amounts(call->id, a, parts);
     note_overlaps(call->id, a, parts);
     note_use(call->id, parts);
     if (is_own(a)) note_operation(call->id, a->operation);
@@ -307,14 +310,15 @@ static void begin_known(Call *call, const Arguments *a, const Communicator *comm
     Parts parts;
     memset(&parts, 0, sizeof parts);
     parts.given.number = parts.awaited.number = -1;
-    find_sides(a, a->root == communicator->rank, &parts);
+    find_sides(a, a->root == (communicator->remote ? MPI_ROOT : communicator->rank), &parts);
+    if (communicator->remote && has_root(a->kind) && a->root == MPI_PROC_NULL) parts.sends = parts.receives = 0;
     const char *reason = reason_of(a, communicator, &parts);
     if (!reason && one_in > 1 && !is_sampled(communicator, site)) reason = "sample";
     if (!reason) reason = reason_of_parts(call, a, communicator, &parts);
     if (!reason && !write_in_full(call, a, communicator, &parts, nonblocking, site)) reason = "buffer";
     if (reason) write_left(call, a, communicator, &parts, nonblocking, site, reason);
     else call->fixed = parts.fixed;
-    int is_digested = reason && !strcmp(reason, "items") && !is_fold(a->kind);
+    int is_digested = reason && !strcmp(reason, "items") && !is_fold(a->kind) && !communicator->remote;
     if (is_digested) digest(call, a, communicator, &parts, nonblocking);
     if (!reason || is_digested) keep_buffers(call, a, &parts, nonblocking);
     drop_parts(&parts);
@@ -336,7 +340,7 @@ void begin_call(Call *call, const Arguments *a, int nonblocking, void *site)
         end_line();
     }
     unlock_record();
-    if (folds_operations && communicator && !nonblocking && is_own(a)) fold_call(call->id, a, communicator, call->type, !call->fixed || call->fixed[0] != '-');
+    if (folds_operations && communicator && !communicator->remote && !nonblocking && is_own(a)) fold_call(call->id, a, communicator, call->type, !call->fixed || call->fixed[0] != '-');
 }
 
 static void put_given(int id, Call *call)

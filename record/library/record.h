@@ -125,6 +125,8 @@ typedef struct Communicator {
     int size, rank, has_neighbours, sources, destinations;
     int *from, *to;                     /* the neighbours; MPI_PROC_NULL at a border */
     int topology;                       /* MPI_DIST_GRAPH, MPI_CART, MPI_GRAPH or MPI_UNDEFINED */
+    int remote;                         /* of an intercommunicator the ranks of the other group; `size` has those of its own */
+    int before;                         /* the ranks before its own group's, where both are one communicator */
     int has_channel;
     MPI_Comm channel;                   /* the recorder's own, of the same ranks */
     struct Communicator *next;
@@ -135,6 +137,12 @@ const char *why_unknown(MPI_Comm handle);
 void drop_communicator(MPI_Comm handle);
 void forget_freed(MPI_Comm handle);
 void forget_all_freed(void);
+
+/* ---- makers.c: calls that make communicators ---- */
+typedef struct { int id; Communicator *parent; char name[16]; } Making;
+Making new_making(MPI_Comm parent);
+void end_statement(const Making *making);       /* `-> NAME`; the record is no longer locked */
+Communicator *end_making(const Making *making, int error, MPI_Comm given, int reorder);
 
 /* ---- buffers.c: what lies in buffers ---- */
 typedef struct { const void *values; size_t width; } Numbers;   /* `int`, or wider ones of the large-count forms */
@@ -205,6 +213,11 @@ void drop_parts(Parts *parts);
 /* How many blocks what is sent, or awaited, has here (1 where all are alike), and the i-th of them. */
 int blocks_told(const Arguments *arguments, const Communicator *communicator, int is_sent);
 Block block_told(const Arguments *arguments, int is_sent, int place);
+
+/* ---- intercommunicators.c ---- */
+void find_groups(Communicator *new);
+const char *reason_across(const Arguments *arguments, const Communicator *communicator, int is_own_operation);
+int root_across(const Arguments *arguments, const Communicator *communicator);
 
 /* ---- calls.c: a call and its result ---- */
 typedef struct Call {

@@ -1,7 +1,7 @@
 """Which calls go into scripts, and in which form. A call that is left out is so at all ranks, and what stands on communicators that it makes."""
 import collections
 
-from . import blocks, digests, folds, grids, own, types
+from . import across, blocks, digests, folds, grids, own, types
 from .asked import ROOTS
 from .moved import make_one_type
 from .parts import AS_BYTES, FOLDS, MAKERS, WIDTH
@@ -10,7 +10,8 @@ from .slips import Slips, ranks_of, root_of
 EDGES, RANKS, DEPTH = 512, 64, 8           # gossipmpi's limits
 REASONS = dict(kind='scripts have no such call', root='its root is out of range', topology='its communicator has no neighbours',
                operation=own.LEFT, in_place='MPI_IN_PLACE at a rank that isn\'t the root', type='a type that is none', items='more items than RECORD_ITEMS',
-               members='more than 64 members', count='a negative count', buffer='a buffer that can\'t be read')      # by the recorder's words
+               members='more than 64 members', count='a negative count', buffer='a buffer that can\'t be read',      # by the recorder's words
+               inter='on an intercommunicator, where only barrier, bcast, allgather and allreduce are checked')
 
 class Choice:
     """`taken` has the keys of the calls for scripts; `blocks` those that are cut, with their length; `bounded` and `left` count the others by
@@ -18,13 +19,14 @@ class Choice:
     is told already: key, title, and parts with more lines; `faults` has the keys of those that can't be right whatever the MPI does; `amounts` those
     of which two ranks' don't fit, with the words for it; `folded` counts those that were held against the program's own operation;
     `left_calls` has the keys of those that `left` counts; `digested` counts those that are held by hashes, `shortened` those of which the record has
-    the first items."""
+    the first items; `across` those that are held between the groups of an intercommunicator."""
 
     def __init__(self, record, calls, without_idup=False):
         self.record, self.calls, self.gone, self.without_idup, self.slips = record, calls, set(), without_idup, Slips(record, calls)
         self.taken, self.blocks, self.left, self.reports, self.faults, self.crossed = set(), {}, collections.Counter(), [], set(), set()
         self.bounded, self.held, self.unjudged, self.amounts, self.folded = collections.Counter(), set(), 0, {}, collections.Counter()
-        self.left_calls, self.digested, self.shortened = collections.defaultdict(set), collections.Counter(), collections.Counter()
+        self.left_calls = collections.defaultdict(set)
+        self.digested, self.shortened, self.across = collections.Counter(), collections.Counter(), collections.Counter()
         for key in sorted(calls.rows, key=lambda key: (len(key[0]), key[1])):
             reason = self.reason_for(key, calls.rows[key])
             if key in self.faults and reason: self.gone.update(calls.made_by(key))
@@ -62,18 +64,44 @@ class Choice:
 
     def reason_for(self, key, row):
         communicator, part = key[0], next(iter(row.values()))
-        self.cross_grid(key, row)
-        self.compare_types(key, row)
-        self.compare_own_amounts(key, row)
+        is_across = communicator in self.calls.across and across.is_between(row)
+        if not is_across:
+            self.cross_grid(key, row)
+            self.compare_types(key, row)
+            self.compare_own_amounts(key, row)
         if any(communicator[:length] in self.gone for length in range(1, len(communicator) + 1)): return 'its communicator is left out'
         base = self.base_of(communicator)
         if base is None:
             if part.kind in MAKERS: self.count_left(key, part.name_of_kind() + ': more than 64 members')
             return None if part.kind in MAKERS else 'more than 64 members'
+        if is_across: return self.reason_across(key, row)
         if any(other.tag != 'call' for other in row.values()): return self.reason_recorded(key, row)
         if any(other.result == 'reordered' for other in row.values()): return 'its ranks are in another order'
         if len(communicator) - len(base) + (part.kind in MAKERS) > DEPTH: return 'more than eight steps from the world'
         return self.reason_of_kind(key, row)
+
+    def reason_across(self, key, row):
+        """Between the groups of an intercommunicator."""
+        name, left = across.difference(row), next((part for part in row.values() if part.tag != 'call'), None)
+        if name:
+            self.tell_fault(key, 'doesn\'t fit together: its parts differ in the ' + name)
+            return 'its parts don\'t fit together'
+        if left: return 'not finished' if left.tag == 'begun' else REASONS.get(left.words[-1], left.words[-1])
+        if set(row) != self.calls.members[key[0]]: return 'on an intercommunicator, to which not all ranks came'
+        found = across.Across(self.calls, row, self.calls.order[key[0]], self.calls.across[key[0]])
+        if found.fault: self.tell_fault(key, 'doesn\'t fit together: ' + found.fault)
+        if found.fault or found.left: return found.fault or found.left
+        if found.found: self.tell_results(key, 'differs, between the groups of an intercommunicator', found.found)
+        self.held.add(key)
+        self.across[self.calls.kind_of(key)] += 1
+        return None
+
+    def compare_merged(self, key, row):
+        """In which order MPI_Intercomm_merge put the groups."""
+        wanted, error = across.merged_order(row)
+        if error: self.tell(key, 'is the program\'s error: ' + error)
+        wrong = [row[rank] for rank in sorted(row) if wanted and row[rank].lists[1] != wanted]
+        if wrong: self.tell_results(key, 'differs', [(part, ['    this MPI merged the ranks as %s, the standard as %s' % (part.lists[1], wanted)]) for part in wrong])
 
     def reason_of_kind(self, key, row):
         kinds, part = {part.kind for part in row.values()}, row[min(row)]
@@ -81,6 +109,7 @@ class Choice:
             self.tell_fault(key, 'doesn\'t fit together: its parts differ in the kind')
             return 'its parts differ in the kind'
         self.compare_totals(key, row)
+        self.compare_merged(key, row)
         if 'idup' in kinds and self.without_idup: return 'others wait for it in scripts, which have no such call'
         if kinds & set(FOLDS) and not folds.is_plain(row):
             reason = self.reason_of_fold(key, row)

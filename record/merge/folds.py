@@ -39,6 +39,9 @@ def difference_of_parts(row):
     return None
 
 
+def has_result(calls, part): return any(teller.result and teller.result[0] in '-0123456789e' for teller in tellers(calls, part))
+
+
 def without_nan(numbers, type_word):
     """NaN is no value: whichever bits stand for it are one."""
     if type_word not in floats.FORMS: return numbers

@@ -45,7 +45,7 @@ class Outcome:
         self.checked = len((comparison.checked | choice.faults) - choice.held - own)    # the making of MPI_COMM_SELF is the recorder's
         self.folded, self.unseen = choice.folded, sum(calls.unseen.values())
         self.bounded, self.held, self.unjudged = choice.bounded, len(choice.held), choice.unjudged
-        self.digested, self.shortened = choice.digested, choice.shortened
+        self.digested, self.shortened, self.across = choice.digested, choice.shortened, choice.across
         self.compared_parts = len((choice.taken | choice.held | choice.faults) - own) if not asked.has_values else 0
         self.accepted = self.count_accepted(calls, choice, comparison.checked | choice.faults | choice.held | own)
 
@@ -111,9 +111,10 @@ class Outcome:
 
     def more(self):
         """What was held to something else than the standard's value."""
-        folded, digested = sum(self.folded.values()), sum(self.digested.values())
-        bounds = '%d more held to bounds; ' % (self.held - folded - digested) if self.held > folded + digested else ''
-        return bounds + ('%d more by hashes; ' % digested if digested else '') + ('%d more by the program\'s own operation; ' % folded if folded else '')
+        folded, digested, across = (sum(counted.values()) for counted in (self.folded, self.digested, self.across))
+        bounded = self.held - folded - digested - across
+        bounds = '%d more held to bounds; ' % bounded if bounded else ''
+        return bounds + ('%d more between groups; ' % across if across else '') + ('%d more by hashes; ' % digested if digested else '') + ('%d more by the program\'s own operation; ' % folded if folded else '')
 
     def bounds(self):
         some = ['%d %s' % (number, what) for what, number in self.bounded.most_common(SHOWN_BOUNDS)]
@@ -128,6 +129,7 @@ class Outcome:
         if self.bounded: lines.append('held to bounds, by the tool\'s own arithmetic: ' + self.bounds())
         if self.folded: lines.append('held against the program\'s own operation, in the order of ranks: ' + told(self.folded))
         if self.digested: lines.append('held by hashes of what was sent and what came, of more than %d items (RECORD_ITEMS): %s' % (record.most_items, told(self.digested)))
+        if self.across: lines.append('held between the groups of an intercommunicator, by the tool\'s own arithmetic: ' + told(self.across))
         if self.shortened: lines.append('checked in part, of each the first %d items (RECORD_ITEMS): %s' % (record.most_items, told(self.shortened)))
         lines += ['left out%s: %d %s' % (', as accepted' * (what in self.accepted_titles), number, what) for what, number in sorted(self.left.items())]
         unended = [str(rank) for rank in range(record.size) if record.ended[rank] != 'end']

@@ -40,14 +40,14 @@ class Part:
     how it was told before its numbers became bytes; `named` what a report calls its communicator, where that is known; `own` the program's
     operation by which it goes, and `fold` what that gives in the order of ranks."""
     __slots__ = ('rank id tag thread place kind nonblocking communicator root operation type lists items name request'
-                 ' result key graph words sent awaited slips shown spelled position plain named own fold grid digests total').split()
+                 ' result key graph words sent awaited slips shown spelled position plain named own fold grid digests total merged').split()
 
     def __init__(self, rank, ident, tag, place, kind, rest=''):
         self.rank, self.id, self.tag, self.place = rank, ident, tag, place
         self.communicator = self.root = self.operation = self.type = self.name = self.request = None
         self.result = self.key = self.graph = self.sent = self.awaited = self.shown = self.spelled = self.words = self.plain = self.named = None
         self.lists, self.items, self.nonblocking, self.thread, self.slips = [], '', False, 1, ()
-        self.own = self.fold = self.grid = self.total = None
+        self.own = self.fold = self.grid = self.total = self.merged = None
         self.digests = {}
         self.kind = kind
         if kind.startswith('i') and kind[1:] in FIELDS: self.kind, self.nonblocking = kind[1:], True

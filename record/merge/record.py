@@ -15,14 +15,14 @@ SLIPS = dict(aliased=0, in_use=1, changed=0, overlapping=2, unordered=2, bracket
 class Record:
     """`parts` has each rank's in the order in which they were written; `ended` the tag of its last line (LAST), or None, and `last` that line's
     words; `missing` ranks without a file; `freed` the names of each rank's communicators that it freed; `operations` the program's own, by rank
-    and number, `has_folds` whether they were called, and `has_sums` whether they are told to be sums; `amounts` what a rank tells twice of one
+    and number, `groups` of a rank's intercommunicator, by its name, how many ranks the first group has, `has_folds` whether they were called, and `has_sums` whether they are told to be sums; `amounts` what a rank tells twice of one
     call, and otherwise; `standard` the version of MPI that this one claims to be."""
 
     def __init__(self, text_of):
         self.text_of, self.modules, self.notes, self.mpi, self.run = text_of, {}, [], '?', None
         self.parts, self.ended, self.last, self.missing, self.freed, self.has_messages = [], [], [], {}, [], False
         self.operations, self.has_folds, self.has_sums, self.amounts, self.standard = {}, False, False, {}, 4
-        self.sample, self.most_items = 1, 65536
+        self.sample, self.most_items, self.has_digests, self.groups = 1, 65536, False, {}
         self.size = self.find_size()
         for rank in range(self.size): self.read(rank, self.lines_of(rank))
         self.places = self.find_places()
@@ -103,6 +103,10 @@ class Record:
             name, *pairs = rest.split()
             if not all(PAIR.fullmatch(pair) for pair in pairs): raise ValueError('no grid')
             grids[name] = [pair.split(',') for pair in pairs]
+        elif tag == 'inter': self.groups[rank, rest.split()[0]] = int(rest.split()[1])
+        elif tag == 'merged':
+            ident, high, ranks = rest.split()
+            parts[int(ident)].merged = int(high), ranks
         elif tag == 'freed': self.freed[rank].add(rest)
         elif tag == 'module': self.modules[rank, rest.split(' ', 1)[0]] = rest.split(' ', 1)[1]
         elif tag == 'note':
@@ -130,7 +134,7 @@ class Record:
         elif words[0] == 'messages': self.has_messages = True
         elif words[0] == 'standard': self.standard = int(words[1])
         elif words[0] == 'sample': self.sample = int(words[1])
-        elif words[0] == 'items': self.most_items = int(words[1])
+        elif words[0] == 'items': self.most_items, self.has_digests = int(words[1]), True
         elif words[0] == 'operations': self.has_folds, self.has_sums = True, words[1:] == ['sums']
         elif words[0] == 'run':
             self.run = self.run or words[1]

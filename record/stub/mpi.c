@@ -228,6 +228,16 @@ DEFINE(Comm_size, MPI_Comm comm, int *size) { (void)comm; *size = 1; return 0; }
 DEFINE(Comm_rank, MPI_Comm comm, int *rank) { (void)comm; *rank = 0; return 0; }
 DEFINE(Comm_compare, MPI_Comm one, MPI_Comm other, int *relation) { *relation = one == other ? MPI_IDENT : MPI_CONGRUENT; return 0; }
 DEFINE(Comm_group, MPI_Comm comm, MPI_Group *group) { (void)comm; *group = &all; return 0; }
+/* One rank has no intercommunicators. */
+DEFINE(Comm_remote_size, MPI_Comm comm, int *size) { (void)comm; *size = 0; return 1; }
+DEFINE(Comm_remote_group, MPI_Comm comm, MPI_Group *group) { (void)comm; *group = &stub_empty; return 1; }
+DEFINE(Intercomm_create, MPI_Comm own, int leader, MPI_Comm peer, int other, int tag, MPI_Comm *new)
+{
+    (void)own; (void)leader; (void)peer; (void)other; (void)tag;
+    *new = MPI_COMM_NULL;
+    return 1;
+}
+DEFINE(Intercomm_merge, MPI_Comm across, int high, MPI_Comm *new) { (void)across; (void)high; *new = MPI_COMM_NULL; return 1; }
 DEFINE(Comm_free, MPI_Comm *comm) { free(*comm); *comm = 0; return 0; }
 DEFINE(Comm_disconnect, MPI_Comm *comm) { return PMPI_Comm_free(comm); }
 DEFINE(Comm_dup, MPI_Comm comm, MPI_Comm *new) { make(new); **new = *comm; return 0; }
