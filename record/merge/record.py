@@ -37,6 +37,7 @@ class Record:
             size = int(lines[0].split()[1])
             if size < 1: raise Unreadable('rank %d: no ranks' % rank)
             return size
+        for rank, why in sorted(self.damaged().items()): raise Unreadable('rank %d\'s file isn\'t whole: %s' % (rank, why))
         raise Unreadable('rank 0 has no record: %s; was the program run here, with LD_PRELOAD, and does it call MPI_Init?' % self.missing[0])
 
     def lines_of(self, rank):
@@ -44,7 +45,7 @@ class Record:
         try: lines = self.text_of(rank).split('\n')[:-1]      # a last line without an end was being written
         except OSError as error: lines, why = [], '%s: %s' % (error.filename, error.strerror)
         except KeyError: lines, why = [], 'it has no file'
-        if not lines: self.missing[rank] = why
+        if not lines: self.missing[rank] = self.damaged().get(rank, why)
         elif not re.fullmatch(r'ranks \d{1,6}', lines[0]): raise Unreadable('rank %d: its file has no line `ranks N`' % rank)
         return lines
 
@@ -145,10 +146,13 @@ class Record:
             if int(words[1]) != rank: raise Unreadable('rank.%d is the file of rank %s' % (rank, words[1]))
         else: raise ValueError('no such line')
 
+    def damaged(self):
+        """Of each rank whose file isn't whole, why."""
+        return getattr(self.text_of, 'damaged', {})
+
     def find_troubles(self):
         """Why the record isn't whole, in lines."""
-        damaged = getattr(self.text_of, 'damaged', {})
-        lines = ['rank %d\'s file isn\'t whole: %s' % entry for entry in sorted(damaged.items())]
+        lines = ['rank %d\'s file isn\'t whole: %s' % entry for entry in sorted(self.damaged().items())]
         lines += ['rank %d\'s record stops: %s' % (rank, ' '.join(words)) for rank, words in enumerate(self.last) if self.ended[rank] == 'stopped']
         if hasattr(self.text_of, 'has_others') and self.text_of.has_others(): lines.append('a second program ran in this folder at the same time, and isn\'t recorded: give each its RECORD_FOLDER')
         return lines
