@@ -34,6 +34,9 @@ class Unreadable(Exception):
 def amount_of(numbers): return numbers.count(' ') + 1 if numbers else 0
 
 
+def numbers_each(type_word): return 2 if type_word == '2int' else BITS.get(type_word, 1)
+
+
 class Part:
     """One rank's part of a call, or its wait for one. `items` are numbers with blanks between; `sent` and `awaited` what stands in a line
     `types`; `spelled`, where the script has other numbers than the program, gives the program's for one of the script's; `plain` is
@@ -91,7 +94,7 @@ class Part:
         if self.items and not NUMBERS.fullmatch(self.items): raise ValueError('words of ' + self.kind)
         if self.items and not self.type or amount_of(self.items) % self.numbers_an_item(): raise ValueError('items of ' + self.kind)
 
-    def numbers_an_item(self): return 2 if self.type == '2int' else BITS.get(self.type, 1)
+    def numbers_an_item(self): return numbers_each(self.type)
 
     def amount(self):
         """How many items it gives."""
