@@ -16,6 +16,9 @@
  *                                   bracketed (its operation isn't commutative, or associative)
  *   operation ID PLACE op_create commutes|ordered      one of the program's own; own ID OPERATION: the call ID goes by it
  *   fold ID NUMBERS                 what its function gives, called in the order of ranks (with RECORD_OPERATIONS)
+ *   digest ID sent|got HASH,..      of each block of a call on more items than RECORD_ITEMS; cut ID ITEMS: of so many the first ones are kept
+ *   inter COMMUNICATOR NUMBER       an intercommunicator: so many of its ranks, the first, are one group, the others the other
+ *   merged ID HIGH RANKS            what this rank says to MPI_Intercomm_merge, and its group's ranks of the world
  *   freed COMMUNICATOR     note TEXT
  *   end     abort ID PLACE CODE     fatal ERROR     signal NUMBER [raised|outside]     exit CODE [inside]     hang SECONDS     the last line
  *                                   (inside: by the MPI's own code)

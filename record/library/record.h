@@ -1,4 +1,4 @@
-/* What the recorder's files share. ../README.md says how it is used, written.c what stands in a record. */
+/* What the recorder's files share. ../README.md says how it is used, opening.c what is in a record. */
 #ifndef RECORD_H
 #define RECORD_H
 #define _GNU_SOURCE

@@ -1,4 +1,4 @@
-"""Lines of a rank's record: its part of a call, a wait, or the end of the run. library/written.c says how they are spelled."""
+"""Lines of a rank's record: its part of a call, a wait, or the end of the run. library/opening.c says how they are spelled."""
 import re
 
 from . import floats
