@@ -66,7 +66,10 @@ impl<W: Write> Table<W> {
     }
 
     fn post(&mut self, rank: u8, name: &Name, call: u32, statement: usize) -> io::Result<()> {
-        let line = self.script.number_of(self.alloc, rank, statement)?;
+        let line = self
+            .script
+            .number_of(self.alloc, rank, statement)?
+            .unwrap_or(0);
         self.ranks = self.ranks.max(usize::from(rank).saturating_add(1));
         self.reach(rank)?;
         if let Some(cell) = self.cells.get_mut(usize::from(rank)) {
