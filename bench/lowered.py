@@ -25,6 +25,12 @@ def unsigned(number):
     return bytes(out)
 
 
+def signed(number):
+    """A number that isn't negative as LEB128 with a sign."""
+    out = unsigned(number)
+    return out if out[-1] < 0x40 else out[:-1] + bytes([out[-1] | 0x80, 0])
+
+
 class Reader:
     """Goes through bytes."""
 
@@ -89,11 +95,10 @@ def segments(data, is_data, is_wide):
     for _ in range(count):
         if read.number():
             raise Unknown("a segment of another kind than those that are there from the start")
-        code, begin = read.byte(), read.at
-        if code not in (I32_CONST, I64_CONST):
-            raise Unknown("a segment that begins elsewhere than at a number")
-        read.skip_number()
-        parts.append(bytes([0, I32_CONST if is_wide else code]) + data[begin:read.at])
+        code, at = read.byte(), read.number()
+        if code != (I64_CONST if is_wide else I32_CONST) or at >= 1 << 31:
+            raise Unknown("a segment that begins elsewhere than at a number of 31 bits")
+        parts.append(bytes([0, I32_CONST]) + signed(at))
         begin = read.at
         read.take(1)
         size = read.number()
@@ -137,11 +142,13 @@ class Body:
         self.out.append(code)
 
     def memory_argument(self):
-        """The alignment and the offset, which has at most 32 bits."""
-        if self.read.number() >= 64:
+        """The alignment and the offset, which has at most 32 bits. A linker leaves it room for more."""
+        align, offset = self.read.number(), self.read.number()
+        if align >= 64:
             raise Unknown("more than one memory")
-        if self.read.number() >= 1 << 32:
+        if offset >= 1 << 32:
             raise Unknown("an offset of more than 32 bits")
+        return unsigned(align) + unsigned(offset)
 
     def cut(self, begin, *kinds):
         """Cuts an address below values of these kinds; each that is an address itself is cut, too."""
@@ -155,8 +162,10 @@ class Body:
         read, begin = self.read, self.read.at
         code = read.byte()
         if 0x28 <= code <= 0x3e:
-            self.memory_argument()
+            argument = self.memory_argument()
             self.cut(begin, *([STORED[code]] if code in STORED else []))
+            self.out.append(bytes([code]) + argument)
+            self.kept = read.at
         elif code in (0x3f, 0x40):
             read.byte()
             if code == 0x40:
@@ -213,12 +222,10 @@ def parameters_of(sections):
 
 
 def code(data, sections, is_wide_table):
-    read, parts = Reader(data), []
-    for parameters in parameters_of(sections):
-        if not parts:
-            parts.append(unsigned(read.number()))
-        parts.append(Body(read.take(read.number()), parameters, is_wide_table).done())
-    return b"".join(parts)
+    read, counts = Reader(data), parameters_of(sections)
+    if read.number() != len(counts):
+        raise Unknown("functions without code")
+    return unsigned(len(counts)) + b"".join(Body(read.take(read.number()), parameters, is_wide_table).done() for parameters in counts)
 
 
 def lowered(module):
