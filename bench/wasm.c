@@ -68,16 +68,16 @@ static void give_back(void *block) {
     unused[class_at(block)] = it;
 }
 
+void *malloc(u64 size) { return get(size); }
+
+void free(void *block) {
+    if (block) give_back(block);
+}
+
+// (memory.copy and memory.fill: nothing is called)
 void *memmove(void *to, const void *from, u64 length) { return __builtin_memmove(to, from, length); }
 void *memcpy(void *to, const void *from, u64 length) { return __builtin_memmove(to, from, length); }
 void *memset(void *to, int value, u64 length) { return __builtin_memset(to, value, length); }
-
-int memcmp(const void *one, const void *other, u64 length) {
-    const byte *x = one, *y = other;
-    for (u64 at = 0; at < length; at++)
-        if (x[at] != y[at]) return x[at] - y[at];
-    return 0;
-}
 
 // Whether there is memory, and where. An address is never zero.
 struct tried { u64 ok; void *at; };
@@ -149,12 +149,6 @@ static int fails(int why) {
 int rattle_errno(void) { return error; }
 void rattle_set_errno(int why) { error = why; }
 
-u64 rattle_arg_count(void) {
-    unsigned count = 0;
-    while (host_word(count, 0, 0) >= 0) count++;
-    return count;
-}
-
 i64 rattle_arg(u64 number, byte *at, u64 room) {
     int length = host_word(number, (unsigned)(u64)at, room);
     return length > (i64)room ? -2 : length;
@@ -188,7 +182,7 @@ i64 lseek(int stream, i64 to, int from) { return fails(NOT_SUPPORTED); }
 int sched_getaffinity(int process, u64 size, void *mask) { return fails(NOT_SUPPORTED); }
 int sched_yield(void) { return 0; }
 i64 sysconf(int name) { return fails(NOT_SUPPORTED); }
-i64 syscall(i64 number, ...) { return fails(NOT_SUPPORTED); }
+i64 syscall(i64 number, void *at, i64 what, i64 value, void *until, ...) { return fails(NOT_SUPPORTED); }
 int pthread_create(u64 *thread, const void *how, void *(*work)(void *), void *given) { return NO_THREAD; }
 int pthread_join(u64 thread, void **result) { return NO_THREAD; }
 int pthread_detach(u64 thread) { return NO_THREAD; }
@@ -203,5 +197,5 @@ void abort(void) { __builtin_trap(); }
 void _exit(int status) { __builtin_trap(); }
 
 // ---- The program. It is its own `main`, under another name.
-extern int gossipmpi_main(int count, byte **words);
-__attribute__((export_name("run"))) int run(void) { return gossipmpi_main(0, 0); }
+extern int gossipmpi_main(void);
+__attribute__((export_name("run"))) int run(void) { return gossipmpi_main(); }

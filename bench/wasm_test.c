@@ -5,7 +5,7 @@
 static u64 given[6];
 static byte text[64];
 
-int gossipmpi_main(int count, byte **words) { return 0; }
+int gossipmpi_main(void) { return 0; }
 
 FOR_TEST(given) unsigned where_given(void) { return (u64)given; }
 
@@ -30,8 +30,6 @@ FOR_TEST(change) unsigned change(unsigned at, unsigned kept, unsigned size) {
 FOR_TEST(drop) void drop(unsigned at) { rattle_dealloc((void *)(u64)at); }
 FOR_TEST(move) void move(unsigned to, unsigned from, unsigned length) { memmove((void *)(u64)to, (void *)(u64)from, length); }
 FOR_TEST(fill) void fill(unsigned at, int value, unsigned length) { memset((void *)(u64)at, value, length); }
-FOR_TEST(compare) int compare(unsigned one, unsigned other, unsigned length) { return memcmp((void *)(u64)one, (void *)(u64)other, length); }
-FOR_TEST(words) int words(void) { return rattle_arg_count(); }
 FOR_TEST(word) int word(unsigned number, unsigned room) { return rattle_arg(number, text, room); }
 FOR_TEST(get_text) int get_text(unsigned room) { return read(0, text, room); }
 FOR_TEST(put_text) int put_text(int stream, unsigned length) { return write(stream, text, length); }

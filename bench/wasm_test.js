@@ -93,8 +93,7 @@ function rest() {
   it.move(at, at + 10, 100);
   it.fill(at + 200, 77, 5);
   assert.deepStrictEqual([...bytes(at + 198, 9)], [198, 199, 77, 77, 77, 77, 77, 205, 206]);
-  assert(it.compare(at + 200, at + 202, 3) === 0 && it.compare(at + 201, at + 204, 2) < 0 && it.compare(at + 205, at + 204, 1) > 0);
-  assert.deepStrictEqual([it.words(), it.word(0, 64), it.word(2, 6), it.word(2, 5), it.word(9, 64)], [4, 9, 6, -2, -1]);
+  assert.deepStrictEqual([it.word(0, 64), it.word(2, 6), it.word(2, 5), it.word(9, 64)], [9, 6, -2, -1]);
   assert.deepStrictEqual([it.get_text(12), it.put_text(1, 12), it.get_text(64), it.put_text(2, 6), it.get_text(64), it.put_text(3, 1)], [12, 12, 6, 6, 0, -1]);
   assert.deepStrictEqual(written, ["1: the standard", "2:  input"]);
   assert(it.lacks() === 1 && it.seconds() === 61.2505 && it.run() === 0);

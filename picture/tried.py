@@ -135,7 +135,7 @@ def hold_waits(browser):
     """Why a script waits: the explanation's lines lead to those of the script."""
     choose(browser, "deadlock")
     finished(browser)
-    assert browser.value(OUTCOME).startswith("Ranks 0 to 2 wait after "), browser.value(OUTCOME)
+    holds("outcome", "Ranks 0 to 2 wait after 14 turns, and in every run.", browser.value(OUTCOME))
     assert "no post of 1" in browser.value("document.getElementById('explained').textContent")
     browser.value("[...document.querySelectorAll('#explained button')].find((it) => it.textContent === 'line 7').click()")
     holds("line of the caret", [7, "text"], browser.value("[editor.line, document.activeElement.id]"))
