@@ -11,10 +11,10 @@ are-push : (P : Doing → Type 0) (ds : List Doing) (d : Doing) → AreAllSo P d
 are-push P [] d h k = (k, tt)
 are-push P (x ∷ ds) d h k = (h.0, are-push P ds d h.1 k)
 
-none_by : (P : Doing → Type 0) (ranks : ℕ) (s : System) → LeadsBy P ranks s s
+pub none_by : (P : Doing → Type 0) (ranks : ℕ) (s : System) → LeadsBy P ranks s s
 none_by P ranks s = record { doings = []; are = tt; may = tt; reached = refl }
 
-more_by : (P : Doing → Type 0) (ranks : ℕ) (from to : System) (d : Doing) → LeadsBy P ranks from to → P d → MayDo ranks to d → LeadsBy P ranks from (does to d)
+pub more_by : (P : Doing → Type 0) (ranks : ℕ) (from to : System) (d : Doing) → LeadsBy P ranks from to → P d → MayDo ranks to d → LeadsBy P ranks from (does to d)
 more_by P ranks from to d l is m = record {
   doings = l.doings ++ d ∷ [];
   are = are-push P l.doings d l.are is;
