@@ -57,7 +57,7 @@ one_work_more {K} {P} {R} program table ranks size ports works port work are is 
       (λ same last g. let l = within_get works i w g in absurd (omega (arith, l, last, are.count))) old)
       (λ same last e'. slice_get-push_cases (λ q k. k ≡ length works → IsWork program table ranks size k q w) ports port i p e'
       (λ before now. let l = within_get ports i p before in absurd (omega (arith, l, now, are.count)))
-      (λ here _ now. subst (λ (z : ℕ × (PortView × Work K P R job ledger)). IsWork program table ranks size z.0 z.1.0 z.1.1) (λ k. (sym now k, (here k, same k))) is) last) e;
+      (λ here _ now. subst (λ (z : ℕ × (PortView × Work K P R _ _)). IsWork program table ranks size z.0 z.1.0 z.1.1) (λ k. (sym now k, (here k, same k))) is) last) e;
 }
 
 -- so each can begin
