@@ -115,7 +115,7 @@ def merged_order(row):
     group's ranks say both."""
     said = {}
     for part in row.values():
-        if part.merged is None: return None, None
+        if part.merged is None or len(part.lists) < 2: return None, None
         said.setdefault(part.merged[1], set()).add(part.merged[0])
     if any(len(high) > 1 for high in said.values()): return None, 'ranks of one group give other values of high'
     if len(said) != 2 or len(set(map(min, said.values()))) < 2: return None, None

@@ -87,8 +87,9 @@ class Choice:
             self.tell_fault(key, 'doesn\'t fit together: its parts differ in the ' + name)
             return 'its parts don\'t fit together'
         if left: return 'not finished' if left.tag == 'begun' else REASONS.get(left.words[-1], left.words[-1])
-        if set(row) != self.calls.members[key[0]]: return 'on an intercommunicator, to which not all ranks came'
-        found = across.Across(self.calls, row, self.calls.order[key[0]], self.calls.across[key[0]])
+        order = self.calls.order[key[0]]
+        if not set(row) == self.calls.members[key[0]] == set(order.values()): return 'on an intercommunicator, to which not all ranks came'
+        found = across.Across(self.calls, row, order, self.calls.across[key[0]])
         if found.fault: self.tell_fault(key, 'doesn\'t fit together: ' + found.fault)
         if found.fault or found.left: return found.fault or found.left
         if found.found: self.tell_results(key, 'differs, between the groups of an intercommunicator', found.found)

@@ -26,9 +26,11 @@ def hashes(part, words, counts):
     """Of numbers that the record has, or None."""
     if part.type not in BYTES or counts is None: return None
     width, numbers, found, at = part.numbers_an_item(), [int(word) for word in words.split()], [], 0
-    for count in counts:
-        found.append(hash_of(numbers[at * width:(at + count) * width], BYTES[part.type]))
-        at += count
+    try:
+        for count in counts:
+            found.append(hash_of(numbers[at * width:(at + count) * width], BYTES[part.type]))
+            at += count
+    except OverflowError: return None           # no such number has this type
     return found
 
 
@@ -48,7 +50,7 @@ class Meeting:
     def __init__(self, row, order, neighbours, result_of):
         part, places = row[min(row)], {rank: place for place, rank in order.items()}
         root = int(part.root) if part.root not in (None, '-') else None
-        sides = {places[rank]: sides_of(other, result_of(other), len(order)) for rank, other in row.items()}
+        sides = {places[rank]: sides_of(other, result_of(other), len(order)) for rank, other in row.items() if rank in places}
         self.number, self.found = 0, []
         for one, sent, to, got in types.meetings(part.kind, root, sides, neighbours() if part.kind.startswith('neighbor') else {}):
             if sent is None or got is None: continue

@@ -49,7 +49,7 @@ length_take (suc n) (x ∷ xs) l = ap suc (length_take n xs (omega (arith, l)))
 
 pub one_work_more : {K P R : Type 0} {job : JobOf K} {ledger : LedgerOf K} (program : P) (table : TableId) (ranks size : ℕ) (ports : List PortView) (works : List (Work K P R job ledger)) (port : PortView) (work : Work K P R job ledger)
     → AreWorks program table ranks size ports works → IsWork program table ranks size (length works) port work → AreWorks program table ranks size (ports ++ port ∷ []) (works ++ work ∷ [])
-one_work_more {K} {P} {R} program table ranks size ports works port work are is = record {
+one_work_more {K} {P} {R} {job} {ledger} program table ranks size ports works port work are is = record {
   count = length-append works (work ∷ []) ∙ ap (λ n. n + 1) are.count ∙ sym (length-append ports (port ∷ []));
   each = λ i p w e f. slice_get-push_cases (λ x k. slice_get (ports ++ port ∷ []) k ≡ Some p → IsWork program table ranks size k p x) works work i w f
       (λ old e'. slice_get-push_cases (λ q k. slice_get works k ≡ Some w → IsWork program table ranks size k q w) ports port i p e'
@@ -57,7 +57,7 @@ one_work_more {K} {P} {R} program table ranks size ports works port work are is 
       (λ same last g. let l = within_get works i w g in absurd (omega (arith, l, last, are.count))) old)
       (λ same last e'. slice_get-push_cases (λ q k. k ≡ length works → IsWork program table ranks size k q w) ports port i p e'
       (λ before now. let l = within_get ports i p before in absurd (omega (arith, l, now, are.count)))
-      (λ here _ now. subst (λ (z : ℕ × (PortView × Work K P R _ _)). IsWork program table ranks size z.0 z.1.0 z.1.1) (λ k. (sym now k, (here k, same k))) is) last) e;
+      (λ here _ now. subst (λ (z : ℕ × (PortView × Work K P R job ledger)). IsWork program table ranks size z.0 z.1.0 z.1.1) (λ k. (sym now k, (here k, same k))) is) last) e;
 }
 
 -- so each can begin
