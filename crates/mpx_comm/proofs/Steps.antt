@@ -1,6 +1,11 @@
 -- The steps of a node that aren't harvests, and what stays over them.
-use Rattle.std.proofs.Common.{◌≡◌, ℕ, true, Option, Some, None, sym, ap, ◌∙◌, subst}
+use Rattle.std.proofs.Common.{◌≡◌, ℕ, zero, suc, true, Bool, List, Option, Some, None, refl, sym, ap, ◌∙◌, subst}
 use Rattle.std.specs.Prelude.{◌||◌, Result, Ok, Err, OnOk, OnErr}
+use Rattle.join_core.specs.declared.memory.OutOfMemory.{OutOfMemory}
+use Rattle.mpx_num.specs.declared.own.Operation.{Operation}
+use Rattle.mpx_node.specs.declared.finished.Finished.{Finished}
+use Rattle.mpx_node.specs.Harvests.{harvested, with_next}
+use Rattle.mpx_node.specs.Settling.{Drops, HarvestsAll, WantsResult, with_prune}
 use Rattle.join_core.specs.laws.Cases.{answer}
 use Rattle.join_core.specs.Flat.{known, flat_join, flat_leq}
 use Rattle.mpx_post.specs.Posts.{Given}
@@ -10,10 +15,10 @@ use Rattle.mpx_post.specs.Equality.{same_given}
 use Rattle.mpx_name.specs.Name.{Name, same_name}
 use Rattle.mpx_board.specs.Boards.{Context, Look, join_contexts}
 use Rattle.mpx_node.specs.Deltas.{SaysWhatItHas}
-use Rattle.mpx_node.specs.Nodes.{own_acks, NodeView, learn, learn_some, StopsTaking, Opens, gathering_fact, gathering_name, open_gathering_node}
+use Rattle.mpx_node.specs.Nodes.{own_acks, NodeView, children_on, front_on, learn, learn_some, next_result, prune_part, StopsTaking, Opens, gathering_fact, gathering_name, open_gathering_node}
 use Rattle.mpx_request.specs.Later.{IsHeld, Later}
 use Rattle.mpx_board.proofs.Facts.{posts_bound}
-use Rattle.mpx_request.proofs.Steps.{held_either, held_live, later_learns, later_more, later_none, later_opens, later_same}
+use Rattle.mpx_request.proofs.Steps.{held_either, held_live, later_done, later_learns, later_more, later_none, later_opens, later_same}
 
 -- a gathering that is opened or not
 pub later_gathers : (parent : Name) (r : Result GatheringView PostError) (result : Result Name PostError) (old new : NodeView) → Opens parent r result old new → Later old new
@@ -58,3 +63,27 @@ later_learns_some (Some part) old = later_learns part old
 pub later_prunes : {E : Type 0} (r : Result (Unit {0}) E) (part : Option Look) (old new : NodeView) → OnOk r (new ≡ learn_some part old) → OnErr r (new ≡ old) → Later old new
 later_prunes (Ok u) part old new ok err = subst (Later old) (sym ok) (later_learns_some part old)
 later_prunes (Err e) part old new ok err = later_same old new err
+
+-- so many harvests of a context, one after the other
+later_next : (ops : List Operation) (name : Name) (old : NodeView) (next : Option Finished) → next_result ops old name ≡ next → Later old (with_next ops next name old)
+later_next ops name old None is = later_none old
+later_next ops name old (Some finished) is = later_done ops old name finished is (children_on ops old.board name (front_on old name))
+
+later_harvested : (ops : List Operation) (name : Name) (n : ℕ) (old : NodeView) → Later old (harvested ops n name old)
+later_harvested ops name zero old = later_none old
+later_harvested ops name (suc n) old =
+    let mid : NodeView = harvested ops n name old in
+    later_more old mid (harvested ops (suc n) name old) (later_harvested ops name n old) (later_next ops name mid (next_result ops mid name) refl)
+
+-- all that can be had is harvested, or memory is wanting on the way
+pub later_harvests_all : (ops : List Operation) (name : Name) (r : Result (Unit {0}) OutOfMemory) (old new : NodeView) → OnOk r (HarvestsAll ops name old new) → OnErr r (WantsResult ops name old new) → Later old new
+later_harvests_all ops name (Ok u) old new ok err = subst (Later old) (sym ok.does) (later_harvested ops name ok.times old)
+later_harvests_all ops name (Err e) old new ok err = subst (Later old) (sym err.does) (later_harvested ops name err.times old)
+
+-- what every member has harvested is dropped, if there is any
+later_pruned : (name : Name) (number : Option ℕ) (old : NodeView) → Later old (with_prune number name old)
+later_pruned name None old = later_none old
+later_pruned name (Some number) old = later_learns_some (prune_part old name number) old
+
+pub later_drops : (name : Name) (answer : Bool) (old new : NodeView) → Drops name answer old new → Later old new
+later_drops name answer old new drops = subst (Later old) (sym drops.does) (later_pruned name drops.number old)

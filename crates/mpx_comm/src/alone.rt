@@ -8,7 +8,8 @@ ghost use Rattle.mpx_format.specs.Decoding.{IsSpelled, decoded, shown};
 ghost use Rattle.mpx_format.specs.Encoding.{length_told};
 ghost use Rattle.mpx_delta.specs.Facts.{OnlyFactsOf};
 ghost use Rattle.mpx_node.specs.Deltas.{AreLacked, LackFrames, SaysWhatItHas, lacking_on};
-ghost use Rattle.mpx_node.specs.Nodes.{StopsTaking, learn, learn_some, prune_part};
+ghost use Rattle.mpx_node.specs.Nodes.{Opens, StopsTaking, gathers_on, learn, learn_some, prune_part};
+ghost use Rattle.mpx_node.specs.Settling.{Drops, HarvestsAll, WantsResult};
 ghost use Rattle.mpx_request.specs.Harvested.{HarvestsNext};
 
 use crate::desk::Desk;
@@ -18,12 +19,44 @@ use mpx_delta::NewFrames;
 use mpx_name::Name;
 use mpx_node::{Harvest, Node};
 use mpx_num::{Listing, Ops};
+use mpx_post::{Draft, PostError};
+use mpx_request::Request;
 use mpx_rope::{Rope, RopeRef};
 use std::alloc::Global;
 
 /// What the user of a node alone does for it between the calls.
 impl Desk<Node> {
     ghost use Rattle.mpx_node.specs.Shown.{node_of};
+    ghost use Rattle.mpx_comm.specs.Desks.{DeskAsks};
+
+    /// Posts the draft as the next call on the context of this name, as [`Desk::post`] does on a communicator: for who knows contexts by
+    /// their names, as scripts do. An `Err` changes nothing.
+    pub fn post_by_name(
+        &mut self,
+        alloc: Global,
+        name: &Name,
+        draft: Draft,
+        ops: &Ops,
+    ) -> Result<Request, PostError>
+        ensures { DeskAsks (⟦<Ops as Listing>⟧.operations ops.now) node_of name.now draft result self.old self.new }
+    {
+        self.post_on(alloc, name, draft, ops)
+    }
+
+    /// Opens the gathering with this tag of the parent's members with these ranks, as [`Desk::open_gathering`] does, and gives its name. An
+    /// `Err` changes nothing.
+    pub fn open_gathering_by_name(
+        &mut self,
+        alloc: Global,
+        parent: &Name,
+        tag: i128,
+        ranks: &[i128],
+    ) -> Result<Name, PostError>
+        ensures opens { Opens parent.now (gathers_on (node_of self.old.host) parent.now tag ranks.now) result (node_of self.old.host) (node_of self.new.host) }
+        ensures requests { self.new.requests.keys ≡ self.old.requests.keys }
+    {
+        self.host.open_gathering(alloc, parent, tag, ranks)
+    }
 
     /// Joins a part to the node's board, as [`Node::take`] does: an `Err` leaves a board between the old one and the join.
     pub fn take(&mut self, alloc: Global, part: &Board) -> Result<(), OutOfMemory>
@@ -64,6 +97,25 @@ impl Desk<Node> {
         ensures requests { self.new.requests.keys ≡ self.old.requests.keys }
     {
         self.host.harvest(alloc, name, ops)
+    }
+
+    /// Harvests on a context until no further result can be had, as [`Node::harvest_all`] does. An `Err` is want of memory for a result that
+    /// can be had.
+    pub fn harvest_all(&mut self, alloc: Global, name: &Name, ops: &Ops) -> Result<(), OutOfMemory>
+        ensures ok { OnOk result (HarvestsAll (⟦<Ops as Listing>⟧.operations ops.now) name.now (node_of self.old.host) (node_of self.new.host)) }
+        ensures err { OnErr result (WantsResult (⟦<Ops as Listing>⟧.operations ops.now) name.now (node_of self.old.host) (node_of self.new.host)) }
+        ensures requests { self.new.requests.keys ≡ self.old.requests.keys }
+    {
+        self.host.harvest_all(alloc, name, ops)
+    }
+
+    /// Drops the posts of a context that every member has harvested, as far as the board knows, as [`Node::prune_to_floor`] does. It
+    /// answers whether there were any, and takes no memory.
+    pub fn prune_to_floor(&mut self, name: &Name) -> bool
+        ensures drops { Drops name.now result (node_of self.old.host) (node_of self.new.host) }
+        ensures requests { self.new.requests.keys ≡ self.old.requests.keys }
+    {
+        self.host.prune_to_floor(name)
     }
 
     /// Drops the posts of calls below the number on a context, which is at most the floor; past a free that every member has

@@ -57,4 +57,12 @@ impl Request {
     {
         self.call
     }
+
+    /// The context and the number of the call.
+    pub fn into_parts(self) -> (Name, u32)
+        ensures { result ≡ (self.name, self.call) }
+    {
+        let Request { name, call } = self;
+        (name, call)
+    }
 }
