@@ -1,23 +1,28 @@
 -- What a post comes to, by what the node answers.
-use Rattle.std.proofs.Common.{◌≡◌, ℕ, List, Option, Some, None, sym, ap, subst}
+use Rattle.std.proofs.Common.{◌≡◌, ℕ, List, Option, Some, None, inl, inr, refl, sym, ap, subst}
 use Rattle.std.specs.Prelude.{Result, Ok, Err, IfOk, OnOk}
 use Rattle.mpx_name.specs.Name.{Name}
 use Rattle.mpx_num.specs.declared.own.Operation.{Operation}
 use Rattle.mpx_post.specs.declared.draft.Draft.{Draft}
 use Rattle.mpx_post.specs.declared.draft.PostError.{PostError}
-use Rattle.mpx_post.specs.Posts.{Given}
 use Rattle.mpx_post.specs.Gatherings.{GatheringView}
-use Rattle.mpx_node.specs.Nodes.{NodeView, Opens, Posts, checked_on, gathering_name, gathers_on}
+use Rattle.mpx_node.specs.Nodes.{NodeView, Opens, checked_on, gathering_name, gathers_on}
+use Rattle.mpx_request.specs.declared.request.Request.{Request}
+use Rattle.mpx_comm.specs.Calls.{Asks, IsRefusal}
 use Rattle.mpx_statement.specs.declared.statement.Posting.{Posting}
 use Rattle.mpx_statement.specs.Statements.{Gathers, draft_of, gathers_of}
-use Rattle.mpx_sim.specs.Carrying.{IsContext, Tried, Tries, call_on, tried_gathered, tried_in, tried_on, tried_post}
+use Rattle.mpx_sim.specs.Carrying.{IsContext, Tries, tried_gathered, tried_in, tried_on, tried_post}
+use Rattle.mpx_sim.specs.Shown.{call_in, call_of}
 
--- what the node was asked is tried
-pub tries_posts : (name : Name) (checked : Result Given PostError) (result : Result ℕ PostError) (old new : NodeView) → Posts name checked result old new → Tries (tried_post name checked old) (call_on name result) new
-tries_posts name (Err refusal) (Ok call) old new h = cc h.0
-tries_posts name (Err refusal) (Err e) old new h = λ other. (ap (call_on name) (sym h.0), h.1)
-tries_posts name (Ok given) (Ok call) old new h = (ap (λ k. call_on name (Ok k)) (sym h.0), h.1)
-tries_posts name (Ok given) (Err e) old new h = λ other. absurd (other h.0)
+-- what the desk was asked is tried
+pub tries_asked : (ops : List Operation) (name : Name) (draft : Draft) (result : Result Request PostError) (old new : NodeView) (before after : List Request) → Asks ops name draft result old new before after
+    → Tries (tried_post name (checked_on ops old name draft) old) (call_in result) new
+tries_asked ops name draft (Ok request) old new before after asks =
+    subst (λ checked. Tries (tried_post name checked old) (Ok (call_of request)) new) (sym asks.1.accepted) (ap (λ r. Ok (call_of r)) (sym asks.0), asks.3)
+tries_asked ops name draft (Err refusal) old new before after asks = by_refusal asks.0 where
+  by_refusal : IsRefusal (checked_on ops old name draft) refusal → Tries (tried_post name (checked_on ops old name draft) old) (Err refusal) new
+  by_refusal (inl is) other = subst (λ checked. ((tried_post name checked old).answer ≡ Err refusal) × (new ≡ (tried_post name checked old).node)) (sym is) (refl, asks.1)
+  by_refusal (inr memory) other = absurd (other memory.0)
 
 -- a gathering is opened, and then a post is tried there
 pub tries_gathered : (ops : List Operation) (parent : Name) (draft : Draft) (x : Result GatheringView PostError) (name : Name) (old mid : NodeView) (answer : Result (Name × ℕ) PostError) (new : NodeView) → Opens parent x (Ok name) old mid
@@ -32,16 +37,10 @@ tries_there ops draft None on name old mid answer new is t = subst (λ m. Tries 
 tries_there ops draft (Some asked) on name old mid answer new is t = tries_gathered ops on draft (gathers_on old on asked.tag asked.ranks) name old mid answer new is t
 
 -- what a statement that posts comes to, where its draft is posted on its context
-pub tries_call : (ops : List Operation) (posting : Posting) (o : Option Name) (on : Name) → o ≡ Some on → (draft : Draft) → draft ≡ draft_of posting → (name : Name) (old mid : NodeView) (result : Result ℕ PostError) (new : NodeView) → IsContext on (gathers_of posting) (Ok name) old mid
-    → Posts name (checked_on ops mid name draft) result mid new → Tries (tried_on ops posting o old) (call_on name result) new
-tries_call ops posting o on is draft said name old mid result new context posts =
-    subst (λ p. Tries (tried_on ops posting p old) (call_on name result) new) (sym is)
-    (tries_there ops (draft_of posting) (gathers_of posting) on name old mid (call_on name result) new context
-    (subst (λ d. Tries (tried_post name (checked_on ops mid name d) mid) (call_on name result) new) said (tries_posts name (checked_on ops mid name draft) result mid new posts)))
-
--- the same of an answer that says the same
-pub tries_told : (t : Tried) (a b : Result (Name × ℕ) PostError) (new : NodeView) → a ≡ b → Tries t a new → Tries t b new
-tries_told t a b new e h = subst (λ x. Tries t x new) e h
+pub tries_on : (ops : List Operation) (posting : Posting) (o : Option Name) (on name : Name) → o ≡ Some on → (old mid : NodeView) (answer : Result (Name × ℕ) PostError) (new : NodeView) → IsContext on (gathers_of posting) (Ok name) old mid
+    → Tries (tried_post name (checked_on ops mid name (draft_of posting)) mid) answer new → Tries (tried_on ops posting o old) answer new
+tries_on ops posting o on name is old mid answer new context tries =
+    subst (λ p. Tries (tried_on ops posting p old) answer new) (sym is) (tries_there ops (draft_of posting) (gathers_of posting) on name old mid answer new context tries)
 
 pub on_each_ok : {T E P Q : Type 0} (r : Result T E) → (P → Q) → OnOk r P → OnOk r Q
 on_each_ok (Ok x) f p = f p

@@ -52,10 +52,11 @@ abbrev pub Tries : Tried → Result (Name × ℕ) PostError → NodeView → Typ
 Tries t (Ok call) new = (t.answer ≡ Ok call) × (new ≡ t.node)
 Tries t (Err refusal) new = (refusal ≡ OutOfMemory → ⊥) → (t.answer ≡ Err refusal) × (new ≡ t.node)
 
--- the call of this number on a context, where it was posted
-abbrev pub call_on : Name → Result ℕ PostError → Result (Name × ℕ) PostError
-call_on name (Ok call) = Ok (name, call)
-call_on name (Err refusal) = Err refusal
+-- the context that is posted on: the gathering, where one was opened, or the communicator's
+abbrev pub context_in : (on : Name) → Result (Option Name) PostError → Result Name PostError
+context_in on (Ok None) = Ok on
+context_in on (Ok (Some gathering)) = Ok gathering
+context_in on (Err refusal) = Err refusal
 
 -- the context on which a statement posts is that of its communicator, or the gathering that it opens there, or that is refused
 abbrev pub IsContext : (on : Name) → Option Gathers → Result Name PostError → NodeView → NodeView → Type 0
@@ -95,13 +96,13 @@ Harvests ops old new = KeepsNode Alone ops old new × IsToldWithin (outcomes_on 
 -- operations
 abbrev pub desk_terms : List Operation → Terms RunDesk Name
 desk_terms ops = record {
-  tells = λ d me. outcomes_on (node_of d.node);
-  gives = λ d me name call to. (f : Finished) × (result_on (node_of d.node) name call ≡ Some f) × (to ≡ new_name f.outcome);
-  knows = λ d name. known_to (node_of d.node) name;
-  closes = λ d me name. freed_on (node_of d.node) name;
+  tells = λ d me. outcomes_on (node_of d.desk.host);
+  gives = λ d me name call to. (f : Finished) × (result_on (node_of d.desk.host) name call ≡ Some f) × (to ≡ new_name f.outcome);
+  knows = λ d name. known_to (node_of d.desk.host) name;
+  closes = λ d me name. freed_on (node_of d.desk.host) name;
   may = λ d me posting on. Unit {0};
-  tries = λ d me posting on result e. AtOnce (λ answer. Tries (tried_on ops posting on (node_of d.node)) answer (node_of e.node)) result;
-  hears = λ d e. Harvests ops (node_of d.node) (node_of e.node);
+  tries = λ d me posting on result e. AtOnce (λ answer. Tries (tried_on ops posting on (node_of d.desk.host)) answer (node_of e.desk.host)) result;
+  hears = λ d e. Harvests ops (node_of d.desk.host) (node_of e.desk.host);
 }
 
 pub harvests_none : (ops : List Operation) (a : NodeView) → Harvests ops a a
@@ -111,10 +112,10 @@ pub harvests_then : (ops : List Operation) (a b c : NodeView) → Harvests ops a
 harvests_then ops a b c h k = (keeps_node_then Alone ops a b c h.0 k.0, λ name call outcome e. k.1 name call outcome (h.1 name call outcome e))
 
 pub hears_nothing : (ops : List Operation) (d : RunDesk) → (desk_terms ops).hears d d
-hears_nothing ops d = harvests_none ops (node_of d.node)
+hears_nothing ops d = harvests_none ops (node_of d.desk.host)
 
 pub hears_more : (ops : List Operation) (a b c : RunDesk) → (desk_terms ops).hears a b → (desk_terms ops).hears b c → (desk_terms ops).hears a c
-hears_more ops a b c h k = harvests_then ops (node_of a.node) (node_of b.node) (node_of c.node) h k
+hears_more ops a b c h k = harvests_then ops (node_of a.desk.host) (node_of b.desk.host) (node_of c.desk.host) h k
 
 -- a result that is stored stays
 pub stays_told : (ops : List Operation) (a b : RunDesk) → (desk_terms ops).hears a b → (me : ℕ) → IsToldWithin ((desk_terms ops).tells a me) ((desk_terms ops).tells b me)

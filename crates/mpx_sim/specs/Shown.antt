@@ -6,9 +6,9 @@ pub use Rattle.mpx_format.specs.Decoding.{shown}
 use Rattle.mpx_name.specs.Name.{Name}
 use Rattle.mpx_post.specs.declared.draft.PostError.{PostError}
 use Rattle.mpx_node.specs.Shown.{node_of}
+use Rattle.mpx_request.specs.declared.request.Request.{Request}
 use Rattle.mpx_rank.specs.Shown.{rank_of}
 use Rattle.mpx_system.specs.Systems.{System}
-use Rattle.mpx_sim.specs.declared.desk.Posted.{Posted}
 use Rattle.mpx_sim.specs.declared.frame_under_way.FrameUnderWay.{FrameUnderWay}
 use Rattle.mpx_sim.specs.declared.network.Network.{Network}
 use Rattle.mpx_sim.specs.declared.process.Process.{Process}
@@ -19,12 +19,12 @@ use Rattle.mpx_sim.specs.Draws.{ScheduleView}
 use Rattle.mpx_sim.specs.Turns.{FrameView, Moment}
 use Rattle.mpx_sim.specs.Running.{ProcessView}
 
-abbrev pub call_of : Posted → Name × ℕ
-call_of posted = (posted.name, posted.call)
+abbrev pub call_of : Request → Name × ℕ
+call_of request = (request.name, request.call)
 
 -- the call that was posted, where it was accepted
-abbrev pub call_in : Result Posted PostError → Result (Name × ℕ) PostError
-call_in (Ok posted) = Ok (call_of posted)
+abbrev pub call_in : Result Request PostError → Result (Name × ℕ) PostError
+call_in (Ok request) = Ok (call_of request)
 call_in (Err refusal) = Err refusal
 
 -- how far it has come with sending
@@ -32,7 +32,7 @@ abbrev pub sender_of : Sender → SenderView
 sender_of s = record { place = s.place; out = s.out }
 
 abbrev pub process_of : Process → ProcessView
-process_of p = record { rank = rank_of call_of p.rank; node = node_of p.carrier.node; sender = sender_of p.sender }
+process_of p = record { rank = rank_of call_of p.rank; node = node_of p.carrier.desk.host; sender = sender_of p.sender }
 
 -- the board that a frame's bytes spell
 abbrev pub part_of : FrameUnderWay → Look

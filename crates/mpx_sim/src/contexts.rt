@@ -1,7 +1,7 @@
 //! The contexts that a process looks at.
 
-use crate::desk::Posted;
 use join_core::{Exact, OutOfMemory};
+use mpx_comm::Request;
 use mpx_name::Name;
 use std::alloc::Global;
 
@@ -28,10 +28,10 @@ pub(crate) fn look_at_given(
 pub(crate) fn look_at_gathering(
     alloc: Global,
     contexts: &mut Vec<Name>,
-    posted: &Posted,
+    posted: &Request,
 ) -> Result<(), OutOfMemory> {
-    if posted.call == 0 && posted.name.is_gathering() {
-        contexts.push(posted.name.copy(alloc)?)?;
+    if posted.call() == 0 && posted.name().is_gathering() {
+        contexts.push(posted.name().copy(alloc)?)?;
     }
     Ok(())
 }

@@ -2,13 +2,14 @@
 ghost use Rattle.std.specs.Prelude.{◌≡◌, ◌<◌, ◌≤◌, IfOk, List, OnOk, Some, false, true};
 ghost use Rattle.std.specs.Option.{option_copied};
 ghost use Rattle.mpx_num.specs.declared.own.Operation.{Operation};
-ghost use Rattle.mpx_node.specs.Nodes.{has_next, start_node};
+ghost use Rattle.mpx_node.specs.Nodes.{checked_on, start_node};
 ghost use Rattle.mpx_node.specs.Shown.{node_of};
 ghost use Rattle.mpx_meaning.specs.declared.line.Line.TheVariants.{Told as TellsOutcome};
-ghost use Rattle.mpx_statement.specs.Statements.{gathers_of};
+ghost use Rattle.mpx_statement.specs.Statements.{draft_of, gathers_of};
+ghost use Rattle.mpx_rank.specs.declared.carrier.Heard.TheVariants.{Told as TellsCall};
 ghost use Rattle.mpx_rank.specs.Shown.{requests_of};
-ghost use Rattle.mpx_sim.specs.declared.desk.Posted.{Posted as PostedView};
-ghost use Rattle.mpx_sim.specs.Carrying.{Harvests, IsContext, Tries, call_on, new_name, tried_on};
+ghost use Rattle.mpx_request.specs.declared.request.Request.{Request as RequestView};
+ghost use Rattle.mpx_sim.specs.Carrying.{Harvests, IsContext, Tries, context_in, new_name, tried_on, tried_post};
 ghost use Rattle.mpx_sim.specs.Ends.{IsOpen, OneIsOpen};
 ghost use Rattle.mpx_sim.specs.Running.{KeepsNode};
 ghost use Rattle.mpx_sim.specs.Shown.{call_in, call_of};
@@ -18,6 +19,7 @@ use crate::contexts::{contexts_at_start, look_at_gathering, look_at_given};
 use crate::posts::Posts;
 use join_core::{Exact, OutOfMemory};
 use mpx_birth::Birth;
+use mpx_comm::{Desk, Request, Tested};
 use mpx_group::Proc;
 use mpx_meaning::Line;
 use mpx_name::Name;
@@ -30,17 +32,10 @@ use mpx_value::Outcome;
 use std::alloc::Global;
 use std::collections::BTreeMap;
 
-/// A call that was posted: its context and its number.
-#[derive(Drop)]
-pub(crate) struct Posted {
-    pub(crate) name: Name,
-    pub(crate) call: u32,
-}
-
-/// A process's node, the contexts that it looks at, and its posts, for an observer.
+/// A process's desk over its node, the contexts that it looks at, and its posts, for an observer.
 #[derive(Drop)]
 pub(crate) struct RunDesk {
-    pub(crate) node: Node,
+    pub(crate) desk: Desk<Node>,
     contexts: Vec<Name>,
     pub(crate) posts: Posts,
 }
@@ -60,12 +55,12 @@ impl RunDesk {
         requires ranks { ranks ≤ processes }
         requires few { processes ≤ 64 }
         requires me { me < processes }
-        ensures { IfOk result (λ desk. node_of desk.node ≡ start_node me ranks processes) }
+        ensures { IfOk result (λ desk. node_of desk.desk.host ≡ start_node me ranks processes) }
     {
         let contexts = contexts_at_start(alloc)?;
         match Node::new(alloc, me, ranks, processes) {
             Ok(node) => Ok(RunDesk {
-                node,
+                desk: Desk::new(alloc, node),
                 contexts,
                 posts: Posts::new(alloc, todo, notes),
             }),
@@ -77,25 +72,32 @@ impl RunDesk {
     }
 
     /// Its node.
+    pub(crate) fn node(&self) -> &Node
+        ensures { result.now ≡ self.now.desk.host }
+    {
+        self.desk.host()
+    }
+
+    /// Its node, for good.
     pub(crate) fn into_node(self) -> Node
-        ensures { result ≡ self.node }
+        ensures { result ≡ self.desk.host }
     {
         let RunDesk {
-            node,
+            desk,
             contexts,
             posts,
         } = self;
         drop(contexts);
         drop(posts);
-        node
+        desk.into_host()
     }
 
     /// Stores the results of each context that it looks at, until no further one can be had.
     pub(crate) fn harvest(&mut self, alloc: Global, ops: &Ops) -> Result<(), OutOfMemory>
-        ensures { OnOk result (Harvests (⟦<Ops as Listing>⟧.operations ops.now) (node_of self.old.node) (node_of self.new.node)) }
+        ensures { OnOk result (Harvests (⟦<Ops as Listing>⟧.operations ops.now) (node_of self.old.desk.host) (node_of self.new.desk.host)) }
     {
         for name in &self.contexts {
-            harvest_all(alloc, &mut self.node, name, ops)?;
+            harvest_all(alloc, &mut self.desk, name, ops)?;
         }
         Ok(())
     }
@@ -104,28 +106,25 @@ impl RunDesk {
     pub(crate) fn is_open(
         &mut self,
         alloc: Global,
-        call: &Posted,
+        call: &Request,
         ops: &Ops,
     ) -> Result<bool, OutOfMemory>
-        ensures harvested { OnOk result (Harvests (⟦<Ops as Listing>⟧.operations ops.now) (node_of self.old.node) (node_of self.new.node)) }
-        ensures pending { IfOk result (λ pends. pends ≡ true → IsOpen (node_of self.new.node) call.now.name call.now.call) }
+        ensures harvested { OnOk result (Harvests (⟦<Ops as Listing>⟧.operations ops.now) (node_of self.old.desk.host) (node_of self.new.desk.host)) }
+        ensures pending { IfOk result (λ pends. pends ≡ true → IsOpen (node_of self.new.desk.host) call.now.name call.now.call) }
     {
-        let all = harvest_to(alloc, &mut self.node, &call.name, call.call, ops)?;
-        if all {
-            return Ok(false);
-        }
-        Ok(self.node.result(&call.name, call.call).is_none())
+        let done = self.desk.status(alloc, call, ops)?;
+        Ok(!done)
     }
 
     // Whether a call is, where there is one.
     fn some_is_open(
         &mut self,
         alloc: Global,
-        call: Option<&Posted>,
+        call: Option<&Request>,
         ops: &Ops,
     ) -> Result<bool, OutOfMemory>
-        ensures harvested { OnOk result (Harvests (⟦<Ops as Listing>⟧.operations ops.now) (node_of self.old.node) (node_of self.new.node)) }
-        ensures pending { IfOk result (λ pends. pends ≡ true → (c : PostedView) × (option_copied call.entry ≡ Some c) × IsOpen (node_of self.new.node) c.name c.call) }
+        ensures harvested { OnOk result (Harvests (⟦<Ops as Listing>⟧.operations ops.now) (node_of self.old.desk.host) (node_of self.new.desk.host)) }
+        ensures pending { IfOk result (λ pends. pends ≡ true → (c : RequestView) × (option_copied call.entry ≡ Some c) × IsOpen (node_of self.new.desk.host) c.name c.call) }
     {
         match call {
             None => Ok(false),
@@ -137,12 +136,12 @@ impl RunDesk {
     pub(crate) fn one_is_open(
         &mut self,
         alloc: Global,
-        requests: &BTreeMap<Word, Posted>,
+        requests: &BTreeMap<Word, Request>,
         words: &[Word],
         ops: &Ops,
     ) -> Result<bool, OutOfMemory>
-        ensures harvested { OnOk result (Harvests (⟦<Ops as Listing>⟧.operations ops.now) (node_of self.old.node) (node_of self.new.node)) }
-        ensures pending { IfOk result (λ pends. pends ≡ true → OneIsOpen (node_of self.new.node) (requests_of call_of requests.now) words.now) }
+        ensures harvested { OnOk result (Harvests (⟦<Ops as Listing>⟧.operations ops.now) (node_of self.old.desk.host) (node_of self.new.desk.host)) }
+        ensures pending { IfOk result (λ pends. pends ≡ true → OneIsOpen (node_of self.new.desk.host) (requests_of call_of requests.now) words.now) }
     {
         for word in words {
             let pends = self.some_is_open(alloc, requests.get(word), ops)?;
@@ -156,11 +155,11 @@ impl RunDesk {
     /// Drops the posts that every member has harvested, of each context that it looks at, by what its board knows of that. It
     /// answers whether there were any. Contexts that are dead then are looked at no more.
     pub(crate) fn prune(&mut self) -> bool
-        ensures { (operations : List Operation) → KeepsNode Alone operations (node_of self.old.node) (node_of self.new.node) }
+        ensures { (operations : List Operation) → KeepsNode Alone operations (node_of self.old.desk.host) (node_of self.new.desk.host) }
     {
-        let changed = prune_all(&mut self.node, &self.contexts);
+        let changed = prune_all(&mut self.desk, &self.contexts);
         if changed {
-            let board = self.node.board();
+            let board = self.desk.host().board();
             self.contexts.retain(|name| !board.is_dead(name));
         }
         changed
@@ -172,15 +171,14 @@ impl Carrier for RunDesk {
 
     type Communicator = Name;
 
-    type Call = Posted;
+    type Call = Request;
 
     ghost place = { call_of };
 
     ghost terms = { desk_terms };
 
-    fn into_place(call: Posted) -> (Name, u32) {
-        let Posted { name, call } = call;
-        (name, call)
+    fn into_place(call: Request) -> (Name, u32) {
+        call.into_parts()
     }
 
     fn post(
@@ -190,10 +188,10 @@ impl Carrier for RunDesk {
         on: Option<&Name>,
         posting: &Posting,
         ops: &Ops,
-    ) -> Result<Option<Posted>, PostError> {
+    ) -> Result<Option<Request>, PostError> {
         self.posts.tries();
-        let posted = attempt(alloc, &mut self.node, on, posting, ops)?;
-        self.posts.note(alloc, &posted.name, posted.call);
+        let posted = attempt(alloc, &mut self.desk, on, posting, ops)?;
+        self.posts.note(alloc, posted.name(), posted.call());
         match look_at_gathering(alloc, &mut self.contexts, &posted) {
             Ok(()) => Ok(Some(posted)),
             Err(_) => {
@@ -207,41 +205,40 @@ impl Carrier for RunDesk {
         &mut self,
         alloc: Global,
         _me: Proc,
-        call: &Posted,
+        call: &Request,
         ops: &Ops,
     ) -> Result<bool, OutOfMemory> {
-        harvest_to(alloc, &mut self.node, &call.name, call.call, ops)?;
-        Ok(self.node.result(&call.name, call.call).is_some())
+        if self.desk.host().result(call.name(), call.call()).is_some() {
+            return Ok(true);
+        }
+        self.desk.status(alloc, call, ops)?;
+        Ok(self.desk.host().result(call.name(), call.call()).is_some())
     }
 
     fn hear(
         &mut self,
         alloc: Global,
         _me: Proc,
-        call: Posted,
+        call: Request,
         ops: &Ops,
-    ) -> Result<Heard<Posted, Name>, OutOfMemory> {
-        if let Some(finished) = self.node.result(&call.name, call.call) {
-            let (outcome, given) = said(alloc, finished, &mut self.contexts)?;
-            let line = told_line(call, outcome);
-            return Ok(Heard::Told { line, given });
+    ) -> Result<Heard<Request, Name>, OutOfMemory> {
+        match self.desk.test_with_request(alloc, call, ops) {
+            Err(_) => Err(OutOfMemory),
+            Ok(Tested::NotYet(call)) => Ok(Heard::NotYet(call)),
+            Ok(Tested::LetGo(call)) => Ok(Heard::NotYet(call)),
+            Ok(Tested::Done((call, finished))) => {
+                told(alloc, call, outcome_in(finished), &mut self.contexts)
+            }
         }
-        harvest_to(alloc, &mut self.node, &call.name, call.call, ops)?;
-        let Some(finished) = self.node.result(&call.name, call.call) else {
-            return Ok(Heard::NotYet(call));
-        };
-        let (outcome, given) = said(alloc, finished, &mut self.contexts)?;
-        let line = told_line(call, outcome);
-        Ok(Heard::Told { line, given })
     }
 
     fn known<'m>(&'m self, communicator: &'m Name, _ops: &Ops) -> Option<(&'m Name, &'m Birth)> {
-        let birth = self.node.board().birth(communicator)?;
+        let birth = self.desk.host().board().birth(communicator)?;
         Some((communicator, birth))
     }
 
     fn is_closed(&mut self, _me: Proc, communicator: &Name, _ops: &Ops) -> bool {
-        self.node.has_freed(communicator)
+        self.desk.host().has_freed(communicator)
     }
 
     ghost hears_nothing = { hears_nothing };
@@ -251,31 +248,33 @@ impl Carrier for RunDesk {
     ghost stays_told = { stays_told };
 }
 
-// The line that tells a call's outcome.
-fn told_line(call: Posted, outcome: Outcome) -> Line
-    ensures { result ≡ TellsOutcome call.name call.call outcome }
+// The outcome of a result.
+fn outcome_in(finished: Finished) -> Outcome
+    ensures { result ≡ finished.outcome }
 {
-    let Posted { name, call } = call;
-    Line::Told {
+    let Finished { mine, outcome } = finished;
+    drop(mine);
+    outcome
+}
+
+// What is told of a call with this outcome: its line, and the name of the communicator that it gave, which is looked at from now on.
+fn told(
+    alloc: Global,
+    call: Request,
+    outcome: Outcome,
+    contexts: &mut Vec<Name>,
+) -> Result<Heard<Request, Name>, OutOfMemory>
+    ensures { IfOk result (λ heard. heard ≡ TellsCall (TellsOutcome call.name call.call outcome) (new_name outcome)) }
+{
+    let given = new_name(alloc, &outcome)?;
+    look_at_given(alloc, contexts, &given)?;
+    let (name, call) = call.into_parts();
+    let line = Line::Told {
         name,
         call,
         outcome,
-    }
-}
-
-// The outcome of a result, and the name of the communicator that the call gave, which is looked at from now on.
-fn said(
-    alloc: Global,
-    finished: &Finished,
-    contexts: &mut Vec<Name>,
-) -> Result<(Outcome, Option<Name>), OutOfMemory>
-    ensures outcome { IfOk result (λ said. said.0 ≡ finished.now.outcome) }
-    ensures given { IfOk result (λ said. said.1 ≡ new_name finished.now.outcome) }
-{
-    let outcome = finished.outcome.copy(alloc)?;
-    let given = new_name(alloc, &finished.outcome)?;
-    look_at_given(alloc, contexts, &given)?;
-    Ok((outcome, given))
+    };
+    Ok(Heard::Told { line, given })
 }
 
 // The name of the communicator that a call gave, where it gave one.
@@ -295,85 +294,75 @@ fn new_name(alloc: Global, outcome: &Outcome) -> Result<Option<Name>, OutOfMemor
 // The call of a statement that posts, on what its word is bound to, or the refusal.
 fn attempt(
     alloc: Global,
-    node: &mut Node,
+    desk: &mut Desk<Node>,
     on: Option<&Name>,
     posting: &Posting,
     ops: &Ops,
-) -> Result<Posted, PostError>
-    ensures { Tries (tried_on (⟦<Ops as Listing>⟧.operations ops.now) posting.now (option_copied on.entry) (node_of node.old)) (call_in result) (node_of node.new) }
+) -> Result<Request, PostError>
+    ensures { Tries (tried_on (⟦<Ops as Listing>⟧.operations ops.now) posting.now (option_copied on.entry) (node_of desk.old.host)) (call_in result) (node_of desk.new.host) }
 {
     let Some(on) = on else {
         return Err(PostError::NotMember);
     };
-    let name = context_of(alloc, node, on, posting)?;
+    match gathering_of(alloc, desk, on, posting)? {
+        None => post_there(alloc, desk, on, posting, ops),
+        Some(gathering) => post_there(alloc, desk, &gathering, posting, ops),
+    }
+}
+
+// The call of a statement that posts, on the context of this name, or the refusal.
+fn post_there(
+    alloc: Global,
+    desk: &mut Desk<Node>,
+    name: &Name,
+    posting: &Posting,
+    ops: &Ops,
+) -> Result<Request, PostError>
+    ensures { Tries (tried_post name.now (checked_on (⟦<Ops as Listing>⟧.operations ops.now) (node_of desk.old.host) name.now (draft_of posting.now)) (node_of desk.old.host)) (call_in result) (node_of desk.new.host) }
+{
     let Ok(draft) = posting.draft() else {
         return Err(PostError::OutOfMemory);
     };
-    let call = node.post(alloc, &name, draft, ops);
-    call_on(name, call)
+    desk.post_by_name(alloc, name, draft, ops)
 }
 
-// The call of this number on a context, where it was posted.
-fn call_on(name: Name, call: Result<u32, PostError>) -> Result<Posted, PostError>
-    ensures { call_in result ≡ call_on name call }
-{
-    match call {
-        Ok(call) => Ok(Posted { name, call }),
-        Err(refusal) => {
-            drop(name);
-            Err(refusal)
-        }
-    }
-}
-
-// The context on which a statement posts: the communicator's, or the gathering that it opens below that.
-fn context_of(
+// The gathering that a statement opens below its communicator, where it opens one.
+fn gathering_of(
     alloc: Global,
-    node: &mut Node,
+    desk: &mut Desk<Node>,
     on: &Name,
     posting: &Posting,
-) -> Result<Name, PostError>
-    ensures { IsContext on.now (gathers_of posting.now) result (node_of node.old) (node_of node.new) }
+) -> Result<Option<Name>, PostError>
+    ensures { IsContext on.now (gathers_of posting.now) (context_in on.now result) (node_of desk.old.host) (node_of desk.new.host) }
 {
     match posting {
         Posting::CreateGroup { tag, ranks, .. } => {
-            node.open_gathering(alloc, on, *tag, ranks.as_slice())
+            let gathering = desk.open_gathering_by_name(alloc, on, *tag, ranks.as_slice())?;
+            Ok(Some(gathering))
         }
-        _ => match on.copy(alloc) {
-            Ok(name) => Ok(name),
-            Err(_) => Err(PostError::OutOfMemory),
-        },
+        _ => Ok(None),
     }
 }
 
-// Stores the results of a call and of those before it on its context, as far as they can be had. It answers whether all are stored.
-fn harvest_to(
-    alloc: Global,
-    node: &mut Node,
-    name: &Name,
-    call: u32,
-    ops: &Ops,
-) -> Result<bool, OutOfMemory>
-    ensures harvested { OnOk result (Harvests (⟦<Ops as Listing>⟧.operations ops.now) (node_of node.old) (node_of node.new)) }
-    ensures last { IfOk result (λ all. all ≡ false → has_next (node_of node.new) name.now ≡ false) }
-{
-    node.harvest_to(alloc, name, call, ops)
-}
-
 // Stores the results of a context until no further one can be had.
-fn harvest_all(alloc: Global, node: &mut Node, name: &Name, ops: &Ops) -> Result<(), OutOfMemory>
-    ensures { OnOk result (Harvests (⟦<Ops as Listing>⟧.operations ops.now) (node_of node.old) (node_of node.new)) }
+fn harvest_all(
+    alloc: Global,
+    desk: &mut Desk<Node>,
+    name: &Name,
+    ops: &Ops,
+) -> Result<(), OutOfMemory>
+    ensures { OnOk result (Harvests (⟦<Ops as Listing>⟧.operations ops.now) (node_of desk.old.host) (node_of desk.new.host)) }
 {
-    node.harvest_all(alloc, name, ops)
+    desk.harvest_all(alloc, name, ops)
 }
 
 // Drops on each context what all members have harvested. It answers whether there was anything.
-fn prune_all(node: &mut Node, contexts: &[Name]) -> bool
-    ensures { (operations : List Operation) → KeepsNode Alone operations (node_of node.old) (node_of node.new) }
+fn prune_all(desk: &mut Desk<Node>, contexts: &[Name]) -> bool
+    ensures { (operations : List Operation) → KeepsNode Alone operations (node_of desk.old.host) (node_of desk.new.host) }
 {
     let mut changed = false;
     for name in contexts {
-        let pruned = prune_on(node, name);
+        let pruned = prune_on(desk, name);
         changed |= pruned;
     }
     changed
@@ -381,8 +370,8 @@ fn prune_all(node: &mut Node, contexts: &[Name]) -> bool
 
 // Drops what every member has harvested, where that is more than is dropped. Where it is past a free, the context is dead then, whatever
 // others had dropped before.
-fn prune_on(node: &mut Node, name: &Name) -> bool
-    ensures { (operations : List Operation) → KeepsNode Alone operations (node_of node.old) (node_of node.new) }
+fn prune_on(desk: &mut Desk<Node>, name: &Name) -> bool
+    ensures { (operations : List Operation) → KeepsNode Alone operations (node_of desk.old.host) (node_of desk.new.host) }
 {
-    node.prune_to_floor(name)
+    desk.prune_to_floor(name)
 }

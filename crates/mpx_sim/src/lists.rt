@@ -7,6 +7,7 @@ ghost use Rattle.mpx_sim.specs.Running.{KeepsNode};
 ghost use Rattle.mpx_sim.specs.Turns.{Saying};
 
 use join_core::OutOfMemory;
+use mpx_comm::Desk;
 use mpx_delta::NewFrames;
 use mpx_node::Node;
 use mpx_rope::Rope;
@@ -15,24 +16,22 @@ use std::alloc::Global;
 /// The most bytes of a frame.
 pub(crate) const MOST_BYTES: usize = 1_048_576;
 
-/// Says what the node has, and gives the frames of what others may lack of its board: those that were made ahead, or new ones, which are written
+/// Says what the desk's node has, and gives the frames of what others may lack of its board: those that were made ahead, or new ones, which are written
 /// into spare room.
 pub(crate) fn new_list(
     alloc: Global,
-    node: &mut Node,
+    desk: &mut Desk<Node>,
     ahead: Option<NewFrames>,
     spare: &mut Vec<Rope>,
 ) -> Result<Vec<Rope>, OutOfMemory>
-    requires { IfSome ahead (λ made. LackFrames 1048576 (node_of node.old) made.said made.frames.items) }
-    ensures keeps { OnOk result ((operations : List Operation) → KeepsNode Saying operations (node_of node.old) (node_of node.new)) }
-    ensures frames { IfOk result (λ made. AreLacked 1048576 (node_of node.new) made.items) }
+    requires { IfSome ahead (λ made. LackFrames 1048576 (node_of desk.old.host) made.said made.frames.items) }
+    ensures keeps { OnOk result ((operations : List Operation) → KeepsNode Saying operations (node_of desk.old.host) (node_of desk.new.host)) }
+    ensures frames { IfOk result (λ made. AreLacked 1048576 (node_of desk.new.host) made.items) }
 {
     if let Some(made) = ahead {
-        let NewFrames { said, frames } = made;
-        node.acknowledge(said);
-        return Ok(frames);
+        return Ok(desk.say(made));
     }
-    node.framed_deltas(alloc, MOST_BYTES, spare)
+    desk.framed_deltas(alloc, MOST_BYTES, spare)
 }
 
 /// A frame with the same bytes, alone.

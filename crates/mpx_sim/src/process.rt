@@ -169,7 +169,7 @@ impl<'a> Process<'a> {
             let again = one_frame(alloc, last)?;
             return Ok(again);
         }
-        let list = new_list(alloc, &mut self.carrier.node, ahead, &mut self.notes.spare)?;
+        let list = new_list(alloc, &mut self.carrier.desk, ahead, &mut self.notes.spare)?;
         let last = kept_of(alloc, list.as_slice(), keeps)?;
         self.notes.last = last;
         Ok(list)
@@ -237,7 +237,7 @@ impl<'a> Process<'a> {
         self.notes.ahead = None;
         let made = self
             .carrier
-            .node
+            .desk
             .lacking_frames(alloc, MOST_BYTES, &mut self.notes.spare);
         if let Ok(made) = made {
             self.notes.ahead = Some(made);
@@ -344,7 +344,7 @@ impl<'a> Process<'a> {
     {
         self.notes.ahead = None;
         self.notes.last = None;
-        self.carrier.node.take_rope(alloc, &frame.bytes.lent())
+        self.carrier.desk.take_rope(alloc, &frame.bytes.lent())
     }
 
     /// Its number.
@@ -356,7 +356,7 @@ impl<'a> Process<'a> {
 
     /// Its node.
     pub(crate) fn node(&self) -> &Node {
-        &self.carrier.node
+        self.carrier.node()
     }
 
     /// Its lines so far.
@@ -379,7 +379,7 @@ impl<'a> Process<'a> {
     pub(crate) fn board(&self) -> &Board
         ensures { look result.now ≡ (process_of self.now).node.board }
     {
-        self.carrier.node.board()
+        self.carrier.node().board()
     }
 
     /// Whether it waits for an outcome, or has statements left.

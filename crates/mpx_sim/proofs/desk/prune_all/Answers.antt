@@ -5,10 +5,10 @@ use Rattle.mpx_sim.specs.Turns.{Alone}
 use Rattle.mpx_sim.proofs.desk.prune_all.Goals as goal
 
 pub loop-name-init : goal.loop-name-init
-loop-name-init c ops = keeps_node_itself Alone ops (node_of c.args.node.now) (node_of c.args.node.now) refl
+loop-name-init c ops = keeps_node_itself Alone ops (node_of c.args.desk.now.host) (node_of c.args.desk.now.host) refl
 
 pub loop-name-preserved : goal.loop-name-preserved
-loop-name-preserved c ops = keeps_node_then Alone ops (node_of c.args.node.now) (node_of c.loop-name.node) (node_of c.prune_on-pruned.new.node) (c.loop-name.invariant ops) (c.prune_on-pruned.ensures ops)
+loop-name-preserved c ops = keeps_node_then Alone ops (node_of c.args.desk.now.host) (node_of c.loop-name.desk.host) (node_of c.prune_on-pruned.new.desk.host) (c.loop-name.invariant ops) (c.prune_on-pruned.ensures ops)
 
 pub returns : goal.returns
 returns c = c.loop-name.invariant

@@ -6,4 +6,4 @@ use Rattle.mpx_sim.specs.Turns.{Alone}
 use Rattle.mpx_sim.proofs.desk.prune_all.Given as goal
 
 abbrev pub invariant-loop-name : goal.invariant-loop-name
-invariant-loop-name l = (ops : List Operation) → KeepsNode Alone ops (node_of l.fn.node) (node_of l.node)
+invariant-loop-name l = (ops : List Operation) → KeepsNode Alone ops (node_of l.fn.desk.host) (node_of l.desk.host)

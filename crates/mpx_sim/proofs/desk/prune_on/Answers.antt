@@ -17,5 +17,5 @@ keeps_prune ops name (Some number) old new asked does = keeps_node_prune ops nam
 
 pub returns : goal.returns
 returns c ops =
-    let drops = c.prune_to_floor.ensures in
-    keeps_prune ops c.args.name.now drops.number (node_of c.args.node.now) (node_of c.prune_to_floor.new.self) drops.asked drops.does
+    let drops = c.prune_to_floor.ensures.drops in
+    keeps_prune ops c.args.name.now drops.number (node_of c.args.desk.now.host) (node_of c.prune_to_floor.new.self.host) drops.asked drops.does

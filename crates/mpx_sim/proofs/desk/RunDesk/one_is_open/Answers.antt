@@ -7,13 +7,13 @@ use Rattle.mpx_sim.specs.Shown.{call_of}
 use Rattle.mpx_sim.proofs.desk.RunDesk.one_is_open.Goals as goal
 
 pub loop-word-init : goal.loop-word-init
-loop-word-init g c = harvests_none _ (node_of c.args.self.now.node)
+loop-word-init g c = harvests_none _ (node_of c.args.self.now.desk.host)
 
 pub loop-word-preserved : goal.loop-word-preserved
-loop-word-preserved g c = harvests_then _ (node_of c.args.self.now.node) (node_of c.loop-word.self.node) (node_of c.some_is_open.new.self.node) c.loop-word.invariant c.in_ok-pends.ensures.harvested
+loop-word-preserved g c = harvests_then _ (node_of c.args.self.now.desk.host) (node_of c.loop-word.self.desk.host) (node_of c.some_is_open.new.self.desk.host) c.loop-word.invariant c.in_ok-pends.ensures.harvested
 
 pub returns-then-pends-clause-harvested : goal.returns-then-pends-clause-harvested
-returns-then-pends-clause-harvested g c = harvests_then _ (node_of c.args.self.now.node) (node_of c.loop-word.self.node) (node_of c.some_is_open.new.self.node) c.loop-word.invariant c.in_ok-pends.ensures.harvested
+returns-then-pends-clause-harvested g c = harvests_then _ (node_of c.args.self.now.desk.host) (node_of c.loop-word.self.desk.host) (node_of c.some_is_open.new.self.desk.host) c.loop-word.invariant c.in_ok-pends.ensures.harvested
 
 pub returns-then-pends-clause-pending : goal.returns-then-pends-clause-pending
 returns-then-pends-clause-pending g c e =

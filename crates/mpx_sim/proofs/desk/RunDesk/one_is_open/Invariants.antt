@@ -5,4 +5,4 @@ use Rattle.mpx_sim.specs.Carrying.{Harvests}
 use Rattle.mpx_sim.proofs.desk.RunDesk.one_is_open.Given as goal
 
 abbrev pub invariant-loop-word : goal.invariant-loop-word
-invariant-loop-word g l = Harvests (map (λ b. let o = goal.OwnOp-dyn g (b.vtable, b.value) in operation_of (o.word_bytes b.value) (o.fits_type b.value) (o.combination b.value)) l.ops.list.items) (node_of l.fn.self.node) (node_of l.self.node)
+invariant-loop-word g l = Harvests (map (λ b. let o = goal.OwnOp-dyn g (b.vtable, b.value) in operation_of (o.word_bytes b.value) (o.fits_type b.value) (o.combination b.value)) l.ops.list.items) (node_of l.fn.self.desk.host) (node_of l.self.desk.host)

@@ -12,4 +12,4 @@ returns-in-Ok-new-clause-stands c script l some =
     stands_first script c.args.ranks c.args.me (rank_of call_of c.in-Ok-new.rank) c.world_of-world.result (c.world_of-world.ensures l) e.bound e.requests (some ∙ ap Some (sym e.todo)) e.waits e.lines e.origins
 
 pub returns-in-Ok-new-clause-ready : goal.returns-in-Ok-new-clause-ready
-returns-in-Ok-new-clause-ready c = none_made (node_of c.in-Ok.carrier.node) c.new-in-Ok-new-2.result.ahead c.new-in-Ok-new-2.result.last c.new-in-Ok-new-2.ensures.ahead c.new-in-Ok-new-2.ensures.last
+returns-in-Ok-new-clause-ready c = none_made (node_of c.in-Ok.carrier.desk.host) c.new-in-Ok-new-2.result.ahead c.new-in-Ok-new-2.result.last c.new-in-Ok-new-2.ensures.ahead c.new-in-Ok-new-2.ensures.last
