@@ -1,5 +1,5 @@
 -- The steps of a node that aren't harvests, and what stays over them.
-use Rattle.std.proofs.Common.{◌≡◌, ℕ, zero, suc, true, Bool, List, Option, Some, None, refl, sym, ap, ◌∙◌, subst}
+use Rattle.std.proofs.Common.{◌≡◌, ◌<◌, ℕ, zero, suc, true, Bool, List, Option, Some, None, refl, sym, ap, ◌∙◌, subst}
 use Rattle.std.specs.Prelude.{◌||◌, Result, Ok, Err, OnOk, OnErr}
 use Rattle.join_core.specs.declared.memory.OutOfMemory.{OutOfMemory}
 use Rattle.mpx_num.specs.declared.own.Operation.{Operation}
@@ -79,6 +79,11 @@ later_harvested ops name (suc n) old =
 pub later_harvests_all : (ops : List Operation) (name : Name) (r : Result (Unit {0}) OutOfMemory) (old new : NodeView) → OnOk r (HarvestsAll ops name old new) → OnErr r (WantsResult ops name old new) → Later old new
 later_harvests_all ops name (Ok u) old new ok err = subst (Later old) (sym ok.does) (later_harvested ops name ok.times old)
 later_harvests_all ops name (Err e) old new ok err = subst (Later old) (sym err.does) (later_harvested ops name err.times old)
+
+-- a call is harvested for, as far as can be
+pub later_harvests_to : {A E : Type 0} (ops : List Operation) (name : Name) (m : ℕ) (r : Result A E) (old new : NodeView) → OnOk r (new ≡ harvested ops m name old) → OnErr r ((n : ℕ) × (n < m) × (new ≡ harvested ops n name old)) → Later old new
+later_harvests_to ops name m (Ok x) old new ok err = subst (Later old) (sym ok) (later_harvested ops name m old)
+later_harvests_to ops name m (Err e) old new ok err = subst (Later old) (sym err.2) (later_harvested ops name err.0 old)
 
 -- what every member has harvested is dropped, if there is any
 later_pruned : (name : Name) (number : Option ℕ) (old : NodeView) → Later old (with_prune number name old)

@@ -11,26 +11,14 @@ use Rattle.mpx_post.specs.declared.draft.PostError.TheVariants as R
 use Rattle.mpx_node.specs.declared.finished.Finished.{Finished}
 use Rattle.mpx_node.specs.Nodes.{NodeView, Opens, posted_on, with_post, checked_on, gathers_on}
 use Rattle.mpx_request.specs.declared.request.Request.{Request}
-use Rattle.std.specs.declared.alloc.AllocFailed.{AllocFailed}
-use Rattle.mpx_request.specs.declared.answers.Tested.{Tested}
-use Rattle.mpx_request.specs.declared.answers.Tested.TheVariants.{Done, NotYet, LetGo}
 use Rattle.mpx_request.specs.declared.answers.WaitError.TheVariants.{StillWaiting, GaveUp}
 use Rattle.mpx_request.specs.declared.answers.TurnError.{TurnError}
 use Rattle.mpx_request.specs.declared.answers.TurnError.TheVariants as T
 use Rattle.mpx_comm.specs.declared.answers.CallError.{CallError}
 use Rattle.mpx_comm.specs.declared.answers.CallError.TheVariants as C
 use Rattle.mpx_request.specs.Later.{result_at, is_let_go, IsOwn, IsPending}
-use Rattle.mpx_request.specs.Requests.{AwaitsOne, GivesUpOne, Tests, close, has_let_go, result_of}
+use Rattle.mpx_request.specs.Requests.{AwaitsOne, GivesUpOne, close, has_let_go, result_of}
 use Rattle.mpx_comm.specs.Lines.{create_group}
-
--- TESTS
-
--- a test that is done gives the closed request beside the result; else it is a test as any other
-abbrev pub TestsWith : Request → Result (Tested (Request × Finished) Request) (AllocFailed Request) → NodeView → (before after : List Request) → Type 0
-TestsWith request (Ok (Done (closed, finished))) node before after = (closed ≡ request) × Tests request (Ok (Done finished)) node before after
-TestsWith request (Ok (NotYet back)) node before after = Tests request (Ok (NotYet back)) node before after
-TestsWith request (Ok (LetGo back)) node before after = Tests request (Ok (LetGo back)) node before after
-TestsWith request (Err refused) node before after = Tests request (Err refused) node before after
 
 -- POSTS
 

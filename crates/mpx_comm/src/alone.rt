@@ -1,5 +1,5 @@
 //! A desk over a node alone, whose user carries the boards.
-ghost use Rattle.std.specs.Prelude.{ℕ, ◌≡◌, ◌≢◌, ◌≤◌, All, IfOk, IsTrue, OnOk, OnErr, is_ok, map};
+ghost use Rattle.std.specs.Prelude.{ℕ, ◌≡◌, ◌≢◌, ◌<◌, ◌≤◌, ◌+◌, ◌-◌, All, IfOk, IsTrue, OnOk, OnErr, false, is_ok, map, nat_lt, true};
 ghost use Rattle.mpx_board.specs.Boards.{IsBoardBelow, empty, join_all};
 ghost use Rattle.mpx_board.specs.Changes.{pruned_on};
 ghost use Rattle.mpx_board.specs.Looks.{look, parts_of};
@@ -8,9 +8,11 @@ ghost use Rattle.mpx_format.specs.Decoding.{IsSpelled, decoded, shown};
 ghost use Rattle.mpx_format.specs.Encoding.{length_told};
 ghost use Rattle.mpx_delta.specs.Facts.{OnlyFactsOf};
 ghost use Rattle.mpx_node.specs.Deltas.{AreLacked, LackFrames, SaysWhatItHas, lacking_on};
-ghost use Rattle.mpx_node.specs.Nodes.{Opens, StopsTaking, gathers_on, learn, learn_some, prune_part};
+ghost use Rattle.mpx_node.specs.Harvests.{harvested};
+ghost use Rattle.mpx_node.specs.Nodes.{Opens, StopsTaking, front_on, gathers_on, has_next, learn, learn_some, prune_part};
 ghost use Rattle.mpx_node.specs.Settling.{Drops, HarvestsAll, WantsResult};
 ghost use Rattle.mpx_request.specs.Harvested.{HarvestsNext};
+ghost use Rattle.mpx_request.specs.Requests.{close};
 
 use crate::desk::Desk;
 use join_core::OutOfMemory;
@@ -107,6 +109,34 @@ impl Desk<Node> {
         ensures requests { self.new.requests.keys ≡ self.old.requests.keys }
     {
         self.host.harvest_all(alloc, name, ops)
+    }
+
+    /// Harvests on a request's context until its call is done or no further result can be had, as [`Node::harvest_to`] does, and answers
+    /// whether it is done. It closes no request, and copies no result. An `Err` is want of memory for a result that can be had.
+    pub fn harvest_to(
+        &mut self,
+        alloc: Global,
+        request: &Request,
+        ops: &Ops,
+    ) -> Result<bool, OutOfMemory>
+        ensures ok { OnOk result (node_of self.new.host ≡ harvested (⟦<Ops as Listing>⟧.operations ops.now) (request.now.call + 1 - front_on (node_of self.old.host) request.now.name) request.now.name (node_of self.old.host)) }
+        ensures done { IfOk result (λ done. done ≡ nat_lt request.now.call (front_on (node_of self.new.host) request.now.name)) }
+        ensures rest { IfOk result (λ done. done ≡ false → has_next (node_of self.new.host) request.now.name ≡ false) }
+        ensures err { OnErr result ((n : ℕ) × (n < request.now.call + 1 - front_on (node_of self.old.host) request.now.name)
+            × (node_of self.new.host ≡ harvested (⟦<Ops as Listing>⟧.operations ops.now) n request.now.name (node_of self.old.host))) }
+        ensures wanted { OnErr result (has_next (node_of self.new.host) request.now.name ≡ true) }
+        ensures requests { self.new.requests.keys ≡ self.old.requests.keys }
+    {
+        self.host
+            .harvest_to(alloc, request.name(), request.call(), ops)
+    }
+
+    /// Closes an open request, as a test does whose call is done: for who has read the result at the host. Nothing else is changed.
+    pub fn close(&mut self, request: &Request)
+        ensures host { self.new.host ≡ self.old.host }
+        ensures closed { self.new.requests.keys ≡ close self.old.requests.keys request.now }
+    {
+        self.requests.shift_remove(request);
     }
 
     /// Drops the posts of a context that every member has harvested, as far as the board knows, as [`Node::prune_to_floor`] does. It

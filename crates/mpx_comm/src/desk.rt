@@ -9,7 +9,7 @@ ghost use Rattle.mpx_comm.specs.Comms.{gathering_in};
 ghost use Rattle.mpx_request.specs.Harvested.{Harvested};
 ghost use Rattle.mpx_request.specs.Later.{Later, IsAtHand};
 ghost use Rattle.mpx_request.specs.Requests.{HasStatus, Tests, TestsAll, TestsAny, Waits, WaitsAll};
-ghost use Rattle.mpx_comm.specs.Calls.{IsRefusal, ArePosted, TestsWith};
+ghost use Rattle.mpx_comm.specs.Calls.{IsRefusal, ArePosted};
 
 use crate::answers::CallError;
 use crate::comm::{Comm, OpenedGathering};
@@ -147,28 +147,6 @@ impl<H: Host> Desk<H> {
         ensures harvested { Harvested (H.goes_by self.old.host (⟦<Ops as Listing>⟧.operations ops.now)) (H.node self.old.host) (H.node self.new.host) }
         ensures no_turn { H.turned self.old.host 0 self.new.host }
     {
-        match self.test_with_request(alloc, request, ops)? {
-            Tested::Done((closed, finished)) => {
-                drop(closed);
-                Ok(Tested::Done(finished))
-            }
-            Tested::NotYet(request) => Ok(Tested::NotYet(request)),
-            Tested::LetGo(request) => Ok(Tested::LetGo(request)),
-        }
-    }
-
-    /// A test as [`Desk::test`], which gives the request back in each case: where the call is done, the closed one beside its result.
-    pub fn test_with_request(
-        &mut self,
-        alloc: Global,
-        request: Request,
-        ops: &Ops,
-    ) -> Result<Tested<(Request, Finished), Request>, AllocFailed<Request>>
-        ensures tests { TestsWith request result (H.node self.new.host) self.old.requests.keys self.new.requests.keys }
-        ensures later { Later (H.node self.old.host) (H.node self.new.host) }
-        ensures harvested { Harvested (H.goes_by self.old.host (⟦<Ops as Listing>⟧.operations ops.now)) (H.node self.old.host) (H.node self.new.host) }
-        ensures no_turn { H.turned self.old.host 0 self.new.host }
-    {
         if was_let_go(&self.host, &request) {
             return Ok(Tested::LetGo(request));
         }
@@ -177,7 +155,7 @@ impl<H: Host> Desk<H> {
             Ok(None) => Ok(Tested::NotYet(request)),
             Ok(Some(finished)) => {
                 self.requests.shift_remove(&request);
-                Ok(Tested::Done((request, finished)))
+                Ok(Tested::Done(finished))
             }
         }
     }

@@ -19,7 +19,7 @@ use crate::contexts::{contexts_at_start, look_at_gathering, look_at_given};
 use crate::posts::Posts;
 use join_core::{Exact, OutOfMemory};
 use mpx_birth::Birth;
-use mpx_comm::{Desk, Request, Tested};
+use mpx_comm::{Desk, Request};
 use mpx_group::Proc;
 use mpx_meaning::Line;
 use mpx_name::Name;
@@ -112,8 +112,10 @@ impl RunDesk {
         ensures harvested { OnOk result (Harvests (⟦<Ops as Listing>⟧.operations ops.now) (node_of self.old.desk.host) (node_of self.new.desk.host)) }
         ensures pending { IfOk result (λ pends. pends ≡ true → IsOpen (node_of self.new.desk.host) call.now.name call.now.call) }
     {
-        let done = self.desk.status(alloc, call, ops)?;
-        Ok(!done)
+        if self.desk.harvest_to(alloc, call, ops)? {
+            return Ok(false);
+        }
+        Ok(self.desk.host().result(call.name(), call.call()).is_none())
     }
 
     // Whether a call is, where there is one.
@@ -208,10 +210,7 @@ impl Carrier for RunDesk {
         call: &Request,
         ops: &Ops,
     ) -> Result<bool, OutOfMemory> {
-        if self.desk.host().result(call.name(), call.call()).is_some() {
-            return Ok(true);
-        }
-        self.desk.status(alloc, call, ops)?;
+        self.desk.harvest_to(alloc, call, ops)?;
         Ok(self.desk.host().result(call.name(), call.call()).is_some())
     }
 
@@ -222,14 +221,15 @@ impl Carrier for RunDesk {
         call: Request,
         ops: &Ops,
     ) -> Result<Heard<Request, Name>, OutOfMemory> {
-        match self.desk.test_with_request(alloc, call, ops) {
-            Err(_) => Err(OutOfMemory),
-            Ok(Tested::NotYet(call)) => Ok(Heard::NotYet(call)),
-            Ok(Tested::LetGo(call)) => Ok(Heard::NotYet(call)),
-            Ok(Tested::Done((call, finished))) => {
-                told(alloc, call, outcome_in(finished), &mut self.contexts)
-            }
+        if !self.desk.harvest_to(alloc, &call, ops)? {
+            return Ok(Heard::NotYet(call));
         }
+        let Some(finished) = self.desk.host().result(call.name(), call.call()) else {
+            return Ok(Heard::NotYet(call));
+        };
+        let outcome = finished.outcome.copy(alloc)?;
+        self.desk.close(&call);
+        told(alloc, call, outcome, &mut self.contexts)
     }
 
     fn known<'m>(&'m self, communicator: &'m Name, _ops: &Ops) -> Option<(&'m Name, &'m Birth)> {
@@ -246,15 +246,6 @@ impl Carrier for RunDesk {
     ghost hears_more = { hears_more };
 
     ghost stays_told = { stays_told };
-}
-
-// The outcome of a result.
-fn outcome_in(finished: Finished) -> Outcome
-    ensures { result ≡ finished.outcome }
-{
-    let Finished { mine, outcome } = finished;
-    drop(mine);
-    outcome
 }
 
 // What is told of a call with this outcome: its line, and the name of the communicator that it gave, which is looked at from now on.
