@@ -58,7 +58,8 @@ pub fn push_lines(text: &mut String, rank: u8, lines: &[Line]) -> Result<(), Out
 fn push_line(text: &mut String, rank: u8, line: &Line) -> Result<(), OutOfMemory>
     ensures { OnOk result (string_bytes text.new ≡ string_bytes text.old ++ rank_text rank (line_text line.now ∷ [])) }
 {
-    write!(text, "{rank}: ")?;
+    push_number(text, i128::from(rank))?;
+    text.push_str(": ")?;
     line.push_to(text)?;
     text.push_str("\n")?;
     Ok(())
