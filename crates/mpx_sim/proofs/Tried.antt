@@ -42,6 +42,10 @@ pub tries_on : (ops : List Operation) (posting : Posting) (o : Option Name) (on 
 tries_on ops posting o on name is old mid answer new context tries =
     subst (λ p. Tries (tried_on ops posting p old) answer new) (sym is) (tries_there ops (draft_of posting) (gathers_of posting) on name old mid answer new context tries)
 
+pub on_ok : {T E P : Type 0} (r : Result T E) → P → OnOk r P
+on_ok (Ok x) p = p
+on_ok (Err e) p = tt
+
 pub on_each_ok : {T E P Q : Type 0} (r : Result T E) → (P → Q) → OnOk r P → OnOk r Q
 on_each_ok (Ok x) f p = f p
 on_each_ok (Err e) f p = p

@@ -2,7 +2,7 @@
 ghost use Rattle.std.specs.Prelude.{◌≡◌, ◌<◌, ◌≤◌, IfOk, List, OnOk, Some, false, true};
 ghost use Rattle.std.specs.Option.{option_copied};
 ghost use Rattle.mpx_num.specs.declared.own.Operation.{Operation};
-ghost use Rattle.mpx_node.specs.Nodes.{checked_on, start_node};
+ghost use Rattle.mpx_node.specs.Nodes.{checked_on, has_next, start_node};
 ghost use Rattle.mpx_node.specs.Shown.{node_of};
 ghost use Rattle.mpx_meaning.specs.declared.line.Line.TheVariants.{Told as TellsOutcome};
 ghost use Rattle.mpx_statement.specs.Statements.{draft_of, gathers_of};
@@ -112,7 +112,8 @@ impl RunDesk {
         ensures harvested { OnOk result (Harvests (⟦<Ops as Listing>⟧.operations ops.now) (node_of self.old.desk.host) (node_of self.new.desk.host)) }
         ensures pending { IfOk result (λ pends. pends ≡ true → IsOpen (node_of self.new.desk.host) call.now.name call.now.call) }
     {
-        if self.desk.harvest_to(alloc, call, ops)? {
+        let all = harvest_to(alloc, &mut self.desk, call, ops)?;
+        if all {
             return Ok(false);
         }
         Ok(self.desk.host().result(call.name(), call.call()).is_none())
@@ -210,7 +211,7 @@ impl Carrier for RunDesk {
         call: &Request,
         ops: &Ops,
     ) -> Result<bool, OutOfMemory> {
-        self.desk.harvest_to(alloc, call, ops)?;
+        harvest_to(alloc, &mut self.desk, call, ops)?;
         Ok(self.desk.host().result(call.name(), call.call()).is_some())
     }
 
@@ -221,9 +222,7 @@ impl Carrier for RunDesk {
         call: Request,
         ops: &Ops,
     ) -> Result<Heard<Request, Name>, OutOfMemory> {
-        if !self.desk.harvest_to(alloc, &call, ops)? {
-            return Ok(Heard::NotYet(call));
-        }
+        harvest_to(alloc, &mut self.desk, &call, ops)?;
         let Some(finished) = self.desk.host().result(call.name(), call.call()) else {
             return Ok(Heard::NotYet(call));
         };
@@ -333,6 +332,19 @@ fn gathering_of(
         }
         _ => Ok(None),
     }
+}
+
+// Stores the results of a call and of those before it on its context, as far as they can be had. It answers whether all are stored.
+fn harvest_to(
+    alloc: Global,
+    desk: &mut Desk<Node>,
+    call: &Request,
+    ops: &Ops,
+) -> Result<bool, OutOfMemory>
+    ensures harvested { OnOk result (Harvests (⟦<Ops as Listing>⟧.operations ops.now) (node_of desk.old.host) (node_of desk.new.host)) }
+    ensures last { IfOk result (λ all. all ≡ false → has_next (node_of desk.new.host) call.now.name ≡ false) }
+{
+    desk.harvest_to(alloc, call, ops)
 }
 
 // Stores the results of a context until no further one can be had.

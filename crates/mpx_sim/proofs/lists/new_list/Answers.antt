@@ -22,7 +22,7 @@ pub returns-clause-keeps : goal.returns-clause-keeps
 returns-clause-keeps c = on_each_ok c.framed_deltas.result (λ says ops. keeps_said ops (node_of c.args.desk.now.host) (node_of c.framed_deltas.new.self.host) says) c.framed_deltas.ensures.own
 
 pub say-requires : goal.say-requires
-say-requires c = (1048576, subst (AreAhead (node_of c.args.desk.now.host)) c.in-Some.is c.requires)
+say-requires c = record { made = (1048576, subst (AreAhead (node_of c.args.desk.now.host)) c.in-Some.is c.requires) }
 
 pub returns-in-Some-clause-keeps : goal.returns-in-Some-clause-keeps
 returns-in-Some-clause-keeps c ops = keeps_said ops (node_of c.args.desk.now.host) (node_of c.say.new.self.host) c.say.ensures.own

@@ -1,6 +1,5 @@
-use Rattle.mpx_node.specs.Shown.{node_of}
-use Rattle.mpx_sim.specs.Carrying.{harvests_none}
+use Rattle.mpx_sim.proofs.Tried.{on_ok}
 use Rattle.mpx_sim.proofs.desk.RunDeskCarrier.hear.Goals as goal
 
-pub returns-in-Some-clause-hears : goal.returns-in-Some-clause-hears
-returns-in-Some-clause-hears g c = harvests_none _ (node_of c.args.self.now.node)
+pub returns-clause-hears : goal.returns-clause-hears
+returns-clause-hears g c = on_ok c.told.result (rw c.close.ensures.host c.in_ok-harvest_to.ensures.harvested)
