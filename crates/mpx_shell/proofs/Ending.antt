@@ -1,6 +1,8 @@
 -- What a process ends with.
-use Rattle.std.proofs.Common.{◌≡◌, ℕ, List, Option, Some, None, Result, Ok, Err, IfOk, inl, inr, refl, subst, sym}
-use Rattle.std.specs.Prelude.{IfErr}
+use Rattle.std.proofs.Common.{◌≡◌, ℕ, List, Option, Some, None, Result, Ok, Err, IfOk, arith, inl, inr, length, refl, subst, sym, take}
+use Rattle.std.specs.Prelude.{IfErr, OnErr, OnOk}
+use Rattle.std.specs.Io.KnownBytes.{Appends}
+use Rattle.std.proofs.lemmas.List.{take_all}
 use Rattle.clap.specs.Kinds.{HasKind}
 use Rattle.clap.specs.Words.{kind_of}
 use Rattle.clap.specs.declared.error.Error.{Error}
@@ -32,3 +34,8 @@ refused_words Is words refusal there old code Says (inr wanting) refused = inr (
 pub by_own : (Is : OfJobs) (ops : List Operation) (call : Invocation) (there left old new : Option (List ℕ)) (code : ℕ) (Says : List ℕ → Type 0) → ops ≡ own_operations → DoesJobWith Is ops call there left old new code Says → AnswersCall Is call there left old new code Says
 by_own Is ops call there left old new code Says own does words asks =
     inl (inl (record { call = call; asks = asks; does = subst (λ os. DoesJobWith Is os call there left old new code Says) own does }))
+
+-- what is written is all of a text, or its beginning
+pub first_part : {E : Type 0} (old new : Option (List ℕ)) (text : List ℕ) (written : Result (Unit {0}) E) → OnOk written (Appends old new text) → OnErr written ((n : ℕ) × Appends old new (take n text)) → (n : ℕ) × Appends old new (take n text)
+first_part old new text (Ok done) whole first = (length text, subst (Appends old new) (sym (take_all (length text) text (omega arith))) whole)
+first_part old new text (Err fault) whole first = first

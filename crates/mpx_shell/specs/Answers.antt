@@ -1,5 +1,6 @@
 -- What a call of a program comes to.
-use Rattle.std.specs.Prelude.{◌≡◌, ◌⊎◌, ℕ, Bool, false, List, [], ◌∷◌, Option, Some, None, Result, Ok, Err, codes}
+use Rattle.std.specs.Prelude.{◌≡◌, ◌⊎◌, ℕ, Bool, false, List, [], ◌∷◌, Option, Some, None, Result, Ok, Err, codes, take}
+use Rattle.std.specs.Io.KnownBytes.{Appends}
 use Rattle.clap.specs.Kinds.{HasKind}
 use Rattle.clap.specs.Words.{kind_of}
 use Rattle.clap.specs.declared.error.Error.{Error}
@@ -48,3 +49,11 @@ pub record EndsBy (Does : (code : ℕ) (Says : List ℕ → Type 0) → Type 0) 
   pub exit : Exit
   pub does : Does exit.status (Tells old new exit.told)
   pub ends : status ≡ exit.status
+
+-- how a script is given, for who is to type one
+abbrev pub how_to_give : List ℕ
+how_to_give = codes "The script is read from this terminal, up to Ctrl-D. From a file: gossipmpi run < my.job\n"
+
+-- nothing is said, or a beginning of this
+abbrev pub MaySay : (text : List ℕ) (old new : Option (List ℕ)) → Type 0
+MaySay text old new = (new ≡ old) ⊎ ((n : ℕ) × Appends old new (take n text))

@@ -5,13 +5,14 @@ ghost use Rattle.std.specs.Process.{exit_status};
 ghost use Rattle.clap.specs.Words.{kind_of};
 ghost use Rattle.clap.specs.declared.error.kind.ErrorKind.TheVariants.{InvalidValue, OutOfMemory};
 ghost use Rattle.mpx_program.specs.Jobs.{AsFounded, AsPrinted, IsRefused};
-ghost use Rattle.mpx_shell.specs.Answers.{Answers, AskFor, EndsBy, asks_for_threads};
+ghost use Rattle.mpx_shell.specs.Answers.{Answers, AskFor, EndsBy, MaySay, asks_for_threads, how_to_give};
 ghost use Rattle.mpx_shell.specs.Showing.{shown_on, shows_lines, shows_rows};
 
 use crate::answering::{answer, answer_in_threads, is_in_threads};
 use crate::progress::HowFar;
 use crate::seen::Seen;
 use mpx_program::refuse;
+use mpx_run::write_bytes;
 use mpx_sim::Observer;
 use mpx_words::{Invocation, call_of, not_text};
 use std::alloc::{AllocError, Global};
@@ -90,15 +91,21 @@ pub fn say_how_to_give<I: IsTerminal, E: Write>(
     input: &I,
     err: &mut E,
 )
+    ensures said { MaySay how_to_give (E.contents err.old) (E.contents err.new) }
     ensures refused { OnErr asked.now (E.contents err.new ≡ E.contents err.old) }
 {
     match asked {
-        Ok(_) => {
-            if input.is_terminal() {
-                let _ = err.write_all(FROM_TERMINAL.as_bytes());
-            }
-        }
+        Ok(_) => say_where_typed(input, err),
         Err(_) => {}
+    }
+}
+
+// Where the input is a terminal, says how a script is given.
+fn say_where_typed<I: IsTerminal, E: Write>(input: &I, err: &mut E)
+    ensures { MaySay how_to_give (E.contents err.old) (E.contents err.new) }
+{
+    if input.is_terminal() {
+        let _ = write_bytes(err, FROM_TERMINAL.as_bytes());
     }
 }
 
