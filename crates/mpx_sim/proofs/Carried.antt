@@ -264,30 +264,30 @@ module _ (ops : List Operation) (script : Script) (ranks size : ℕ) (begun : Mo
 
 module _ (ops : List Operation) (sender : SenderView) where
   abbrev beside : RankView Name → RunDesk → ProcessView
-  beside r d = record { rank = r; node = node_of d.node; sender = sender }
+  beside r d = record { rank = r; node = node_of d.desk.host; sender = sender }
 
   -- the desk hears of others
   hears_of : (r : RankView Name) (c d : RunDesk) → (desk_terms ops).hears c d → Moves ops (beside r c) (beside r d)
-  hears_of r c d h = moves_node ops r sender (node_of c.node) (node_of d.node) h.0
+  hears_of r c d h = moves_node ops r sender (node_of c.desk.host) (node_of d.desk.host) h.0
 
   -- a move of the rank is one of its process
   move_is : (r : RankView Name) (c : RunDesk) (s : RankView Name) (d : RunDesk) → Move (desk_terms ops) r c s d → Moves ops (beside r c) (beside s d)
   move_is r c s d (hears wait outcome to waits before tells gives) =
       moves_then ops (beside r c) (beside r d) (beside s d) (hears_of r c d before)
-      (λ script ranks size begun processes frames p l at run. hears_next ops script ranks size begun processes frames p l r sender (node_of d.node) at run wait outcome to gives.0 waits tells gives.1 gives.2)
+      (λ script ranks size begun processes frames p l at run. hears_next ops script ranks size begun processes frames p l r sender (node_of d.desk.host) at run wait outcome to gives.0 waits tells gives.1 gives.2)
   move_is r c s d (posts posting rest name call waits todo none tries) = λ script ranks size begun processes frames p l at run.
-      posts_next ops script ranks size begun processes frames p l r sender (node_of c.node) at run posting rest waits todo name call (node_of d.node) none tries
+      posts_next ops script ranks size begun processes frames p l r sender (node_of c.desk.host) at run posting rest waits todo name call (node_of d.desk.host) none tries
   move_is r c s d (starts posting rest word name call waits todo open_as tries) = λ script ranks size begun processes frames p l at run.
-      starts_next ops script ranks size begun processes frames p l r sender (node_of c.node) at run posting rest waits todo word name call (node_of d.node) open_as tries
+      starts_next ops script ranks size begun processes frames p l r sender (node_of c.desk.host) at run posting rest waits todo word name call (node_of d.desk.host) open_as tries
   move_is r c s d (is_refused posting rest refusal waits todo other tries) = λ script ranks size begun processes frames p l at run.
-      refused_next ops script ranks size begun processes frames p l r sender (node_of c.node) at run posting rest waits todo refusal (node_of d.node) other tries
+      refused_next ops script ranks size begun processes frames p l r sender (node_of c.desk.host) at run posting rest waits todo refusal (node_of d.desk.host) other tries
   move_is r c s d (passes {mid = between} words rest waits todo before done after) =
       moves_then ops (beside r c) (beside r between) (beside s d) (hears_of r c between before)
       (moves_then ops (beside r between) (beside s between) (beside s d)
-      (λ script ranks size begun processes frames p l at run. passes_next ops script ranks size begun processes frames p l r sender (node_of between.node) at run words rest waits todo done)
+      (λ script ranks size begun processes frames p l at run. passes_next ops script ranks size begun processes frames p l r sender (node_of between.desk.host) at run words rest waits todo done)
       (hears_of s between d after))
   move_is r c s d (asks question rest waits todo) = λ script ranks size begun processes frames p l at run.
-      asks_next ops script ranks size begun processes frames p l r sender (node_of c.node) at run question rest waits todo
+      asks_next ops script ranks size begun processes frames p l r sender (node_of c.desk.host) at run question rest waits todo
 
   -- without a move it harvests at most
   still_is : (r : RankView Name) (c d : RunDesk) → Still (desk_terms ops) r c d → Moves ops (beside r c) (beside r d)

@@ -17,5 +17,5 @@ take_rope-requires c =
 pub returns-clause-took : goal.returns-clause-took
 returns-clause-took c =
     let old = process_of c.args.self.now in
-    let taken = subst (λ (b : List ℕ). OnOk c.take_rope.result (node_of c.take_rope.new.self ≡ learn (shown (decoded b)) old.node)) c.lent.ensures c.take_rope.ensures.ok in
+    let taken = subst (λ (b : List ℕ). OnOk c.take_rope.result (node_of c.take_rope.new.self.host ≡ learn (shown (decoded b)) old.node)) c.lent.ensures c.take_rope.ensures.ok in
     on_each_ok c.take_rope.result (λ took. ap (λ n. let v : ProcessView = record { rank = old.rank; node = n; sender = old.sender } in v) took) taken
