@@ -40,8 +40,8 @@ returns-in-Ok-end g c =
     let terms = thread_terms ops d.setup d.me d.before ((d.all ≡ g.L.Ledger.parts) × (0 < g.L.Ledger.parts)) in
     let goes = subst (λ o. IfOk o (GoesOn terms r c.new-desk.result went left)) c.in-Ok-moved.is c.go_on-moved.ensures.goes in
     let come : HasCome script d.setup d.me left.1 end =
-        has_come script c.requires.plan.0 d.setup c.requires.plan.1 d.me d.before ((d.all ≡ g.L.Ledger.parts) × (0 < g.L.Ledger.parts)) ops c.requires.list c.requires.ledger c.requires.new.0 r (first.me ∙ c.requires.me.0)
-        (stands_first script d.me r bound first.requests todo first.waits first.lines first.origins) c.new-desk.result (ap (λ v. v.1) c.new-desk.ensures ∙ c.requires.new.1)
-        went left c.in-Ok-moved.field-0 goes end ends in
+    has_come script c.requires.plan.0 d.setup c.requires.plan.1 d.me d.before ((d.all ≡ g.L.Ledger.parts) × (0 < g.L.Ledger.parts)) ops c.requires.list c.requires.ledger c.requires.new.0 r (first.me ∙ c.requires.me.0)
+    (stands_first script d.me r bound first.requests todo first.waits first.lines first.origins) c.new-desk.result (ap (λ v. v.1) c.new-desk.ensures ∙ c.requires.new.1)
+    went left c.in-Ok-moved.field-0 goes end ends in
     subst (λ p. HasCome script d.setup p c.into_poster-poster.result.share.amount end) (sym c.requires.me.0)
     (subst (λ n. HasCome script d.setup d.me n end) (sym c.into_poster-poster.ensures) come)

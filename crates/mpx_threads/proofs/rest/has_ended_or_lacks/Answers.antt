@@ -2,11 +2,10 @@ use Rattle.std.proofs.Common.{◌≡◌, ◌∙◌, Some, ap, arith, false, inl,
 use Rattle.std.specs.Prelude.{is_some, slice_get}
 use Rattle.std.proofs.lemmas.Bool.{cases_eq}
 use Rattle.std.proofs.lemmas.Option.{same_Some}
-use Rattle.mpx_name.specs.Name.{Name}
 use Rattle.mpx_node.specs.Nodes.{NodeView}
 use Rattle.mpx_meaning.specs.Ends.{asked_view}
 use Rattle.mpx_meaning.specs.declared.end.AskedCall.{AskedCall}
-use Rattle.mpx_threads.specs.Rest.{Lacks, calls_in}
+use Rattle.mpx_threads.specs.Rest.{Lacks}
 use Rattle.mpx_threads.proofs.Asked.{calls_from, calls_there}
 use Rattle.mpx_threads.proofs.Jobs.{read_at}
 use Rattle.mpx_at_once.proofs.Tasks.{within_get}
