@@ -1,4 +1,4 @@
-use Rattle.std.proofs.Common.{◌∙◌, List, ap, length, refl, subst, sym}
+use Rattle.std.proofs.Common.{◌≡◌, ◌∙◌, List, ap, false, length, refl, subst, sym, true}
 use Rattle.mpx_node.specs.Nodes.{NodeView}
 use Rattle.mpx_shared.specs.LawfulPorts.{made_in}
 use Rattle.mpx_meaning.specs.Ends.{end_view}
@@ -21,3 +21,9 @@ returns-clause-worked g c = λ relays.
     let script = c.args.script.now.statements in
     has_not_worked d.table c.args.script.now relays d.setup d.me c.args.port (end_view c.end_first-end.result) c.requires.port
     (c.end_first-end.ensures ∙ ap end_first (c.statements.ensures ∙ statements_at script c.number.result ∙ ap (statements_of script) (c.number.ensures.number ∙ c.requires.me)))
+
+pub returns-clause-whole : goal.returns-clause-whole
+returns-clause-whole g c = λ held.
+    let lacked = subst (λ (x : NodeView × List Line). AreHeld x.0 x.1) (λ i. (sym c.node.ensures.node i, sym c.as_slice.ensures.value i)) held in
+    let never : true ≡ false = sym lacked ∙ sym c.are_held.ensures ∙ c.if-are_held.false in
+    cc never
