@@ -1,5 +1,5 @@
 -- Of whom nobody waits.
-use Rattle.std.proofs.Common.{◌≡◌, ◌<◌, ℕ, zero, suc, Bool, false, cond, List, [], ◌∷◌, ◌++◌, refl, arith}
+use Rattle.std.proofs.Common.{◌≡◌, ◌<◌, ℕ, zero, suc, Bool, false, cond, [], ◌∷◌, ◌++◌, refl, arith}
 use Rattle.mpx_meaning.specs.Reports.{which}
 
 -- nobody of whom the test isn't true

@@ -18,7 +18,7 @@ use Rattle.mpx_meaning.proofs.Ahead.{confluent, on_way-reached, finished}
 use Rattle.mpx_meaning.proofs.Steps.{step_ends}
 use Rattle.mpx_meaning.specs.Standing.{WaitView, todo_of, has_statements}
 use Rattle.mpx_system.specs.Runs.{AllWait, AreAll, IsOver, IsRun, Begin, AreWhole}
-use Rattle.mpx_system.specs.Systems.{System, IsOfHappenings, start_system}
+use Rattle.mpx_system.specs.Systems.{System, IsOfHappenings}
 use Rattle.mpx_system.proofs.Happenings.{of_happenings}
 use Rattle.mpx_system.proofs.Coupling.{tells_results}
 use Rattle.mpx_system.proofs.Results.{length_taken, mapped_at, nothing_left, prefix_map, some_at, taken_at, which_has}

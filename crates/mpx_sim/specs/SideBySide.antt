@@ -1,5 +1,5 @@
 -- What the processes of a run do side by side, each by itself.
-use Rattle.std.specs.Prelude.{◌≡◌, ◌&&◌, ◌++◌, ℕ, suc, ◌<◌, ◌≤◌, Bool, nat_eq, nat_lt, List, [], ◌∷◌, length, map, take, drop, Option, Some, IfSome, slice_get, if◌then◌else◌}
+use Rattle.std.specs.Prelude.{◌≡◌, ◌&&◌, ◌++◌, ℕ, suc, ◌≤◌, Bool, nat_eq, nat_lt, List, [], ◌∷◌, length, map, take, drop, Option, Some, IfSome, slice_get, if◌then◌else◌}
 use Rattle.std.specs.List.{filter}
 use Rattle.std.proofs.Common.{set}
 use Rattle.mpx_num.specs.declared.own.Operation.{Operation}

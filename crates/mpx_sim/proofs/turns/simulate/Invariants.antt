@@ -1,4 +1,4 @@
-use Rattle.std.proofs.Common.{◌≡◌, [], map, length, ◌<◌, ◌≤◌, ◌+◌}
+use Rattle.std.proofs.Common.{◌≡◌, map, length, ◌<◌, ◌≤◌, ◌+◌}
 use Rattle.mpx_num.specs.Own.{operation_of}
 use Rattle.mpx_sim.specs.Draws.{first_schedule}
 use Rattle.mpx_sim.specs.Running.{IsUnderWay}

@@ -3,8 +3,7 @@ use Rattle.std.proofs.lemmas.List.{length-map}
 use Rattle.mpx_rank.specs.Shown.{rank_of}
 use Rattle.mpx_sim.specs.Senders.{receiver, then_by}
 use Rattle.mpx_sim.specs.Shown.{call_of, frame_of, process_of, sender_of}
-use Rattle.mpx_sim.specs.SideBySide.{to_send}
-use Rattle.mpx_sim.specs.Turns.{FrameView, IsListOf, Saying, no_list}
+use Rattle.mpx_sim.specs.Turns.{IsListOf, Saying, no_list}
 use Rattle.mpx_sim.specs.Keeping.{keeps_node_itself}
 use Rattle.mpx_sim.proofs.Running.{keeps_sender, keeps_then}
 use Rattle.mpx_sim.proofs.Sending.{asked_not_out}
