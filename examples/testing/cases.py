@@ -5,9 +5,10 @@
     examples/testing/cases.py --json report.json --seconds 60 my.job
 
 Words after the script are options of `gossipmpi run`. A rank is a case, and fails where it waits, or where one of its lines is `refused` or a
-`fault`. The run is a case, too. The status is that of the program, by --strict, where 1 is wrong options, also of this program. It is 5 where a report can't
-be written, 124 where the time is up, and 127 where there is no such script, or GOSSIPMPI names what is no gossipmpi."""
-import argparse, json, math, os, re, subprocess, sys
+`fault`. The run is a case, too. Where the run fails, the standard error says what the program said. The status is that of the program, by --strict, where 1 is
+wrong options, also of this program. It is 5 where a report can't be written, 124 where the time is up, and 127 where there is no such script, or GOSSIPMPI names
+what is no gossipmpi."""
+import argparse, contextlib, json, math, os, re, subprocess, sys
 from xml.sax.saxutils import escape, quoteattr
 
 MEANINGS = {0: 'all ranks have done all', 1: 'wrong options', 2: 'the script is refused', 3: 'ranks wait', 4: 'no memory', 5: 'reading or writing failed',
@@ -17,9 +18,21 @@ MEANINGS = {0: 'all ranks have done all', 1: 'wrong options', 2: 'the script is 
 class NoProgram(Exception): """What GOSSIPMPI names is no gossipmpi."""
 
 
+def say(*lines):
+    """Says something on the standard error. Where that can't be, the status says it."""
+    with contextlib.suppress(OSError):
+        for line in lines: print(line, file=sys.stderr, flush=True)
+
+
+def words_of(why):
+    """What the system says of an error."""
+    words = (why.strerror or str(why)).lower()
+    return words if why.filename is None else '%s: %s' % (why.filename or "''", words)
+
+
 def ran_with(words, path, seconds):
     """What the program does with the script. It has status 124 where the time is up."""
-    command = [os.environ.get('GOSSIPMPI', 'gossipmpi'), *words]
+    command = [os.environ.get('GOSSIPMPI') or 'gossipmpi', *words]
     with open(path, 'rb') as script:
         try: return subprocess.run(command, stdin=script, stdout=subprocess.PIPE, stderr=subprocess.PIPE, timeout=seconds)
         except subprocess.TimeoutExpired: return subprocess.CompletedProcess(command, 124, b'', b'')
@@ -83,7 +96,7 @@ def put(path, text):
         with open(path, 'w', encoding='utf-8', errors='replace') as file: file.write(text)
         return True
     except OSError as why:
-        print('cases.py: %s: %s' % (path, (why.strerror or str(why)).lower()), file=sys.stderr)
+        say('cases.py: %s: %s' % (path, words_of(OSError(why.errno, why.strerror or str(why)))))
         return False
 
 
@@ -97,15 +110,18 @@ def main():
     words = parser.parse_args()
     try: run = told(words.script, words.options, words.seconds)
     except (OSError, NoProgram) as why:
-        print('cases.py: %s' % ('%s: %s' % (why.filename, why.strerror.lower()) if isinstance(why, OSError) else why), file=sys.stderr)
+        say('cases.py: %s' % (words_of(why) if isinstance(why, OSError) else why))
         return 127
     written = True
     for path, text in ((words.junit, as_junit), (words.json, lambda run: json.dumps(run, indent=1) + '\n')):
         if path: written = put(path, text(run)) and written
-    try: print('%s: %s' % (run['script'], run['meaning']), flush=True)
+    if run['status']: say(*run['said'])
+    try:
+        if sys.stdout is None: raise OSError(0, 'it is closed')
+        print('%s: %s' % (run['script'], run['meaning']), flush=True)
     except OSError as why:
-        print('cases.py: the standard output: %s' % (why.strerror or str(why)).lower(), file=sys.stderr)
-        os.dup2(os.open(os.devnull, os.O_WRONLY), 1)
+        say('cases.py: the standard output: %s' % words_of(why))
+        os.dup2(os.open(os.devnull, os.O_WRONLY), 1)  # it isn't tried again at the end
         written = False
     return run['status'] if written else 5
 

@@ -118,7 +118,7 @@ function squares(layout, x, y, places, kind, hole = 0, inset = 0) {
 // What a process has of a call: a square for each member. What a rank lacks that has called is told apart by whether that member has called, too.
 function boardMarks(run, layout, process, { call, x, ranks }, turn) {
   const board = boardOf(run, process, call, turn), y = middle(layout, process), has = (set) => (rank) => (set & bit(rank)) !== 0n;
-  const title = `<title>${escaped(`${nameOf(run, process)}, ${callName(run, call)}: ${boardWords(run, process, call, turn)}`)}</title>`;
+  const title = `<title>${escaped(`${nameOf(run, process)}, ${callInFull(run, call)}: ${boardWords(run, process, call, turn)}`)}</title>`;
   const draw = (test, ...rest) => squares(layout, x, y, ranks.map((rank, place) => (test(rank) ? place : -1)).filter((place) => place >= 0), ...rest);
   if (board.dropped) return `<g>${title}${draw(() => true, "over")}</g>`;
   const waits = hasPosted(run, call, process, turn), made = (rank) => hasPosted(run, call, rank, turn), lacks = (rank) => !has(board.ranks)(rank);
@@ -129,13 +129,19 @@ function boardMarks(run, layout, process, { call, x, ranks }, turn) {
   return `<g>${title}${parts.join("")}</g>`;
 }
 
+// Of how many squares one has its rank's number above it: of each, where the numbers have room.
+function numberedEvery(layout, ranks) {
+  const room = 6.2 * String(Math.max(0, ...ranks)).length + 4;
+  return [1, 4, 8].find((step) => step * layout.side >= room) || 16;
+}
+
 // The head of a block of squares: what the script calls it, its communicator and number, and ranks.
 function blockHead(run, layout, { call, x, wide, ranks }) {
   const letters = (size) => Math.floor((wide - 8) / size), name = nameIn(run.calls[call]), number = run.calls[call].slice(name.length + 1);
   const title = callTitle(run, call), most = letters(6.4) - `call ${number} of `.length, end = name.slice(1 - Math.max(most, 2));
   const short = name.length <= most ? name : "…" + end.slice(Math.max(0, end.indexOf("/")));
-  const every = Math.max(1, Math.ceil(16 / layout.side)), numbered = ranks.map((rank, place) => (place % (ranks.length <= 8 && every === 1 ? 1 : every === 1 ? 4 : every * 2 > 4 ? 8 : 4) ? "" : label(x + (place + 0.42) * layout.side, layout.top - 6, String(rank), "small middle")));
-  return `<g><title>${escaped(`${title ? title + ": " : ""}${callName(run, call)}`)}</title>` + label(x, 16, title ? shortened(title, letters(8.4)) : `call ${number}`, "strong") +
+  const step = numberedEvery(layout, ranks), numbered = ranks.map((rank, place) => (place % step ? "" : label(x + (place + 0.42) * layout.side, layout.top - 6, String(rank), "small middle")));
+  return `<g><title>${escaped(callInFull(run, call))}</title>` + label(x, 16, title ? shortened(title, letters(8.4)) : `call ${number}`, "strong") +
     label(x, 33, title ? `call ${number} of ${short}` : short, "small") + numbered.join("") + "</g>";
 }
 

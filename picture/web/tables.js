@@ -39,7 +39,7 @@ function framesTable(run, turn) {
 // What every process has of the calls that the picture shows.
 function boardsTable(run, turn, calls) {
   const rows = numbers(run.processes).map((process) => row(nameOf(run, process), ...calls.map((call) => boardWords(run, process, call, turn))));
-  return table("Whose posts each process has after " + theTurn(turn), headRow("Process", ...calls.map((call) => callName(run, call))), rows);
+  return table("Whose posts each process has after " + theTurn(turn), headRow("Process", ...calls.map((call) => callInFull(run, call))), rows);
 }
 
 // By call for which ranks wait: who waits, who hasn't called it, and who hasn't heard of whom.
@@ -88,7 +88,7 @@ function boardTable(run, process, turn) {
   });
   const rows = calls.reverse().map((call) => {
     const board = boardOf(run, process, call, turn), posts = everyone.map((rank) => postCell(board, run.members[call], rank));
-    return make("tr", {}, make("th", { scope: "row" }, callName(run, call)), ...posts, make("td", {}, boardWords(run, process, call, turn)));
+    return make("tr", {}, make("th", { scope: "row" }, callInFull(run, call)), ...posts, make("td", {}, boardWords(run, process, call, turn)));
   });
   const over = [...run.gone[process].values()].filter((when) => when <= turn).length;
   const caption = `What ${nameOf(run, process)} has after ${theTurn(turn)}` + (over ? `; ${counted(over, "call is", "calls are")} dropped by then` : "");

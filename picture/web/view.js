@@ -121,7 +121,7 @@ class View {
     const { run } = this, option = (value, text) => make("option", { value: String(value) }, text);
     this.at("summary").textContent = summary(run);
     this.at("turn").max = run.last;
-    put(this.at("calls"), option(-1, "the newest"), ...run.calls.map((_, call) => option(call, "from " + [callName(run, call), callTitle(run, call)].filter(Boolean).join(", "))));
+    put(this.at("calls"), option(-1, "the newest"), ...run.calls.map((_, call) => option(call, "from " + callInFull(run, call))));
     put(this.at("process"), option(-1, "none chosen"), ...numbers(run.processes).map((process) => option(process, nameOf(run, process))));
     put(this.at("said"), ...(run.said.length ? [make("h3", {}, "What the program says at the end"), make("pre", { class: "scrolls", tabindex: "0" }, run.said.join("\n"))] : []));
     this.at("script").hidden = !run.script.text;

@@ -58,6 +58,12 @@ function callTitle(run, call) {
   return titles.length > 2 ? titles.slice(0, 2).join(" or ") + " or others" : titles.join(" or ");
 }
 
+// The call as the script names it, with its number: "allreduce half (call 0 of world/1.0)".
+function callInFull(run, call) {
+  const title = callTitle(run, call);
+  return title ? `${title} (${callName(run, call)})` : callName(run, call);
+}
+
 // The lines of the script that make the call.
 function callLines(run, call) {
   const lines = [...new Set(postsTo(run, call).map(({ line }) => line))].sort((one, other) => one - other);
@@ -70,7 +76,7 @@ function postsOf(ranks) {
 }
 
 function bringsOf(run, brought) {
-  return joined(brought.map(([call, ranks]) => postsOf(ranks) + " to " + callName(run, call)));
+  return joined(brought.map(([call, ranks]) => postsOf(ranks) + " to " + callInFull(run, call)));
 }
 
 // By process, what a turn's frames brought it that it hadn't.
@@ -107,10 +113,14 @@ function newsWords(run, turn) {
   return news.map(([process, calls]) => capital(nameOf(run, process)) + " learns " + bringsOf(run, [...calls]) + ".");
 }
 
+// Why the run ends, as the program says it; and whether the ranks that wait do so in every run.
 function endWords(run) {
-  const ranks = waitingIn(run.said);
+  const ranks = waitingIn(run.said), says = (words) => run.said.some((line) => line.startsWith(words));
   if (!ranks.length) return ["The trace ends here."];
-  return ["The run ends here, and " + ranksWords(ranks) + (ranks.length === 1 ? " waits." : " wait.")];
+  const why = says("turns used up") ? "The turns are used up" : says("every frame was lost") ? "Every frame was lost" : "The run ends here";
+  const always = says("these ranks wait in every run") || says("in the evaluation these ranks wait there too") ? (ranks.length === 1 ? ["It waits in every run."] : ["They wait in every run."]) : [];
+  const never = says("in the evaluation nobody waits") ? ["The script itself lets all ranks finish."] : [];
+  return [`${why}, and ${ranksWords(ranks)}${ranks.length === 1 ? " waits." : " wait."}`, ...always, ...never];
 }
 
 // The turn in words, as the page says it aloud.
