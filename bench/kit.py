@@ -124,6 +124,24 @@ class Kit:
         """Runs the checker on the crate, or on a copy of it in another folder."""
         return subprocess.run([self.lib.RATTLE, *words], cwd=folder or crate.folder, **how)
 
+    def build(self, crate, to):
+        """Proves a program or a static library over libraries that `rt ci` kept, once they are taken, and compiles it: an object, or an archive. Gives the names of
+        the libraries that weren't kept; then nothing is built."""
+        lacking = [it.name for it in crate.below() if not text_of(f"{it.folder}/out/rlib/kept")]
+        if lacking:
+            return lacking
+        # (its first call sets a signal's handler, which only the main thread may)
+        self.lib.guarded()
+        with tempfile.TemporaryFile("w+") as crate.out:
+            words = [*crate.words(["--jobs", "1"], keeps=False), "--toolchain", f"{self.rt.KIT}/toolchain", "--backend", "llvm", "-o", str(to)]
+            status = crate.prove(["build", *words])
+            crate.out.seek(0)
+            said = crate.out.read().rstrip()
+        if status:
+            sys.exit(f"{said}\n{crate.name} isn't proved over what was kept")
+        print(f"{crate.name}: {said.splitlines()[-1]}", file=sys.stderr, flush=True)
+        return []
+
     def compiles(self, crate, folder):
         """What the checker says before any proof of this copy of the crate; nothing where it compiles."""
         built = all(os.path.isdir(it.rlib) for it in crate.below())

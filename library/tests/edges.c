@@ -2,24 +2,11 @@
  * where one ends. The text and the status are the same as in a room of malloc.
  *
  *     edges SCRIPT..        the files of scripts */
+#include "fenced.h"
 #include "gossipmpi.h"
-#include <stdio.h>
-#include <stdlib.h>
 #include <string.h>
-#include <sys/mman.h>
-#include <unistd.h>
 
-typedef uint8_t call(const uint8_t *, size_t, uint8_t *, size_t, size_t *);
 enum { MOST = 1 << 21 };
-static size_t page;
-
-/* Room for so many bytes between two pages that nobody may touch. */
-static uint8_t *fenced(void)
-{
-    uint8_t *all = mmap(NULL, MOST + 2 * page, PROT_READ | PROT_WRITE, MAP_PRIVATE | MAP_ANONYMOUS, -1, 0);
-    if (all == MAP_FAILED || mprotect(all, page, PROT_NONE) || mprotect(all + page + MOST, page, PROT_NONE)) { perror("mmap"); exit(2); }
-    return all + page;
-}
 
 static int same(call *f, uint8_t *script, uint8_t *room, const uint8_t *bytes, size_t length, uint8_t *wanted)
 {
@@ -36,9 +23,8 @@ static int same(call *f, uint8_t *script, uint8_t *room, const uint8_t *bytes, s
 
 int main(int argc, char **argv)
 {
-    page = (size_t)sysconf(_SC_PAGESIZE);
     call *calls[] = {gossipmpi_eval, gossipmpi_check, gossipmpi_explain};
-    uint8_t *script = fenced(), *room = fenced(), *bytes = malloc(MOST), *wanted = malloc(MOST);
+    uint8_t *script = fenced(MOST), *room = fenced(MOST), *bytes = malloc(MOST), *wanted = malloc(MOST);
     if (!bytes || !wanted) return 2;
     for (int i = 1; i < argc; i++) {
         FILE *file = fopen(argv[i], "rb");

@@ -1,15 +1,17 @@
 /* Refuses each allocation of a call in turn: the status is GOSSIPMPI_MEMORY and the room is unchanged, until one call has all that it asks for. Then nothing
- * is left allocated. Its malloc, realloc and free take the place of the C library's; blocks have malloc's alignment and a guard at their end.
+ * is left allocated. The linker hands it what the library asks of malloc, realloc and free (--wrap), so that a sanitizer's or valgrind's are beneath.
  *
  *     starved SCRIPT..        the files of scripts */
 #include "gossipmpi.h"
 #include <stdio.h>
 #include <stdlib.h>
-#include <string.h>
 
-extern void *__libc_malloc(size_t);
-extern void *__libc_realloc(void *, size_t);
-extern void __libc_free(void *);
+void *__real_malloc(size_t);
+void *__real_realloc(void *, size_t);
+void __real_free(void *);
+void *__wrap_malloc(size_t);
+void *__wrap_realloc(void *, size_t);
+void __wrap_free(void *);
 
 enum { EACH = 300 };
 static int counts;                  /* whether a call is at work */
@@ -18,24 +20,24 @@ static long open_blocks;
 
 static int refuses(void) { return counts && ++allocations == refused; }
 
-void *malloc(size_t size)
+void *__wrap_malloc(size_t size)
 {
     if (refuses()) return NULL;
-    void *block = __libc_malloc(size);
+    void *block = __real_malloc(size);
     if (counts && block) open_blocks++;
     return block;
 }
-void *realloc(void *block, size_t size)
+void *__wrap_realloc(void *block, size_t size)
 {
     if (refuses()) return NULL;
-    void *more = __libc_realloc(block, size);
+    void *more = __real_realloc(block, size);
     if (counts && !block && more) open_blocks++;
     return more;
 }
-void free(void *block)
+void __wrap_free(void *block)
 {
     if (counts && block) open_blocks--;
-    __libc_free(block);
+    __real_free(block);
 }
 
 typedef uint8_t call(const uint8_t *, size_t, uint8_t *, size_t, size_t *);

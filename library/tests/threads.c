@@ -1,4 +1,4 @@
-/* Eight threads evaluate scripts at once, each with a room of its own: each gets what one alone gets.
+/* Eight threads make all three calls at once, each with a room of its own: each gets what one thread gets.
  *
  *     threads SCRIPT..        the files of scripts */
 #include "gossipmpi.h"
@@ -8,39 +8,59 @@
 #include <string.h>
 
 #define THREADS 8
+#define CALLS 3
 enum { ROOM = 1 << 20 };
-struct script { uint8_t *bytes, *wanted; size_t length, needed; int status; };
+typedef uint8_t call(const uint8_t *, size_t, uint8_t *, size_t, size_t *);
+static call *const calls[CALLS] = {gossipmpi_eval, gossipmpi_check, gossipmpi_explain};
+struct answer { uint8_t *text; size_t needed; int status; };
+struct script { uint8_t *bytes; size_t length; struct answer wanted[CALLS]; };
 static struct script *scripts;
 static int many;
+
+static int differs(const struct script *it, uint8_t *out)
+{
+    for (int f = 0; f < CALLS; f++) {
+        const struct answer *wanted = &it->wanted[f];
+        size_t needed = 0;
+        int status = calls[f](it->bytes, it->length, out, ROOM, &needed);
+        if (status != wanted->status || needed != wanted->needed || memcmp(out, wanted->text, needed)) return 1;
+    }
+    return 0;
+}
 
 static void *works(void *first)
 {
     uint8_t *out = malloc(ROOM);
-    for (int i = 0; out && i < many; i++) {
-        struct script *it = &scripts[(i + *(int *)first) % many];
-        size_t needed = 0;
-        int status = gossipmpi_eval(it->bytes, it->length, out, ROOM, &needed);
-        if (status != it->status || needed != it->needed || memcmp(out, it->wanted, needed)) { free(out); return first; }
-    }
+    int wrong = !out;
+    for (int i = 0; out && i < many && !wrong; i++) wrong = differs(&scripts[(i + *(int *)first) % many], out);
     free(out);
-    return NULL;
+    return wrong ? first : NULL;
+}
+
+/* The script of a file, with each call's answer. */
+static void reads(struct script *it, const char *name, uint8_t *out)
+{
+    FILE *file = fopen(name, "rb");
+    if (!file || !(it->bytes = malloc(ROOM))) { perror(name); exit(2); }
+    it->length = fread(it->bytes, 1, ROOM, file);
+    fclose(file);
+    for (int f = 0; f < CALLS; f++) {
+        struct answer *wanted = &it->wanted[f];
+        wanted->status = calls[f](it->bytes, it->length, out, ROOM, &wanted->needed);
+        wanted->text = malloc(wanted->needed + 1);
+        if (!wanted->text || wanted->needed > ROOM) exit(2);
+        memcpy(wanted->text, out, wanted->needed);
+    }
 }
 
 int main(int argc, char **argv)
 {
     pthread_t threads[THREADS];
     int first[THREADS], wrong = 0;
+    uint8_t *out = malloc(ROOM);
     scripts = calloc((size_t)argc, sizeof *scripts);
-    for (int i = 1; i < argc; i++) {
-        FILE *file = fopen(argv[i], "rb");
-        if (!file) { perror(argv[i]); return 2; }
-        struct script *it = &scripts[many++];
-        it->bytes = malloc(ROOM);
-        it->wanted = malloc(ROOM);
-        it->length = fread(it->bytes, 1, ROOM, file);
-        fclose(file);
-        it->status = gossipmpi_eval(it->bytes, it->length, it->wanted, ROOM, &it->needed);
-    }
+    if (!scripts || !out) return 2;
+    for (int i = 1; i < argc; i++) reads(&scripts[many++], argv[i], out);
     for (int t = 0; t < THREADS; t++) {
         first[t] = t * many / THREADS;
         if (pthread_create(&threads[t], NULL, works, &first[t])) return 2;
@@ -50,8 +70,12 @@ int main(int argc, char **argv)
         pthread_join(threads[t], &failed);
         wrong += failed != NULL;
     }
-    for (int i = 0; i < many; i++) { free(scripts[i].bytes); free(scripts[i].wanted); }
+    for (int i = 0; i < many; i++) {
+        for (int f = 0; f < CALLS; f++) free(scripts[i].wanted[f].text);
+        free(scripts[i].bytes);
+    }
     free(scripts);
+    free(out);
     if (wrong) fprintf(stderr, "%d of %d threads got something else\n", wrong, THREADS);
     return wrong != 0;
 }

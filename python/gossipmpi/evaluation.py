@@ -5,7 +5,7 @@ from typing import List, Optional, Union
 from .backend import MEMORY, REFUSED, WAITING, Answer, backend
 from .outcomes import Outcome, outcome_of
 
-Script = Union[str, bytes]
+Script = Union[str, bytes, bytearray, memoryview]
 
 
 class ScriptError(ValueError):
@@ -36,7 +36,11 @@ class Evaluation:
 
 
 def _bytes_of(script: Script) -> bytes:
-    return script if isinstance(script, bytes) else script.encode("utf-8", "surrogateescape")
+    if isinstance(script, str):
+        return script.encode("utf-8", "surrogateescape")
+    if isinstance(script, (bytes, bytearray, memoryview)):
+        return bytes(script)
+    raise TypeError("a script is a str or bytes, and not %s" % type(script).__name__)
 
 
 def _ask(name: str, script: bytes) -> Answer:

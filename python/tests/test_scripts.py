@@ -1,5 +1,6 @@
 """Scripts: what they come to, and how they are refused."""
 import unittest
+from concurrent.futures import ThreadPoolExecutor
 
 import gossipmpi
 from gossipmpi import Comm, Fault, NoValue, Null, Ok, Refused, ScriptError
@@ -37,6 +38,16 @@ class Scripts(unittest.TestCase):
         self.assertIsNone(gossipmpi.check(SUMS))
         for script in ("", "\n" * (2 << 20), "ranks 65", "ranks 2\n0: barrier w\xf6rld", b"ranks 2\n0: \xff\n", "ranks 2\n\0"):
             self.assertRaises(ScriptError, gossipmpi.check, script)
+
+        for script in (None, 7, [SUMS]):
+            self.assertRaises(TypeError, gossipmpi.check, script)
+        self.assertEqual(gossipmpi.eval(bytearray(SUMS.encode())).text, gossipmpi.eval(SUMS).text)
+
+    def test_eight_threads_at_once(self):
+        scripts = ["ranks %d\n*: allgather world i64 %d\n" % (1 + at % 64, at) for at in range(200)]
+        with ThreadPoolExecutor(8) as pool:
+            texts = list(pool.map(lambda script: gossipmpi.eval(script).text, scripts))
+        self.assertEqual(texts, [gossipmpi.eval(script).text for script in scripts])
 
     def test_explanations(self):
         self.assertEqual(gossipmpi.explain(SUMS), "")
