@@ -14,6 +14,7 @@ HOST(host_read) int host_read(unsigned at, unsigned room);
 HOST(host_write) void host_write(int stream, unsigned at, unsigned length);
 HOST(host_is_terminal) int host_is_terminal(int stream);
 HOST(host_milliseconds) double host_milliseconds(void);
+HOST(host_exit) void host_exit(int status); // which doesn't return
 
 // ---- Memory. Blocks are of sizes 16, 20, 24, 28 and each of these times a power of two. Before a block are 16 bytes, the first eight its class. A block that is
 // given back goes into its class's list.
@@ -137,6 +138,34 @@ i128 __ashrti3(i128 x, int by) {
     return to.whole;
 }
 
+// What `x` divided by `y` leaves, and the quotient: bit by bit, but for numbers of 64 bits.
+static u128 divided(u128 x, u128 y, u128 *quotient) {
+    u128 left = 0, found = 0;
+    if (x >> 64 == 0 && y >> 64 == 0) {
+        *quotient = (u64)x / (u64)y;
+        return (u64)x % (u64)y;
+    }
+    for (int bit = 127; bit >= 0; bit--) {
+        int is_over = left >> 127;
+        left = left << 1 | (x >> bit & 1);
+        found <<= 1;
+        if (is_over || left >= y) left -= y, found |= 1;
+    }
+    *quotient = found;
+    return left;
+}
+
+u128 __udivti3(u128 x, u128 y) {
+    u128 quotient;
+    divided(x, y, &quotient);
+    return quotient;
+}
+
+u128 __umodti3(u128 x, u128 y) {
+    u128 quotient;
+    return divided(x, y, &quotient);
+}
+
 // ---- A system. It has the words of the call, three streams and a clock, and nothing else: whatever asks for more is answered that it failed.
 enum { NOT_SUPPORTED = 95, BAD_FILE = 9, NO_THREAD = 11 };
 static int error;
@@ -194,7 +223,11 @@ int pthread_attr_setstacksize(void *how, u64 size) { return 0; }
 void *signal(int number, void *what) { return 0; }
 void *__sysv_signal(int number, void *what) { return 0; }
 void abort(void) { __builtin_trap(); }
-void _exit(int status) { __builtin_trap(); }
+
+void _exit(int status) {
+    host_exit(status);
+    __builtin_trap();
+}
 
 // ---- The program. It is its own `main`, under another name.
 extern int gossipmpi_main(void);

@@ -12,7 +12,12 @@ FOR_TEST(given) unsigned where_given(void) { return (u64)given; }
 // Calculates with the first two numbers of 128 bits, and writes the third one.
 FOR_TEST(calculate) void calculate(int what, int by) {
     halves x = {.part = {given[0], given[1]}}, y = {.part = {given[2], given[3]}}, to;
-    to.whole = what == 0 ? x.whole * y.whole : what == 1 ? x.whole << by : what == 2 ? x.whole >> by : (u128)((i128)x.whole >> by);
+    if (what == 0) to.whole = x.whole * y.whole;
+    if (what == 1) to.whole = x.whole << by;
+    if (what == 2) to.whole = x.whole >> by;
+    if (what == 3) to.whole = (i128)x.whole >> by;
+    if (what == 4) to.whole = x.whole / y.whole;
+    if (what == 5) to.whole = x.whole % y.whole;
     given[4] = to.part.low;
     given[5] = to.part.high;
 }
@@ -39,3 +44,5 @@ FOR_TEST(seconds) double seconds(void) {
     struct time now;
     return clock_gettime(1, &now) ? -1 : now.seconds + now.nanoseconds / 1e9;
 }
+
+FOR_TEST(leave) void leave(int status) { _exit(status); }

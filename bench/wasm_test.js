@@ -20,6 +20,7 @@ const env = {
   host_write: (stream, at, length) => written.push(`${stream}: ${Buffer.from(bytes(at, length))}`),
   host_is_terminal: () => 0,
   host_milliseconds: () => 61250.5,
+  host_exit: (status) => { throw new Error("status " + status); },
 };
 const it = new WebAssembly.Instance(new WebAssembly.Module(fs.readFileSync(process.argv[2])), { env }).exports;
 
@@ -39,10 +40,10 @@ function wide() {
 function numbers() {
   const view = () => new BigUint64Array(it.memory.buffer, it.given(), 6), low = (1n << 64n) - 1n;
   for (let round = 0; round < 20000; round++) {
-    const x = wide(), y = wide(), by = drawn(128), what = round % 4;
+    const x = wide(), what = round % 6, y = wide() || 1n, by = drawn(128);
     view().set([x & low, x >> 64n, y & low, y >> 64n]);
     it.calculate(what, by);
-    const expected = [() => x * y, () => x << BigInt(by), () => x >> BigInt(by), () => BigInt.asIntN(128, x) >> BigInt(by)][what]();
+    const expected = [() => x * y, () => x << BigInt(by), () => x >> BigInt(by), () => BigInt.asIntN(128, x) >> BigInt(by), () => x / y, () => x % y][what]();
     assert.strictEqual(view()[4] | (view()[5] << 64n), BigInt.asUintN(128, expected), `${what} ${x} ${y} ${by}`);
   }
 }
@@ -97,6 +98,7 @@ function rest() {
   assert.deepStrictEqual([it.get_text(12), it.put_text(1, 12), it.get_text(64), it.put_text(2, 6), it.get_text(64), it.put_text(3, 1)], [12, 12, 6, 6, 0, -1]);
   assert.deepStrictEqual(written, ["1: the standard", "2:  input"]);
   assert(it.lacks() === 1 && it.seconds() === 61.2505 && it.run() === 0);
+  assert.throws(() => it.leave(6), /^Error: status 6$/);
 }
 
 numbers();

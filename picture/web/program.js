@@ -1,6 +1,13 @@
 "use strict";
 // Runs the program gossipmpi as a module of WebAssembly, which bench/wasm makes: it gives it words and its standard input, and takes what it writes.
 
+// What ends the program, with its status.
+class Exit {
+  constructor(status) {
+    this.status = status & 255;
+  }
+}
+
 // Runs the program once, with so many MB of memory of its own, and answers its status. `written(stream, bytes)` gets what it writes on streams 1 and 2.
 // On a terminal it says how far a run without a trace is.
 function runProgram(module, { words, script, memory, isTerminal = false }, written) {
@@ -22,8 +29,16 @@ function runProgram(module, { words, script, memory, isTerminal = false }, writt
     host_write: (stream, at, length) => written(stream, room(at, length)),
     host_is_terminal: (stream) => Number(stream === 2 && isTerminal),
     host_milliseconds: () => performance.now(),
+    host_exit(status) {
+      throw new Exit(status);
+    },
   };
   const instance = new WebAssembly.Instance(module, { env });
   instance.exports.limit_memory(memory * (1 << 20));
-  return instance.exports.run() & 255;
+  try {
+    return instance.exports.run() & 255;
+  } catch (end) {
+    if (end instanceof Exit) return end.status;
+    throw end;
+  }
 }
