@@ -12,6 +12,7 @@ import time
 from browser import NoBrowser
 
 NAMES = ["firefox-esr", "firefox"]
+KEYS = {"Tab": "\ue004", "Enter": "\ue007", "Control": "\ue009", "Escape": "\ue00c", "F8": "\ue038"}
 PREFERENCES = {"browser.shell.checkDefaultBrowser": False, "datareporting.policy.dataSubmissionEnabled": False, "app.update.enabled": False, "browser.startup.page": 0,
                "network.captive-portal-service.enabled": False, "network.connectivity-service.enabled": False, "remote.prefs.recommended": True}
 
@@ -139,6 +140,13 @@ class Firefox:
             raise AssertionError("%s: %s" % (text[:200], came["exceptionDetails"]["text"]))
         found = json.loads(came["result"]["value"])
         return found[0] if found else None
+
+    def press(self, *keys):
+        """Presses keys, as "F8" or "Control+Enter"."""
+        for key in keys:
+            names = [KEYS[name] for name in key.split("+")]
+            steps = [{"type": kind, "value": name} for kind, order in (("keyDown", names), ("keyUp", names[::-1])) for name in order]
+            self.ask("input.performActions", context=self.context, actions=[{"type": "key", "id": "keys", "actions": steps}])
 
     def picture(self, path):
         with open(path, "wb") as file:

@@ -1,4 +1,5 @@
 """What picture/look holds of the page on which scripts are run (tries.py): runs in the browser against the program, byte by byte, and what the page does."""
+import concurrent.futures
 import json
 import os
 import random
@@ -9,12 +10,15 @@ import time
 from tries import ROOT, examples
 
 OUTCOME, CHECKED = "document.getElementById('outcome').textContent", "document.getElementById('checked').textContent"
-# Runs in the page, one after the other: the status and all that is written.
-WHOLE = """(async () => { await started; const told = [];
-  for (const [words, script, memory] of %s) {
-    const { status, out, err, failure } = await runner.run({ words, script, memory, isWhole: true });
-    told.push([failure === undefined ? status : failure, out, err]);
-  }
+# Runs in the page, in three workers: of each the status and all that is written.
+WHOLE = """(async () => { await started;
+  const asked = %s, told = [];
+  window.crew ||= [0, 1, 2].map(() => new Runner(at('worker').textContent, runner.module));
+  let next = 0;
+  await Promise.all(crew.map(async (it) => { while (next < asked.length) {
+    const place = next++, [words, script, memory] = asked[place], { status, out, err, failure } = await it.run({ words, script, memory, isWhole: true });
+    told[place] = [failure === undefined ? status : failure, out, err];
+  } }));
   return told; })()"""
 # A statement without a KEY, a word that isn't one, and a name that is unknown.
 REFUSED = "ranks 3\n0: allredcue world sum i32 1\n*: barrier wrold\n0: dup world -> a\n0: split world 1 -> b\n"
@@ -30,13 +34,13 @@ def scripts():
 
 
 def cases(many):
-    """Runs, as many as asked: each example's evaluation and its run, and then others over drawn networks."""
+    """Each example's evaluation, and this number of runs over drawn networks."""
     drawn, texts = random.Random(7), scripts()
     names = sorted(texts)
     found = [(["eval", "--explain", "--strict"], texts[name]) for name in names]
-    while len(found) < many:
-        name = names[len(found) % len(names)]
-        if name == "many" and len(found) > 2 * len(names):  # 64 ranks take a second, and the unproved program a minute
+    for number in range(many):
+        name = names[number % len(names)]
+        if name == "many" and number >= len(names):  # 64 ranks take a second, and the unproved program a minute
             name = "halves"
         options = ["--seed", str(drawn.randrange(1 << 32)), "--loss", str(drawn.choice([0, 10, 40, 70, 90, 100])), "--relays", str(drawn.choice([0, 0, 1, 3]) * (name != "many"))]
         turns = drawn.randrange(1, 40) if drawn.random() < 0.3 else 2000
@@ -44,9 +48,24 @@ def cases(many):
     return found
 
 
-def program_gives(program, words, script):
-    ran = subprocess.run([program, *words], input=script.encode(), stdout=subprocess.PIPE, stderr=subprocess.PIPE)
-    return [ran.returncode, ran.stdout.decode(), ran.stderr.decode()]
+class Program:
+    """What the program writes: each call is made once, and several go side by side."""
+
+    def __init__(self, path):
+        self.path, self.pool, self.calls = path, concurrent.futures.ThreadPoolExecutor(len(os.sched_getaffinity(0))), {}
+
+    def ask(self, words, script):
+        key = (*words, script)
+        if key not in self.calls:
+            self.calls[key] = self.pool.submit(self.run, words, script)
+        return self.calls[key]
+
+    def run(self, words, script):
+        ran = subprocess.run([self.path, *words], input=script.encode(), stdout=subprocess.PIPE, stderr=subprocess.PIPE)
+        return [ran.returncode, ran.stdout.decode(), ran.stderr.decode()]
+
+    def gives(self, words, script):
+        return self.ask(words, script).result()
 
 
 def page_gives(browser, asked):
@@ -56,15 +75,17 @@ def page_gives(browser, asked):
 def hold_runs(browser, program, many):
     """Runs in the page write what the program writes: transcript, trace and explanations."""
     asked, traced = cases(many), 0
-    for begin in range(0, len(asked), 20):
-        part = asked[begin:begin + 20]
+    for words, script in asked:
+        program.ask(words, script)
+    for begin in range(0, len(asked), 30):
+        part = asked[begin:begin + 30]
         for (words, script), got in zip(part, page_gives(browser, [(words, script, 1024) for words, script in part])):
-            holds(" ".join(words), program_gives(program, words, script), got)
+            holds(" ".join(words), program.gives(words, script), got)
             traced += got[2].count("\nturn ")
     for words, script in ((["run", "--relays", "62"], "ranks 3\n"), (["walk"], ""), (["run", "--threads"], "ranks 2\n*: barrier world\n"), (["check", "--explain"], REFUSED), (["eval", "--explain"], "")):
         got = page_gives(browser, [(words, script, 1024)])[0]
         if words[1:] != ["--threads"]:
-            holds(" ".join(words), program_gives(program, words, script), got)
+            holds(" ".join(words), program.gives(words, script), got)
         else:
             assert got[0] != 0 and got[2], got
     return len(asked), traced
@@ -80,7 +101,7 @@ def hold_long(browser, program):
     script = long_script()
     assert 1040000 < len(script) <= 1048576
     for words in (["eval"], ["run", "--loss", "40"]):
-        holds("1 MB, " + words[0], program_gives(program, words, script), page_gives(browser, [(words, script, 2048)])[0])
+        holds("1 MB, " + words[0], program.gives(words, script), page_gives(browser, [(words, script, 2048)])[0])
     return len(script)
 
 
@@ -122,7 +143,7 @@ def hold_marks(browser, program):
     type_script(browser, REFUSED)
     until(browser, "marks", "document.querySelectorAll('#problems li').length === 3")
     holds("marked lines", [2, 3, 5], browser.value("[...editor.marks.keys()]"))
-    said = program_gives(program, ["eval", "--explain"], REFUSED)[2].splitlines()
+    said = program.gives(["eval", "--explain"], REFUSED)[2].splitlines()
     expected = [re.sub(r"^script line \d+: |^  ", "", line) for line in said]
     holds("what is said", expected, browser.value("[...editor.marks.values()].flatMap(({ texts }) => texts)"))
     holds("numbers", ["2", "3", "5"], browser.value("[...document.querySelectorAll('.numbers .refused')].map((it) => it.textContent)"))
@@ -223,6 +244,14 @@ def hold_sizes(browser, path, hold_contrast):
             assert named, "a control without a name"
 
 
+def hold_lacking(browser, path):
+    """A browser that lacks what the page needs gets a sentence that names those that have it."""
+    added = browser.ask("Page.addScriptToEvaluateOnNewDocument", source="delete window.DecompressionStream")["identifier"]
+    browser.open(path)
+    until(browser, "a sentence", OUTCOME + ".startsWith('This browser lacks what the page needs. Chrome')")
+    browser.ask("Page.removeScriptToEvaluateOnNewDocument", identifier=added)
+
+
 def hold_try(browser, path, program, many, hold_contrast):
     """All of these, in Chromium."""
     seconds = hold_opening(browser, path)
@@ -235,6 +264,7 @@ def hold_try(browser, path, program, many, hold_contrast):
     hold_memory(browser)
     hold_keys(browser, path)
     hold_sizes(browser, path, hold_contrast)
+    hold_lacking(browser, path)
     holds("errors", [], browser.errors)
     print("try: opened in %.2f s; %d runs and %d lines of traces as the program's, and a script of %d bytes; %d bytes" % (seconds, runs, lines, size, os.path.getsize(path)))
 
@@ -243,7 +273,11 @@ def hold_in_firefox(browser, path, program, many):
     """The page opens in Firefox, and runs there as the program does."""
     hold_opening(browser, path)
     runs, lines = hold_runs(browser, program, many)
+    hold_marks(browser, program)
     hold_waits(browser)
+    hold_link(browser, path)
     hold_stop(browser, path)
+    hold_memory(browser)
+    hold_keys(browser, path)
     holds("errors", [], browser.errors)
     print("try in Firefox: %d runs and %d lines of traces as the program's" % (runs, lines))

@@ -3,7 +3,7 @@
 
 const OPTIONS = ["seed", "loss", "relays", "turns"], USUAL = { command: "run", seed: "27", loss: "40", relays: "", turns: "", memory: "1024" };
 const MOST_LINES = 100, MOST_CHECKED = 200000, CHECK_AFTER = 400, CHECK_FOR = 4000; // lines of a rank, letters of a script, milliseconds
-const NEEDED = "This browser lacks what the page needs. Chrome and Edge from 97 on have it, Firefox from 113 on, and Safari from 16.4 on.";
+const NEEDED = "This browser lacks what the page needs. Chrome and Edge have it from 103 on, Firefox from 113 on, and Safari from 16.4 on.";
 
 const at = (name) => document.getElementById(name);
 const examples = JSON.parse(at("examples").textContent); // by group: [name, script]
