@@ -148,6 +148,7 @@ def hold_marks(browser, program):
     holds("what is said", expected, browser.value("[...editor.marks.values()].flatMap(({ texts }) => texts)"))
     holds("numbers", ["2", "3", "5"], browser.value("[...document.querySelectorAll('.numbers .refused')].map((it) => it.textContent)"))
     assert browser.value(CHECKED) == "3 lines refused.", browser.value(CHECKED)
+    assert browser.value("document.getElementById('far').textContent").startswith("You changed the script"), "what is shown came of another script"
     browser.value("document.querySelector('#problems li:last-child button').click()")
     holds("line of the caret", 5, browser.value("editor.line"))
 

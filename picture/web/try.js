@@ -56,8 +56,14 @@ async function putAddress() {
 function typed() {
   example = "";
   at("example").value = "";
-  keepAddress();
+  changed();
   checkSoon();
+}
+
+// What is shown came of another script or other options.
+function changed() {
+  keepAddress();
+  if (runner && !runner.ask) at("far").textContent = "You changed the script or an option after this run. Run shows what comes of it now.";
 }
 
 // What the program explains of the script, a while after the last key: an evaluation that takes too long is given up.
@@ -104,7 +110,7 @@ async function run(turn) {
   let came = null, hasTrace = given.command === "run";
   for (const more of hasTrace ? [["--trace", "--workers", "1"], ["--workers", "1"]] : [[]]) {
     setRunning(true);
-    say("The run goes on.");
+    say("The program runs.");
     came = await runner.run({ script, memory, words: [...words, "--explain", ...more] }, (text) => (runs.far = text));
     if (mine !== runs.count) return;
     if (!came.isTooLong) break;
@@ -178,7 +184,7 @@ async function copyLink() {
   if (!(await putAddress())) return tell("The script is too long for a link.");
   try {
     await navigator.clipboard.writeText(location.href);
-    tell("The link is copied. It opens this script and its run, where the page is at the same address.");
+    tell("The link is copied. It opens this script and its run." + (location.protocol === "file:" ? " On another machine, put its part from # on after the address of the page there." : ""));
   } catch {
     tell("The address of the page is the link: copy it from there.");
   }
@@ -202,7 +208,7 @@ function listen() {
   on("stop", "click", () => runner && runner.ask && runner.stop());
   on("link", "click", copyLink);
   on("example", "change", () => { if (scripts.has(at("example").value)) { chooseExample(at("example").value); check(); run(); } });
-  for (const name of [...OPTIONS, "memory"]) on(name, "input", keepAddress);
+  for (const name of [...OPTIONS, "memory"]) on(name, "input", changed);
   document.addEventListener("keydown", (event) => {
     if (event.key === "Enter" && (event.ctrlKey || event.metaKey)) { event.preventDefault(); run(); }
     if (event.key === "Escape" && runner && runner.ask) runner.stop();
