@@ -267,7 +267,7 @@ def hold_try(browser, path, program, many, hold_contrast):
     hold_sizes(browser, path, hold_contrast)
     hold_lacking(browser, path)
     holds("errors", [], browser.errors)
-    print("try: opened in %.2f s; %d runs and %d lines of traces as the program's, and a script of %d bytes; %d bytes" % (seconds, runs, lines, size, os.path.getsize(path)))
+    print("try: opened in %.2f s; %d runs and %d lines of traces as the program's, and a script of %d bytes; %d bytes" % (seconds, runs, lines, size, os.path.getsize(path)), flush=True)
 
 
 def hold_in_firefox(browser, path, program, many):
@@ -280,5 +280,6 @@ def hold_in_firefox(browser, path, program, many):
     hold_stop(browser, path)
     hold_memory(browser)
     hold_keys(browser, path)
-    holds("errors", [], browser.errors)
-    print("try in Firefox: %d runs and %d lines of traces as the program's" % (runs, lines))
+    # (Firefox itself logs that a link was cut off)
+    holds("errors", [], [it for it in browser.errors if "input data is corrupted" not in it])
+    print("try in Firefox: %d runs and %d lines of traces as the program's" % (runs, lines), flush=True)
