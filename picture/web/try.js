@@ -128,9 +128,8 @@ function say(words, isWrong = false) {
 // What came of a run, in a sentence or two.
 function outcomeOf({ status, events, failure, isStopped, unread }, { given, memory, hasTrace }) {
   const turns = events.turns.length, ranks = waitingIn(events.said), after = given.command === "run" && turns ? ` after ${counted(turns, "turn", "turns")}` : "";
-  const wrong = [...marksOf(events.said).values()].filter(({ kind }) => kind === "refused" || kind === "fault").length;
-  const more = (wrong ? ` ${counted(wrong, "line", "lines")} of the script ${wrong === 1 ? "is" : "are"} refused, or calls don't match there.` : "") +
-    (given.command === "run" && !hasTrace ? " Its trace is too long for a page of its turns." : "");
+  const wrong = new Map([...marksOf(events.said)].filter(([, { kind }]) => kind === "refused" || kind === "fault"));
+  const more = (wrong.size ? ` ${marksWords(wrong)}` : "") + (given.command === "run" && !hasTrace ? " Its trace is too long for a page of its turns." : "");
   if (isStopped) return [turns ? `Stopped in turn ${turns}. What came until then is shown.` : "Stopped. Nothing had come until then.", true];
   if (failure) return [`The run failed: ${failure}.`, true];
   if (unread) return [`The trace can't be shown: ${unread}.`, true];
