@@ -207,6 +207,8 @@ def hold_memory(browser):
     browser.value("(() => { document.getElementById('memory').value = '64'; document.getElementById('loss').value = '60'; run(); })()")
     finished(browser)
     holds("out of memory", "Out of memory: this needs more than 64 MB. Memory above is what it may have.", browser.value(OUTCOME))
+    browser.value("(() => { document.getElementById('memory').value = '64 GB'; run(); })()")
+    holds("memory that is no number", "Memory is a number from 1 to 4000, in MB.", browser.value(OUTCOME))
 
 
 def hold_keys(browser, path):

@@ -36,6 +36,11 @@ def examples():
     return {**topics, "One call each": [list(it) for it in found.items()]}
 
 
+def module_at(is_proved):
+    """Where the program's module is, once bench/wasm has made it."""
+    return os.path.join(ROOT, "out", "wasm", "proved.wasm" if is_proved else "gossipmpi.wasm")
+
+
 def version():
     return re.search(r'\.version\("([\d.]+)"\)', text_of("crates", "mpx_words", "src", "program.rt"))[1]
 

@@ -106,7 +106,9 @@ function showFar() {
 // Runs the script by the options, and shows what comes of it; from this turn on, where one is named. A trace that is too long for a page isn't asked for.
 async function run(turn) {
   if (!runner) return;
-  const script = editor.text, given = options(), words = wordsOf(given), memory = Math.min(4000, Math.max(1, Number(given.memory) || 1024)), mine = ++runs.count;
+  const script = editor.text, given = options(), words = wordsOf(given), memory = Number(given.memory || USUAL.memory);
+  if (!(memory >= 1 && memory <= 4000)) return say("Memory is a number from 1 to 4000, in MB.", true);
+  const mine = ++runs.count;
   let came = null, hasTrace = given.command === "run";
   for (const more of hasTrace ? [["--trace", "--workers", "1"], ["--workers", "1"]] : [[]]) {
     setRunning(true);
