@@ -9,7 +9,7 @@ import time
 
 NAMES = ["chromium", "chromium-browser", "google-chrome", "google-chrome-stable"]
 CODES = {"Tab": 9, "Enter": 13, "Escape": 27, " ": 32, "PageUp": 33, "PageDown": 34, "End": 35, "Home": 36}
-CODES.update({"ArrowLeft": 37, "ArrowUp": 38, "ArrowRight": 39, "ArrowDown": 40})
+CODES.update({"ArrowLeft": 37, "ArrowUp": 38, "ArrowRight": 39, "ArrowDown": 40, "F8": 119})
 OPTIONS = ["--headless=new", "--no-sandbox", "--disable-gpu", "--no-first-run", "--hide-scrollbars", "--remote-debugging-pipe"]
 
 
@@ -79,7 +79,7 @@ class Browser:
             self.errors.append(words["entry"]["text"])
         elif came.get("method") == "Runtime.consoleAPICalled" and words["type"] in ("error", "warning", "assert"):
             self.errors.append("console: %s" % words["args"])
-        elif came.get("method") == "Network.requestWillBeSent" and not words["request"]["url"].startswith(("file:", "about:", "data:")):
+        elif came.get("method") == "Network.requestWillBeSent" and not words["request"]["url"].startswith(("file:", "about:", "data:", "blob:")):
             self.errors.append("asks for " + words["request"]["url"])
 
     def open(self, path, wide=1280, high=900, dark=False):
@@ -102,9 +102,11 @@ class Browser:
         return came["result"].get("value")
 
     def press(self, *keys):
+        """Presses keys, as "Home" or "Control+Enter"."""
         for key in keys:
+            held, _, key = key.rpartition("+")
             name = "Space" if key == " " else key
-            words = {"key": key, "code": name, "windowsVirtualKeyCode": CODES[key]}
+            words = {"key": key, "code": name, "windowsVirtualKeyCode": CODES[key], "modifiers": 2 if held else 0}
             text = {"text": " "} if key == " " else {"text": "\r"} if key == "Enter" else {}
             self.ask("Input.dispatchKeyEvent", type="keyDown", **words, **text)
             self.ask("Input.dispatchKeyEvent", type="keyUp", **words)

@@ -9,7 +9,8 @@ HERE = os.path.dirname(os.path.abspath(__file__))
 # The data of a run, which draws nothing; what draws it; and the page.
 DATA = ["sets.js", "read.js", "script.js", "members.js", "run.js", "waits.js"]
 DRAWING = ["words.js", "canvas.js", "ring.js", "tables.js", "view.js"]
-SCRIPTS = DATA + DRAWING + ["page.js"]
+SCRIPTS = DATA + DRAWING + ["frame.js", "page.js"]
+
 
 def part(name):
     with open(os.path.join(HERE, "web", name), encoding="utf-8") as file:

@@ -1,7 +1,7 @@
 "use strict";
 // The view of a run: which turn is shown, the controls, and the keys. It fills the parts of view.html, on whichever page they are:
 //   const view = new View(document); view.open(runOf({ events, script }));
-// `open` may be called again, with another run. `onTurn` is called with each turn that is shown.
+// `open` may be called again, with another run, and `close` with none. `onTurn` is called with each turn that is shown.
 
 class View {
   constructor(root, onTurn = () => {}) {
@@ -19,6 +19,12 @@ class View {
     Object.assign(this, { run, process: -1, call: -1, chosen: "" });
     this.fill();
     this.goTo(turn);
+  }
+
+  // Shows no run any more.
+  close() {
+    if (this.timer) this.play(false);
+    this.run = null;
   }
 
   layout() {
