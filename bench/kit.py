@@ -1,5 +1,6 @@
 """The toolchain's own Python, as bench/prove and bench/wrong.py use it: the crates of this repository with the words of a check, and what `rt ci` kept.
 A toolchain whose `rt ci` keeps nothing (rattle-kit-13b) is served too: there only what bench/prove built itself is taken."""
+import concurrent.futures
 import importlib.machinery
 import importlib.util
 import json
@@ -124,14 +125,20 @@ class Kit:
         """Runs the checker on the crate, or on a copy of it in another folder."""
         return subprocess.run([self.lib.RATTLE, *words], cwd=folder or crate.folder, **how)
 
-    def build(self, crate, to):
-        """Proves a program or a static library over libraries that `rt ci` kept, once they are taken, and compiles it: an object, or an archive. Gives the names of
-        the libraries that weren't kept; then nothing is built."""
-        lacking = [it.name for it in crate.below() if not text_of(f"{it.folder}/out/rlib/kept")]
-        if lacking:
-            return lacking
-        # (its first call sets a signal's handler, which only the main thread may)
-        self.lib.guarded()
+    def build(self, made, lanes=1):
+        """Proves programs and static libraries over libraries that `rt ci` kept, once they are taken, and compiles them, some side by side: `made` has of each name
+        the object, or the archive. Gives the names of the libraries that weren't kept; then nothing is built."""
+        crates = [self.crates[name] for name in made]
+        lacking = {it.name for crate in crates for it in crate.below() if not text_of(f"{it.folder}/out/rlib/kept")}
+        if not lacking:
+            # (its first call sets a signal's handler, which only the main thread may)
+            self.lib.guarded()
+            with concurrent.futures.ThreadPoolExecutor(lanes) as pool:
+                list(pool.map(lambda crate: self.compile(crate, made[crate.name]), crates))
+        return sorted(lacking)
+
+    def compile(self, crate, to):
+        """Has one of them proved and compiled; the verdict's line goes to the standard error."""
         with tempfile.TemporaryFile("w+") as crate.out:
             words = [*crate.words(["--jobs", "1"], keeps=False), "--toolchain", f"{self.rt.KIT}/toolchain", "--backend", "llvm", "-o", str(to)]
             status = crate.prove(["build", *words])
@@ -140,7 +147,6 @@ class Kit:
         if status:
             sys.exit(f"{said}\n{crate.name} isn't proved over what was kept")
         print(f"{crate.name}: {said.splitlines()[-1]}", file=sys.stderr, flush=True)
-        return []
 
     def compiles(self, crate, folder):
         """What the checker says before any proof of this copy of the crate; nothing where it compiles."""
