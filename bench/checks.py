@@ -1,7 +1,7 @@
 #!/usr/bin/env python3
 """Runs the checks of the repository that need no proof and no MPI, side by side, and counts them. `.ci/run` runs the gate first, and then these.
 
-    bench/checks.py                    all checks: some 15 minutes of one processor, of which a third builds three programs and the library unproved
+    bench/checks.py                    all checks: some 17 minutes of one processor, of which a third builds three programs and the library unproved
     bench/checks.py --only NAME..      these, and what builds the programs for them
     bench/checks.py --list             each check with its command, the tools that it needs, and its time limit
     bench/checks.py --gate [COMMAND]   the gate first: bench/gate.py, or this command in its place
