@@ -1,0 +1,7 @@
+-- The numbers of pairs (MPI 4.1, section 6.9.4).
+use Rattle.std.specs.Prelude.{ℤ, List, [], ◌∷◌}
+
+-- of each pair its value and then its index
+abbrev pub pair_numbers : List (ℤ × ℤ) → List ℤ
+pair_numbers [] = []
+pair_numbers (pair ∷ pairs) = pair.0 ∷ pair.1 ∷ pair_numbers pairs

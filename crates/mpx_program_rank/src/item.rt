@@ -1,0 +1,232 @@
+//! The types of items, by which a call knows MPI's type of its slice.
+ghost use Rattle.std.specs.Prelude.{◌≡◌, IfOk, List, ℤ, map};
+ghost use Rattle.mpx_num.specs.declared.types.Ty.{Ty as TyView};
+
+use mpx_num::{Integer, IntegersError, Numbers, Ty, integers_in};
+use std::alloc::{AllocError, Global};
+
+/// A type of items: an integer, or a pair of a value and its index (MPI 4.1, sections 3.2.2 and 6.9.4).
+pub trait Item: Copy {
+    /// The numbers that a list of them is, in its order, of a pair both.
+    ghost numbers: { List Self → List ℤ };
+
+    /// MPI's type of them.
+    ghost ty: { TyView };
+
+    /// MPI's type of them.
+    fn item_type() -> Ty
+        ensures { result ≡ ty };
+
+    /// The numbers of a list of them.
+    fn numbers_of(alloc: Global, list: &[Self]) -> Result<Numbers, AllocError>
+        ensures { IfOk result (λ given. given ≡ numbers list.now) };
+
+    /// The list of them that has these numbers.
+    fn list_of(alloc: Global, given: &[i128]) -> Result<Vec<Self>, IntegersError>
+        ensures { IfOk result (λ list. numbers list.items ≡ given.now) };
+}
+
+impl Item for i8 {
+    ghost use Rattle.mpx_num.specs.declared.types.Ty.TheVariants.{I8};
+
+    ghost numbers = { map (⟦<i8 as Integer>⟧.value) };
+
+    ghost ty = { I8 };
+
+    fn item_type() -> Ty {
+        Ty::I8
+    }
+
+    fn numbers_of(alloc: Global, list: &[Self]) -> Result<Numbers, AllocError> {
+        Numbers::from_slice(alloc, list)
+    }
+
+    fn list_of(alloc: Global, given: &[i128]) -> Result<Vec<Self>, IntegersError> {
+        integers_in(alloc, given)
+    }
+}
+
+impl Item for i16 {
+    ghost use Rattle.mpx_num.specs.declared.types.Ty.TheVariants.{I16};
+
+    ghost numbers = { map (⟦<i16 as Integer>⟧.value) };
+
+    ghost ty = { I16 };
+
+    fn item_type() -> Ty {
+        Ty::I16
+    }
+
+    fn numbers_of(alloc: Global, list: &[Self]) -> Result<Numbers, AllocError> {
+        Numbers::from_slice(alloc, list)
+    }
+
+    fn list_of(alloc: Global, given: &[i128]) -> Result<Vec<Self>, IntegersError> {
+        integers_in(alloc, given)
+    }
+}
+
+impl Item for i32 {
+    ghost use Rattle.mpx_num.specs.declared.types.Ty.TheVariants.{I32};
+
+    ghost numbers = { map (⟦<i32 as Integer>⟧.value) };
+
+    ghost ty = { I32 };
+
+    fn item_type() -> Ty {
+        Ty::I32
+    }
+
+    fn numbers_of(alloc: Global, list: &[Self]) -> Result<Numbers, AllocError> {
+        Numbers::from_slice(alloc, list)
+    }
+
+    fn list_of(alloc: Global, given: &[i128]) -> Result<Vec<Self>, IntegersError> {
+        integers_in(alloc, given)
+    }
+}
+
+impl Item for i64 {
+    ghost use Rattle.mpx_num.specs.declared.types.Ty.TheVariants.{I64};
+
+    ghost numbers = { map (⟦<i64 as Integer>⟧.value) };
+
+    ghost ty = { I64 };
+
+    fn item_type() -> Ty {
+        Ty::I64
+    }
+
+    fn numbers_of(alloc: Global, list: &[Self]) -> Result<Numbers, AllocError> {
+        Numbers::from_slice(alloc, list)
+    }
+
+    fn list_of(alloc: Global, given: &[i128]) -> Result<Vec<Self>, IntegersError> {
+        integers_in(alloc, given)
+    }
+}
+
+impl Item for u8 {
+    ghost use Rattle.mpx_num.specs.declared.types.Ty.TheVariants.{U8};
+
+    ghost numbers = { map (⟦<u8 as Integer>⟧.value) };
+
+    ghost ty = { U8 };
+
+    fn item_type() -> Ty {
+        Ty::U8
+    }
+
+    fn numbers_of(alloc: Global, list: &[Self]) -> Result<Numbers, AllocError> {
+        Numbers::from_slice(alloc, list)
+    }
+
+    fn list_of(alloc: Global, given: &[i128]) -> Result<Vec<Self>, IntegersError> {
+        integers_in(alloc, given)
+    }
+}
+
+impl Item for u16 {
+    ghost use Rattle.mpx_num.specs.declared.types.Ty.TheVariants.{U16};
+
+    ghost numbers = { map (⟦<u16 as Integer>⟧.value) };
+
+    ghost ty = { U16 };
+
+    fn item_type() -> Ty {
+        Ty::U16
+    }
+
+    fn numbers_of(alloc: Global, list: &[Self]) -> Result<Numbers, AllocError> {
+        Numbers::from_slice(alloc, list)
+    }
+
+    fn list_of(alloc: Global, given: &[i128]) -> Result<Vec<Self>, IntegersError> {
+        integers_in(alloc, given)
+    }
+}
+
+impl Item for u32 {
+    ghost use Rattle.mpx_num.specs.declared.types.Ty.TheVariants.{U32};
+
+    ghost numbers = { map (⟦<u32 as Integer>⟧.value) };
+
+    ghost ty = { U32 };
+
+    fn item_type() -> Ty {
+        Ty::U32
+    }
+
+    fn numbers_of(alloc: Global, list: &[Self]) -> Result<Numbers, AllocError> {
+        Numbers::from_slice(alloc, list)
+    }
+
+    fn list_of(alloc: Global, given: &[i128]) -> Result<Vec<Self>, IntegersError> {
+        integers_in(alloc, given)
+    }
+}
+
+impl Item for u64 {
+    ghost use Rattle.mpx_num.specs.declared.types.Ty.TheVariants.{U64};
+
+    ghost numbers = { map (⟦<u64 as Integer>⟧.value) };
+
+    ghost ty = { U64 };
+
+    fn item_type() -> Ty {
+        Ty::U64
+    }
+
+    fn numbers_of(alloc: Global, list: &[Self]) -> Result<Numbers, AllocError> {
+        Numbers::from_slice(alloc, list)
+    }
+
+    fn list_of(alloc: Global, given: &[i128]) -> Result<Vec<Self>, IntegersError> {
+        integers_in(alloc, given)
+    }
+}
+
+impl Item for (i32, i32) {
+    ghost use Rattle.mpx_num.specs.declared.types.Ty.TheVariants.{TwoInt};
+    ghost use Rattle.mpx_program_rank.specs.PairNumbers.{pair_numbers};
+
+    ghost numbers = { pair_numbers };
+
+    ghost ty = { TwoInt };
+
+    fn item_type() -> Ty {
+        Ty::TwoInt
+    }
+
+    fn numbers_of(alloc: Global, list: &[Self]) -> Result<Numbers, AllocError> {
+        let mut numbers = Vec::new(alloc);
+        for &(value, index) in list {
+            numbers.push(i128::from(value))?;
+            numbers.push(i128::from(index))?;
+        }
+        Numbers::new(alloc, numbers)
+    }
+
+    fn list_of(alloc: Global, given: &[i128]) -> Result<Vec<Self>, IntegersError> {
+        let mut list = Vec::new(alloc);
+        let mut first = None;
+        for &number in given {
+            let Ok(number) = i32::try_from(number) else {
+                return Err(IntegersError::OutOfRange);
+            };
+            match first {
+                None => first = Some(number),
+                Some(value) => {
+                    if list.push((value, number)).is_err() {
+                        return Err(IntegersError::OutOfMemory);
+                    }
+                    first = None;
+                }
+            }
+        }
+        match first {
+            None => Ok(list),
+            Some(_) => Err(IntegersError::OutOfRange),
+        }
+    }
+}
