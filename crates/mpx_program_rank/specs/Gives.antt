@@ -1,5 +1,5 @@
 -- What a rank's call answers, of what its desk answers.
-use Rattle.std.specs.Prelude.{◌≡◌, ℕ, ℤ, ◌⊎◌, List, Option, Some, None, Result, Ok, Err, IsOk, Vec}
+use Rattle.std.specs.Prelude.{◌≡◌, ◌≢◌, ◌==◌, if◌then◌else◌, ℕ, ℤ, ◌⊎◌, List, [], ◌∷◌, length, Option, Some, None, Result, Ok, Err, IsOk, Vec}
 use Rattle.std.specs.declared.alloc.Global.{Global}
 use Rattle.mpx_match.specs.declared.faults.Fault.{Fault as FaultView}
 use Rattle.mpx_name.specs.Name.{Name}
@@ -54,6 +54,21 @@ IsRead numbers (Ok finished) (Err e) = IsUnread (numbers_given finished.outcome)
 IsRead numbers (Err why) (Ok list) = ⊥
 IsRead numbers (Err why) (Err e) = desk_error e.cause ≡ Some why
 
+-- a list isn't of one item, and that is the cause
+abbrev pub IsNotOne : {T : Type 0} → List T → Cause → Type 0
+IsNotOne list cause = (length list ≢ 1) × (cause ≡ NotOne (length list))
+
+-- the one item of just the numbers that the call gave this rank; or why there is none
+abbrev pub IsOne : {T : Type 0} → (numbers : List T → List ℤ) → Result Finished DeskError → Result T CallError → Type 0
+IsOne numbers (Ok finished) (Ok item) = numbers_given finished.outcome ≡ Ok (numbers (item ∷ []))
+IsOne {T} numbers (Ok finished) (Err e) = IsUnread (numbers_given finished.outcome) e.cause ⊎ ((list : List T) × (numbers_given finished.outcome ≡ Ok (numbers list)) × IsNotOne list e.cause)
+IsOne numbers (Err why) (Ok item) = ⊥
+IsOne numbers (Err why) (Err e) = desk_error e.cause ≡ Some why
+
+-- the item at the root, and none elsewhere
+abbrev pub own_item : {T : Type 0} → (rank root : ℕ) → T → List T
+own_item rank root item = if rank == root then item ∷ [] else []
+
 -- the call is done, and no fault
 abbrev pub IsDone : Result Finished DeskError → Result (Unit {0}) CallError → Type 0
 IsDone (Ok finished) (Ok u) = IsOk (numbers_given finished.outcome)
@@ -103,3 +118,10 @@ Starts {H} {g} ops node turned refused name draft request_of (Ok pending) old ne
     × turned old.host 0 between.host × TurnsOnce turned refused made between new
 Starts ops node turned refused name draft request_of (Err e) old new =
     IsNotMade (Err e) old new ⊎ ((refusal : PostError) × DeskAsks ops node name draft (Err refusal) old new × turned old.host 0 new.host × (desk_error e.cause ≡ Some (C.Refused refusal)))
+
+-- what is answered where the desk has posted so: the request, after one turn; or the refusal
+abbrev pub IsStarted : {H : Type 0} {g : _} {A : Type 0} → (turned : H → ℕ → H → Type 0) → (refused : H → TurnError → H → Type 0) → (request_of : A → Request) → Result Request PostError → Result A CallError → (old new : Desk H g) → Type 0
+IsStarted turned refused request_of (Ok request) (Ok pending) old new = (request_of pending ≡ request) × ((made : Result (Unit {0}) TurnError) × TurnsOnce turned refused made old new)
+IsStarted turned refused request_of (Ok request) (Err e) old new = ⊥
+IsStarted turned refused request_of (Err refusal) (Ok pending) old new = ⊥
+IsStarted turned refused request_of (Err refusal) (Err e) old new = (new ≡ old) × (desk_error e.cause ≡ Some (C.Refused refusal))

@@ -1,3 +1,4 @@
 pub mod Gives
-pub mod PairNumbers
+pub mod Lengths
+pub mod Pairs
 pub mod Waiting

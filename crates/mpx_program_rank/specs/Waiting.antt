@@ -78,7 +78,7 @@ IsAny turn (Err none) (Err e) = e.cause ≡ OutOfMemory
 IsAny turn answer result = ⊥
 
 -- one turn, and then a test of all open calls
-abbrev pub AnyGives : {H : Type 0} {g : _} → List Operation → (node : H → NodeView) → (turned : H → ℕ → H → Type 0) → (refused : H → TurnError → H → Type 0) → Result (Option Done) CallError → (old new : Desk H g) → Type 0
-AnyGives {H} {g} ops node turned refused result old new =
+abbrev pub AnyGives : {H : Type 0} {g : _} → (ops_of : H → List Operation) → (node : H → NodeView) → (turned : H → ℕ → H → Type 0) → (refused : H → TurnError → H → Type 0) → Result (Option Done) CallError → (old new : Desk H g) → Type 0
+AnyGives {H} {g} ops_of node turned refused result old new =
     (between : Desk H g) × (turn : Result (Unit {0}) TurnError) × (answer : Result (Option (Request × Finished)) NoMemoryView) × TurnsOnce turned refused turn old between
-    × turned between.host 0 new.host × TestsAny ops answer (node between.host) (node new.host) between.requests.keys new.requests.keys × IsAny turn answer result
+    × turned between.host 0 new.host × TestsAny (ops_of between.host) answer (node between.host) (node new.host) between.requests.keys new.requests.keys × IsAny turn answer result

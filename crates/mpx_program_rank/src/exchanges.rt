@@ -1,7 +1,8 @@
 //! The calls by which every rank gets items of all.
-ghost use Rattle.std.specs.Prelude.{◌≡◌, map, pos};
+ghost use Rattle.std.specs.Prelude.{◌≡◌, ◌≤◌, length, map, pos};
 ghost use Rattle.mpx_kind.specs.declared.kinds.Mode.TheVariants.{Blocking, Nonblocking};
 ghost use Rattle.mpx_comm.specs.Lines as line;
+ghost use Rattle.mpx_program_rank.specs.Lengths.{block_of};
 ghost use Rattle.mpx_program_rank.specs.Gives.{Gives, IsRead, Starts};
 
 use crate::call_error::CallError;
@@ -10,12 +11,24 @@ use crate::pending::Pending;
 use crate::rank::Rank;
 use crate::reading::Made;
 use mpx_comm::{Comm, Host};
-use mpx_num::{Listing, Ops};
+use mpx_num::{Listing, MOST_ITEMS, Ops};
 
 /// Each call is the one of [`Desk`](crate::Desk) with its name; what members give and get is told there.
 impl<'a, H: Host> Rank<'a, H> {
     /// `MPI_ALLGATHER`: every rank gets what all ranks give, in rank order.
     pub fn allgather<T: Item>(&mut self, comm: &Comm, items: &[T]) -> Result<Vec<T>, CallError>
+        ensures gives { length items.now ≤ 4096 → Gives (H.goes_by self.old.desk.now.host (⟦<Ops as Listing>⟧.operations self.old.ops.now)) H.node H.turned H.turn_refused comm.now.name (line.allgather Blocking T.ty (T.numbers items.now)) self.old.turns (IsRead T.numbers) result self.old.desk.now self.new.desk.now }
+        ensures same { self.new.desk.ghost_name ≡ self.old.desk.ghost_name }
+        ensures kept { (self.new.world ≡ self.old.world) × (self.new.ops ≡ self.old.ops) × (self.new.turns ≡ self.old.turns) }
+    {
+        if items.len() <= MOST_ITEMS {
+            return self.one_allgather(comm, items);
+        }
+        self.long_allgather(comm, items)
+    }
+
+    // [`Rank::allgather`] in one call.
+    pub(crate) fn one_allgather<T: Item>(&mut self, comm: &Comm, items: &[T]) -> Result<Vec<T>, CallError>
         ensures gives { Gives (H.goes_by self.old.desk.now.host (⟦<Ops as Listing>⟧.operations self.old.ops.now)) H.node H.turned H.turn_refused comm.now.name (line.allgather Blocking T.ty (T.numbers items.now)) self.old.turns (IsRead T.numbers) result self.old.desk.now self.new.desk.now }
         ensures same { self.new.desk.ghost_name ≡ self.old.desk.ghost_name }
         ensures kept { (self.new.world ≡ self.old.world) × (self.new.ops ≡ self.old.ops) × (self.new.turns ≡ self.old.turns) }
@@ -80,6 +93,23 @@ impl<'a, H: Host> Rank<'a, H> {
 
     /// `MPI_ALLTOALL`: every rank gives a block of `count` items for each one, and gets its block of each.
     pub fn alltoall<T: Item>(
+        &mut self,
+        comm: &Comm,
+        count: usize,
+        items: &[T],
+    ) -> Result<Vec<T>, CallError>
+        ensures gives { count ≤ block_of comm.now.size → Gives (H.goes_by self.old.desk.now.host (⟦<Ops as Listing>⟧.operations self.old.ops.now)) H.node H.turned H.turn_refused comm.now.name (line.alltoall Blocking T.ty (pos count) (T.numbers items.now)) self.old.turns (IsRead T.numbers) result self.old.desk.now self.new.desk.now }
+        ensures same { self.new.desk.ghost_name ≡ self.old.desk.ghost_name }
+        ensures kept { (self.new.world ≡ self.old.world) × (self.new.ops ≡ self.old.ops) × (self.new.turns ≡ self.old.turns) }
+    {
+        if count <= self.block(comm) {
+            return self.one_alltoall(comm, count, items);
+        }
+        self.long_alltoall(comm, count, items)
+    }
+
+    // [`Rank::alltoall`] in one call.
+    pub(crate) fn one_alltoall<T: Item>(
         &mut self,
         comm: &Comm,
         count: usize,

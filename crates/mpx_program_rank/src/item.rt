@@ -1,6 +1,7 @@
 //! The types of items, by which a call knows MPI's type of its slice.
 ghost use Rattle.std.specs.Prelude.{◌≡◌, IfOk, List, ℤ, map};
 ghost use Rattle.mpx_num.specs.declared.types.Ty.{Ty as TyView};
+ghost use Rattle.mpx_program_rank.specs.Pairs.{both_numbers};
 
 use mpx_num::{Integer, IntegersError, Numbers, Ty, integers_in};
 use std::alloc::{AllocError, Global};
@@ -188,9 +189,8 @@ impl Item for u64 {
 
 impl Item for (i32, i32) {
     ghost use Rattle.mpx_num.specs.declared.types.Ty.TheVariants.{TwoInt};
-    ghost use Rattle.mpx_program_rank.specs.PairNumbers.{pair_numbers};
 
-    ghost numbers = { pair_numbers };
+    ghost numbers = { λ pairs. map (⟦<i32 as Integer>⟧.value) (both_numbers pairs) };
 
     ghost ty = { TwoInt };
 
@@ -199,34 +199,41 @@ impl Item for (i32, i32) {
     }
 
     fn numbers_of(alloc: Global, list: &[Self]) -> Result<Numbers, AllocError> {
-        let mut numbers = Vec::new(alloc);
-        for &(value, index) in list {
-            numbers.push(i128::from(value))?;
-            numbers.push(i128::from(index))?;
-        }
-        Numbers::new(alloc, numbers)
+        let both = both_of(alloc, list)?;
+        Numbers::from_slice(alloc, &both)
     }
 
     fn list_of(alloc: Global, given: &[i128]) -> Result<Vec<Self>, IntegersError> {
-        let mut list = Vec::new(alloc);
-        let mut first = None;
-        for &number in given {
-            let Ok(number) = i32::try_from(number) else {
-                return Err(IntegersError::OutOfRange);
-            };
-            match first {
-                None => first = Some(number),
-                Some(value) => {
-                    if list.push((value, number)).is_err() {
-                        return Err(IntegersError::OutOfMemory);
-                    }
-                    first = None;
-                }
-            }
-        }
-        match first {
-            None => Ok(list),
-            Some(_) => Err(IntegersError::OutOfRange),
+        let both = integers_in(alloc, given)?;
+        pairs_of(alloc, &both)
+    }
+}
+
+// Both numbers of each pair.
+fn both_of(alloc: Global, pairs: &[(i32, i32)]) -> Result<Vec<i32>, AllocError>
+    ensures { IfOk result (λ both. both.items ≡ both_numbers pairs.now) }
+{
+    let mut both = Vec::new(alloc);
+    for pair in pairs {
+        both.push(pair.0)?;
+        both.push(pair.1)?;
+    }
+    Ok(both)
+}
+
+// The pairs of these numbers.
+fn pairs_of(alloc: Global, both: &[i32]) -> Result<Vec<(i32, i32)>, IntegersError>
+    ensures { IfOk result (λ pairs. both_numbers pairs.items ≡ both.now) }
+{
+    if both.len() % 2 == 1 {
+        return Err(IntegersError::OutOfRange);
+    }
+    let mut pairs = Vec::new(alloc);
+    for i in 0..both.len() / 2 {
+        let pair = (both[2 * i], both[2 * i + 1]);
+        if pairs.push(pair).is_err() {
+            return Err(IntegersError::OutOfMemory);
         }
     }
+    Ok(pairs)
 }

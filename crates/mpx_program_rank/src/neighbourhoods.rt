@@ -1,5 +1,5 @@
 //! The calls along the edges of a communicator's graph.
-ghost use Rattle.std.specs.Prelude.{◌≡◌, map, pos};
+ghost use Rattle.std.specs.Prelude.{◌≡◌, ◌≤◌, length, map, pos};
 ghost use Rattle.mpx_kind.specs.declared.kinds.Mode.TheVariants.{Blocking, Nonblocking};
 ghost use Rattle.mpx_comm.specs.Lines as line;
 ghost use Rattle.mpx_program_rank.specs.Gives.{Gives, IsRead, Starts};

@@ -1,5 +1,8 @@
 //! Requests of calls that don't block: each knows the type of its items.
-ghost use Rattle.std.specs.Prelude.{◌≡◌};
+ghost use Rattle.std.specs.Prelude.{◌≡◌, IfErr, IfOk, Ok, Some};
+ghost use Rattle.mpx_comm.specs.Given.{numbers_given};
+ghost use Rattle.mpx_program_rank.specs.Gives.{IsStarted, IsUnread};
+ghost use Rattle.mpx_program_rank.specs.Waiting.{AnyGives, IsTested, IsWaited, TestGives, WaitGives, turn_error, wait_error};
 
 use crate::call_error::{CallError, Cause};
 use crate::called::{Awaited, Called};
@@ -9,6 +12,7 @@ use crate::reading::{Made, list_in};
 use mpx_comm::{Host, Request, Tested, TurnError, WaitError};
 use mpx_name::Name;
 use mpx_node::Finished;
+use mpx_num::{Listing, Ops};
 use mpx_post::PostError;
 use std::alloc::{AllocFailed, Global};
 use std::marker::PhantomData;
@@ -45,7 +49,11 @@ impl Done {
 
 impl<'a, H: Host> Rank<'a, H> {
     /// Waits for what the call gives (`MPI_WAIT`), at most the rank's turns. An `Err` has the request, where it isn't done.
-    pub fn wait<T: Item>(&mut self, pending: Pending<T>) -> Result<Vec<T>, CallError> {
+    pub fn wait<T: Item>(&mut self, pending: Pending<T>) -> Result<Vec<T>, CallError>
+        ensures gives { WaitGives H.node H.turned H.turn_refused pending.request self.old.turns (IsWaited T.numbers) result self.old.desk.now self.new.desk.now }
+        ensures same { self.new.desk.ghost_name ≡ self.old.desk.ghost_name }
+        ensures kept { (self.new.world ≡ self.old.world) × (self.new.ops ≡ self.old.ops) × (self.new.turns ≡ self.old.turns) }
+    {
         let Pending {
             request,
             name,
@@ -62,7 +70,11 @@ impl<'a, H: Host> Rank<'a, H> {
     pub fn test<T: Item>(
         &mut self,
         pending: Pending<T>,
-    ) -> Result<Tested<Vec<T>, Pending<T>>, CallError> {
+    ) -> Result<Tested<Vec<T>, Pending<T>>, CallError>
+        ensures gives { TestGives H.node H.turned H.turn_refused pending.request (IsTested T.numbers (λ again. again.request)) result self.old.desk.now self.new.desk.now }
+        ensures same { self.new.desk.ghost_name ≡ self.old.desk.ghost_name }
+        ensures kept { (self.new.world ≡ self.old.world) × (self.new.ops ≡ self.old.ops) × (self.new.turns ≡ self.old.turns) }
+    {
         let Pending {
             request,
             name,
@@ -71,7 +83,10 @@ impl<'a, H: Host> Rank<'a, H> {
         let called = self.called(name, request.name(), request.call());
         let turned = self.desk.turn(self.alloc, 1);
         match self.desk.test(self.alloc, request, self.ops) {
-            Ok(Tested::Done(finished)) => Ok(Tested::Done(read(self.alloc, called, finished)?)),
+            Ok(Tested::Done(finished)) => match read(self.alloc, called, finished) {
+                Ok(list) => Ok(Tested::Done(list)),
+                Err(e) => Err(e),
+            },
             Ok(Tested::NotYet(request)) => match turned {
                 Ok(()) => Ok(Tested::NotYet(Pending {
                     request,
@@ -86,7 +101,11 @@ impl<'a, H: Host> Rank<'a, H> {
     }
 
     /// Makes a turn, and gives the first open call in order of posting that is done (`MPI_TESTANY`), or none.
-    pub fn testany(&mut self) -> Result<Option<Done>, CallError> {
+    pub fn testany(&mut self) -> Result<Option<Done>, CallError>
+        ensures gives { AnyGives (λ host. H.goes_by host (⟦<Ops as Listing>⟧.operations self.old.ops.now)) H.node H.turned H.turn_refused result self.old.desk.now self.new.desk.now }
+        ensures same { self.new.desk.ghost_name ≡ self.old.desk.ghost_name }
+        ensures kept { (self.new.world ≡ self.old.world) × (self.new.ops ≡ self.old.ops) × (self.new.turns ≡ self.old.turns) }
+    {
         let turned = self.desk.turn(self.alloc, 1);
         match self.desk.testany(self.alloc, self.ops) {
             Ok(Some((request, finished))) => Ok(Some(Done { request, finished })),
@@ -120,7 +139,11 @@ impl<'a, H: Host> Rank<'a, H> {
         &mut self,
         made: Made<'_>,
         posted: Result<Request, PostError>,
-    ) -> Result<Pending<T>, CallError> {
+    ) -> Result<Pending<T>, CallError>
+        ensures starts { IsStarted H.turned H.turn_refused (λ pending. pending.request) posted result self.old.desk.now self.new.desk.now }
+        ensures same { self.new.desk.ghost_name ≡ self.old.desk.ghost_name }
+        ensures kept { (self.new.world ≡ self.old.world) × (self.new.ops ≡ self.old.ops) × (self.new.turns ≡ self.old.turns) }
+    {
         match posted {
             Ok(request) => {
                 let _turned = self.desk.turn(self.alloc, 1);
@@ -144,7 +167,9 @@ impl<'a, H: Host> Rank<'a, H> {
     }
 
     // Why a wait ended without a result.
-    fn waited(&self, why: WaitError<Request>) -> Cause {
+    fn waited(&self, why: WaitError<Request>) -> Cause
+        ensures { wait_error result ≡ Some why }
+    {
         match why {
             WaitError::StillWaiting(request) => {
                 let awaited = self.awaited(&request);
@@ -173,7 +198,9 @@ impl<'a, H: Host> Rank<'a, H> {
 }
 
 // Why a turn was refused, beside which this request isn't done.
-fn cause_of(why: TurnError, request: Option<Request>) -> Cause {
+fn cause_of(why: TurnError, request: Option<Request>) -> Cause
+    ensures { turn_error result ≡ Some why }
+{
     match why {
         TurnError::OutOfMemory => Cause::NoMemory(request),
         TurnError::GaveUp(rank) => Cause::GaveUp(request, rank),
@@ -181,7 +208,10 @@ fn cause_of(why: TurnError, request: Option<Request>) -> Cause {
 }
 
 // The items that a call gave.
-fn read<T: Item>(alloc: Global, called: Called, finished: Finished) -> Result<Vec<T>, CallError> {
+fn read<T: Item>(alloc: Global, called: Called, finished: Finished) -> Result<Vec<T>, CallError>
+    ensures list { IfOk result (λ list. numbers_given finished.outcome ≡ Ok (T.numbers list.items)) }
+    ensures none { IfErr result (λ e. IsUnread (numbers_given finished.outcome) e.cause) }
+{
     let list = list_in(alloc, &finished);
     drop(finished);
     match list {

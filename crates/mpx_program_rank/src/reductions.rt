@@ -1,5 +1,5 @@
 //! The calls that combine items.
-ghost use Rattle.std.specs.Prelude.{◌≡◌, map, pos};
+ghost use Rattle.std.specs.Prelude.{◌≡◌, ◌≤◌, length, map, pos};
 ghost use Rattle.mpx_kind.specs.declared.kinds.Mode.TheVariants.{Blocking, Nonblocking};
 ghost use Rattle.mpx_comm.specs.Lines as line;
 ghost use Rattle.mpx_program_rank.specs.Gives.{Gives, IsRead, Starts};
@@ -10,12 +10,30 @@ use crate::pending::Pending;
 use crate::rank::Rank;
 use crate::reading::Made;
 use mpx_comm::{Comm, Host};
-use mpx_num::{Listing, Op, Ops};
+use mpx_num::{Listing, MOST_ITEMS, Op, Ops};
 
 /// Each call is the one of [`Desk`](crate::Desk) with its name; what members give and get is told there.
 impl<'a, H: Host> Rank<'a, H> {
     /// `MPI_REDUCE`: the root gets the reduction of what all ranks give, item by item, and the others nothing.
     pub fn reduce<T: Item>(
+        &mut self,
+        comm: &Comm,
+        root: u8,
+        op: Op,
+        items: &[T],
+    ) -> Result<Vec<T>, CallError>
+        ensures gives { length items.now ≤ 4096 → Gives (H.goes_by self.old.desk.now.host (⟦<Ops as Listing>⟧.operations self.old.ops.now)) H.node H.turned H.turn_refused comm.now.name (line.reduce Blocking (pos root) op T.ty (T.numbers items.now)) self.old.turns (IsRead T.numbers) result self.old.desk.now self.new.desk.now }
+        ensures same { self.new.desk.ghost_name ≡ self.old.desk.ghost_name }
+        ensures kept { (self.new.world ≡ self.old.world) × (self.new.ops ≡ self.old.ops) × (self.new.turns ≡ self.old.turns) }
+    {
+        if items.len() <= MOST_ITEMS {
+            return self.one_reduce(comm, root, op, items);
+        }
+        self.long_reduce(comm, root, op, items)
+    }
+
+    // [`Rank::reduce`] in one call.
+    pub(crate) fn one_reduce<T: Item>(
         &mut self,
         comm: &Comm,
         root: u8,
@@ -56,6 +74,23 @@ impl<'a, H: Host> Rank<'a, H> {
 
     /// `MPI_ALLREDUCE`: every rank gets the reduction of what all ranks give, item by item.
     pub fn allreduce<T: Item>(
+        &mut self,
+        comm: &Comm,
+        op: Op,
+        items: &[T],
+    ) -> Result<Vec<T>, CallError>
+        ensures gives { length items.now ≤ 4096 → Gives (H.goes_by self.old.desk.now.host (⟦<Ops as Listing>⟧.operations self.old.ops.now)) H.node H.turned H.turn_refused comm.now.name (line.allreduce Blocking op T.ty (T.numbers items.now)) self.old.turns (IsRead T.numbers) result self.old.desk.now self.new.desk.now }
+        ensures same { self.new.desk.ghost_name ≡ self.old.desk.ghost_name }
+        ensures kept { (self.new.world ≡ self.old.world) × (self.new.ops ≡ self.old.ops) × (self.new.turns ≡ self.old.turns) }
+    {
+        if items.len() <= MOST_ITEMS {
+            return self.one_allreduce(comm, op, items);
+        }
+        self.long_allreduce(comm, op, items)
+    }
+
+    // [`Rank::allreduce`] in one call.
+    pub(crate) fn one_allreduce<T: Item>(
         &mut self,
         comm: &Comm,
         op: Op,
@@ -173,6 +208,23 @@ impl<'a, H: Host> Rank<'a, H> {
 
     /// `MPI_SCAN`: every rank gets the reduction of what the ranks up to its own give, item by item.
     pub fn scan<T: Item>(&mut self, comm: &Comm, op: Op, items: &[T]) -> Result<Vec<T>, CallError>
+        ensures gives { length items.now ≤ 4096 → Gives (H.goes_by self.old.desk.now.host (⟦<Ops as Listing>⟧.operations self.old.ops.now)) H.node H.turned H.turn_refused comm.now.name (line.scan Blocking op T.ty (T.numbers items.now)) self.old.turns (IsRead T.numbers) result self.old.desk.now self.new.desk.now }
+        ensures same { self.new.desk.ghost_name ≡ self.old.desk.ghost_name }
+        ensures kept { (self.new.world ≡ self.old.world) × (self.new.ops ≡ self.old.ops) × (self.new.turns ≡ self.old.turns) }
+    {
+        if items.len() <= MOST_ITEMS {
+            return self.one_scan(comm, op, items);
+        }
+        self.long_scan(comm, op, items)
+    }
+
+    // [`Rank::scan`] in one call.
+    pub(crate) fn one_scan<T: Item>(
+        &mut self,
+        comm: &Comm,
+        op: Op,
+        items: &[T],
+    ) -> Result<Vec<T>, CallError>
         ensures gives { Gives (H.goes_by self.old.desk.now.host (⟦<Ops as Listing>⟧.operations self.old.ops.now)) H.node H.turned H.turn_refused comm.now.name (line.scan Blocking op T.ty (T.numbers items.now)) self.old.turns (IsRead T.numbers) result self.old.desk.now self.new.desk.now }
         ensures same { self.new.desk.ghost_name ≡ self.old.desk.ghost_name }
         ensures kept { (self.new.world ≡ self.old.world) × (self.new.ops ≡ self.old.ops) × (self.new.turns ≡ self.old.turns) }
@@ -203,6 +255,23 @@ impl<'a, H: Host> Rank<'a, H> {
 
     /// `MPI_EXSCAN`: every rank gets the reduction of what the ranks below its own give, item by item, and rank 0 nothing.
     pub fn exscan<T: Item>(&mut self, comm: &Comm, op: Op, items: &[T]) -> Result<Vec<T>, CallError>
+        ensures gives { length items.now ≤ 4096 → Gives (H.goes_by self.old.desk.now.host (⟦<Ops as Listing>⟧.operations self.old.ops.now)) H.node H.turned H.turn_refused comm.now.name (line.exscan Blocking op T.ty (T.numbers items.now)) self.old.turns (IsRead T.numbers) result self.old.desk.now self.new.desk.now }
+        ensures same { self.new.desk.ghost_name ≡ self.old.desk.ghost_name }
+        ensures kept { (self.new.world ≡ self.old.world) × (self.new.ops ≡ self.old.ops) × (self.new.turns ≡ self.old.turns) }
+    {
+        if items.len() <= MOST_ITEMS {
+            return self.one_exscan(comm, op, items);
+        }
+        self.long_exscan(comm, op, items)
+    }
+
+    // [`Rank::exscan`] in one call.
+    pub(crate) fn one_exscan<T: Item>(
+        &mut self,
+        comm: &Comm,
+        op: Op,
+        items: &[T],
+    ) -> Result<Vec<T>, CallError>
         ensures gives { Gives (H.goes_by self.old.desk.now.host (⟦<Ops as Listing>⟧.operations self.old.ops.now)) H.node H.turned H.turn_refused comm.now.name (line.exscan Blocking op T.ty (T.numbers items.now)) self.old.turns (IsRead T.numbers) result self.old.desk.now self.new.desk.now }
         ensures same { self.new.desk.ghost_name ≡ self.old.desk.ghost_name }
         ensures kept { (self.new.world ≡ self.old.world) × (self.new.ops ≡ self.old.ops) × (self.new.turns ≡ self.old.turns) }

@@ -1,7 +1,8 @@
 //! The calls that move items from or to a root, and the barrier.
-ghost use Rattle.std.specs.Prelude.{◌≡◌, map, pos};
+ghost use Rattle.std.specs.Prelude.{◌≡◌, ◌≤◌, length, map, pos};
 ghost use Rattle.mpx_kind.specs.declared.kinds.Mode.TheVariants.{Blocking, Nonblocking};
 ghost use Rattle.mpx_comm.specs.Lines as line;
+ghost use Rattle.mpx_program_rank.specs.Lengths.{block_of};
 ghost use Rattle.mpx_program_rank.specs.Gives.{Gives, IsDone, IsRead, Starts};
 
 use crate::call_error::CallError;
@@ -10,7 +11,7 @@ use crate::pending::Pending;
 use crate::rank::Rank;
 use crate::reading::Made;
 use mpx_comm::{Comm, Host};
-use mpx_num::{Listing, Ops};
+use mpx_num::{Listing, MOST_ITEMS, Ops};
 
 /// Each call is the one of [`Desk`](crate::Desk) with its name; what members give and get is told there.
 impl<'a, H: Host> Rank<'a, H> {
@@ -38,6 +39,24 @@ impl<'a, H: Host> Rank<'a, H> {
 
     /// `MPI_BCAST`: every rank gets the `count` items of the root; the others give none.
     pub fn bcast<T: Item>(
+        &mut self,
+        comm: &Comm,
+        root: u8,
+        count: usize,
+        items: &[T],
+    ) -> Result<Vec<T>, CallError>
+        ensures gives { count ≤ 4096 → Gives (H.goes_by self.old.desk.now.host (⟦<Ops as Listing>⟧.operations self.old.ops.now)) H.node H.turned H.turn_refused comm.now.name (line.bcast Blocking (pos root) T.ty (pos count) (T.numbers items.now)) self.old.turns (IsRead T.numbers) result self.old.desk.now self.new.desk.now }
+        ensures same { self.new.desk.ghost_name ≡ self.old.desk.ghost_name }
+        ensures kept { (self.new.world ≡ self.old.world) × (self.new.ops ≡ self.old.ops) × (self.new.turns ≡ self.old.turns) }
+    {
+        if count <= MOST_ITEMS {
+            return self.one_bcast(comm, root, count, items);
+        }
+        self.long_bcast(comm, root, count, items)
+    }
+
+    // [`Rank::bcast`] in one call.
+    pub(crate) fn one_bcast<T: Item>(
         &mut self,
         comm: &Comm,
         root: u8,
@@ -85,6 +104,23 @@ impl<'a, H: Host> Rank<'a, H> {
 
     /// `MPI_GATHER`: the root gets what all ranks give, in rank order, and the others nothing.
     pub fn gather<T: Item>(
+        &mut self,
+        comm: &Comm,
+        root: u8,
+        items: &[T],
+    ) -> Result<Vec<T>, CallError>
+        ensures gives { length items.now ≤ 4096 → Gives (H.goes_by self.old.desk.now.host (⟦<Ops as Listing>⟧.operations self.old.ops.now)) H.node H.turned H.turn_refused comm.now.name (line.gather Blocking (pos root) T.ty (T.numbers items.now)) self.old.turns (IsRead T.numbers) result self.old.desk.now self.new.desk.now }
+        ensures same { self.new.desk.ghost_name ≡ self.old.desk.ghost_name }
+        ensures kept { (self.new.world ≡ self.old.world) × (self.new.ops ≡ self.old.ops) × (self.new.turns ≡ self.old.turns) }
+    {
+        if items.len() <= MOST_ITEMS {
+            return self.one_gather(comm, root, items);
+        }
+        self.long_gather(comm, root, items)
+    }
+
+    // [`Rank::gather`] in one call.
+    pub(crate) fn one_gather<T: Item>(
         &mut self,
         comm: &Comm,
         root: u8,
@@ -164,6 +200,24 @@ impl<'a, H: Host> Rank<'a, H> {
 
     /// `MPI_SCATTER`: every rank gets its block of `count` items of the root's; the others give none.
     pub fn scatter<T: Item>(
+        &mut self,
+        comm: &Comm,
+        root: u8,
+        count: usize,
+        items: &[T],
+    ) -> Result<Vec<T>, CallError>
+        ensures gives { count ≤ block_of comm.now.size → Gives (H.goes_by self.old.desk.now.host (⟦<Ops as Listing>⟧.operations self.old.ops.now)) H.node H.turned H.turn_refused comm.now.name (line.scatter Blocking (pos root) T.ty (pos count) (T.numbers items.now)) self.old.turns (IsRead T.numbers) result self.old.desk.now self.new.desk.now }
+        ensures same { self.new.desk.ghost_name ≡ self.old.desk.ghost_name }
+        ensures kept { (self.new.world ≡ self.old.world) × (self.new.ops ≡ self.old.ops) × (self.new.turns ≡ self.old.turns) }
+    {
+        if count <= self.block(comm) {
+            return self.one_scatter(comm, root, count, items);
+        }
+        self.long_scatter(comm, root, count, items)
+    }
+
+    // [`Rank::scatter`] in one call.
+    pub(crate) fn one_scatter<T: Item>(
         &mut self,
         comm: &Comm,
         root: u8,

@@ -2,6 +2,6 @@
 use Rattle.std.specs.Prelude.{ℤ, List, [], ◌∷◌}
 
 -- of each pair its value and then its index
-abbrev pub pair_numbers : List (ℤ × ℤ) → List ℤ
-pair_numbers [] = []
-pair_numbers (pair ∷ pairs) = pair.0 ∷ pair.1 ∷ pair_numbers pairs
+abbrev pub both_numbers : List (ℤ × ℤ) → List ℤ
+both_numbers [] = []
+both_numbers (pair ∷ pairs) = pair.0 ∷ pair.1 ∷ both_numbers pairs
