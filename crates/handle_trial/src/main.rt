@@ -3,10 +3,11 @@
 
 use mpx_job::{RankProgram, job, print_answers};
 use mpx_num::{Op, Ops};
-use mpx_program_rank::{CallError, Comm, Host, Rank, Tested};
+use mpx_program_rank::{CallError, Cause, Comm, Host, Rank, Tested};
 use mpx_ranks::RanksError;
 use std::process::ExitCode;
 
+#[derive(Drop)]
 struct Trial {
     wrong: u8,
 }
@@ -26,9 +27,12 @@ impl RankProgram for Trial {
         let (polled, pieces) = polled(rank, world, mine)?;
         let pending = rank.iallgather(world, &[mine])?;
         let later = rank.wait(pending)?;
+        let sum = rank.allreduce_one(world, Op::Sum, mine)?;
+        let cast = rank.bcast_one(world, 1, mine)?;
+        let long = long(rank)?;
         mistakes(rank, world, self.wrong)?;
         let place = (half.rank(), half.size());
-        Ok(format!(in rank.alloc; "{total:?} {all:?} {swapped:?} {best:?} {place:?} {polled:?} {later:?} {}", pieces > 0)?)
+        Ok(format!(in rank.alloc; "{total:?} {all:?} {swapped:?} {best:?} {place:?} {polled:?} {later:?} {sum} {cast} {long:?} {}", pieces > 0)?)
     }
 
     fn turns(&self) -> u64 {
@@ -45,6 +49,31 @@ fn polled<H: Host>(rank: &mut Rank<'_, H>, world: &Comm, mine: i64) -> Result<(V
         }
     }
     Ok((Vec::new(rank.alloc), 1000))
+}
+
+// Calls of more than 4,096 items.
+fn long<H: Host>(rank: &mut Rank<'_, H>) -> Result<Vec<bool>, CallError> {
+    let (world, n) = (rank.world(), u32::from(rank.number()));
+    let mut list = Vec::new(rank.alloc);
+    for i in 0..10_000u32 {
+        list.push(i + n)?;
+    }
+    let mut right = Vec::new(rank.alloc);
+    let sum = rank.allreduce(world, Op::Sum, &list)?;
+    right.push(sum.len() == 10_000 && sum.get(9_999) == Some(&19_999) && sum.get(4_096) == Some(&8_193))?;
+    let most = rank.reduce(world, 1, Op::Max, &list)?;
+    right.push(most.len() == 10_000 * rank.number() as usize && (n == 0 || most.get(9_000) == Some(&9_001)))?;
+    let all = rank.allgather(world, &list)?;
+    right.push(all.len() == 20_000 && all.get(9_999) == Some(&9_999) && all.get(14_096) == Some(&4_097))?;
+    let got = rank.alltoall(world, 5_000, &list)?;
+    right.push(got.len() == 10_000 && got.get(4_999) == Some(&(4_999 + 5_000 * n)) && got.get(5_000) == Some(&(5_000 * n + 1)))?;
+    let mine: &[u32] = if n == 1 { list.get(..9_000).unwrap_or(&[]) } else { &[] };
+    let cast = rank.bcast(world, 1, 9_000, mine)?;
+    right.push(cast.len() == 9_000 && cast.get(8_999) == Some(&9_000))?;
+    let mine: &[u32] = if n == 0 { &list } else { &[] };
+    let part = rank.scatter(world, 0, 5_000, mine)?;
+    right.push(part.len() == 5_000 && part.get(4_500) == Some(&(4_500 + 5_000 * n)))?;
+    Ok(right)
 }
 
 fn mistakes<H: Host>(rank: &mut Rank<'_, H>, world: &Comm, wrong: u8) -> Result<(), CallError> {
@@ -68,6 +97,14 @@ fn mistakes<H: Host>(rank: &mut Rank<'_, H>, world: &Comm, wrong: u8) -> Result<
         let list: Vec<u8> = rank.alltoall(world, 2, &[1])?;
         drop(list);
     }
+    if wrong == 6 {
+        let list = vec![in rank.alloc; 1u8; if number == 1 { 5_000 } else { 6_000 }]?;
+        let list = rank.allreduce(world, Op::Sum, &list)?;
+        drop(list);
+    }
+    if wrong == 7 && number == 1 {
+        return Err(CallError::bare(Cause::NotOne(7)));
+    }
     let list: Vec<i32> = rank.allgather(world, &[1])?;
     drop(list);
     Ok(())
@@ -76,7 +113,7 @@ fn mistakes<H: Host>(rank: &mut Rank<'_, H>, world: &Comm, wrong: u8) -> Result<
 fn main(rt: HostRuntime) -> Result<ExitCode, RanksError> {
     let ops = Ops::none(rt.alloc());
     let mut code = ExitCode::SUCCESS;
-    for wrong in 0..6 {
+    for wrong in 0..8 {
         let _printed = println!(rt; "trial {wrong}");
         let answers = job(&rt, rt.alloc(), 2, &Trial { wrong }, &ops)?;
         code = print_answers(&rt, &answers);

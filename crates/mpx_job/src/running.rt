@@ -80,6 +80,8 @@ where
     P::Answer: Send + Drop,
     P::Error: Send + Drop,
 {
-    let program = Ranked { program };
-    Ok(ranks(rt, alloc, count, 0, &program, ops)?.into_answers())
+    let ranked = Ranked { program };
+    let ran = ranks(rt, alloc, count, 0, &ranked, ops);
+    let Ranked { program: _ } = ranked;
+    Ok(ran?.into_answers())
 }

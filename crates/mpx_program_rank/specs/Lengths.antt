@@ -1,7 +1,6 @@
 -- How many items a call takes.
-use Rattle.std.specs.Prelude.{ℕ, zero, suc, ◌/◌}
+use Rattle.std.specs.Prelude.{ℕ, ◌/◌, ◌==◌, if◌then◌else◌}
 
 -- how many items for each rank one call takes, in a communicator of so many ranks
 abbrev pub block_of : ℕ → ℕ
-block_of zero = 4096
-block_of (suc n) = 4096 / suc n
+block_of size = if size == 0 then 4096 else 4096 / size

@@ -20,10 +20,11 @@ impl<'a, H: Host> Rank<'a, H> {
     pub(crate) fn block(&self, comm: &Comm) -> usize
         ensures { result ≡ block_of comm.now.size }
     {
-        match comm.size() {
-            0 => MOST_ITEMS,
-            size => MOST_ITEMS / usize::from(size),
+        let size = usize::from(comm.size());
+        if size == 0 {
+            return MOST_ITEMS;
         }
+        MOST_ITEMS / size
     }
 
     // Joins what the calls of all blocks give.
@@ -32,7 +33,10 @@ impl<'a, H: Host> Rank<'a, H> {
         comm: &Comm,
         op: Op,
         items: &[T],
-    ) -> Result<Vec<T>, CallError> {
+    ) -> Result<Vec<T>, CallError>
+        ensures same { self.new.desk.ghost_name ≡ self.old.desk.ghost_name }
+        ensures kept { (self.new.world ≡ self.old.world) × (self.new.ops ≡ self.old.ops) × (self.new.turns ≡ self.old.turns) }
+    {
         self.agree("allreduce", comm, items.len())?;
         let mut list = Vec::new(self.alloc);
         for block in items.chunks(MOST_ITEMS) {
@@ -48,7 +52,10 @@ impl<'a, H: Host> Rank<'a, H> {
         root: u8,
         op: Op,
         items: &[T],
-    ) -> Result<Vec<T>, CallError> {
+    ) -> Result<Vec<T>, CallError>
+        ensures same { self.new.desk.ghost_name ≡ self.old.desk.ghost_name }
+        ensures kept { (self.new.world ≡ self.old.world) × (self.new.ops ≡ self.old.ops) × (self.new.turns ≡ self.old.turns) }
+    {
         self.agree("reduce", comm, items.len())?;
         let mut list = Vec::new(self.alloc);
         for block in items.chunks(MOST_ITEMS) {
@@ -63,7 +70,10 @@ impl<'a, H: Host> Rank<'a, H> {
         comm: &Comm,
         op: Op,
         items: &[T],
-    ) -> Result<Vec<T>, CallError> {
+    ) -> Result<Vec<T>, CallError>
+        ensures same { self.new.desk.ghost_name ≡ self.old.desk.ghost_name }
+        ensures kept { (self.new.world ≡ self.old.world) × (self.new.ops ≡ self.old.ops) × (self.new.turns ≡ self.old.turns) }
+    {
         self.agree("scan", comm, items.len())?;
         let mut list = Vec::new(self.alloc);
         for block in items.chunks(MOST_ITEMS) {
@@ -78,7 +88,10 @@ impl<'a, H: Host> Rank<'a, H> {
         comm: &Comm,
         op: Op,
         items: &[T],
-    ) -> Result<Vec<T>, CallError> {
+    ) -> Result<Vec<T>, CallError>
+        ensures same { self.new.desk.ghost_name ≡ self.old.desk.ghost_name }
+        ensures kept { (self.new.world ≡ self.old.world) × (self.new.ops ≡ self.old.ops) × (self.new.turns ≡ self.old.turns) }
+    {
         self.agree("exscan", comm, items.len())?;
         let mut list = Vec::new(self.alloc);
         for block in items.chunks(MOST_ITEMS) {
@@ -94,7 +107,10 @@ impl<'a, H: Host> Rank<'a, H> {
         root: u8,
         count: usize,
         items: &[T],
-    ) -> Result<Vec<T>, CallError> {
+    ) -> Result<Vec<T>, CallError>
+        ensures same { self.new.desk.ghost_name ≡ self.old.desk.ghost_name }
+        ensures kept { (self.new.world ≡ self.old.world) × (self.new.ops ≡ self.old.ops) × (self.new.turns ≡ self.old.turns) }
+    {
         let is_root = comm.rank() == root;
         self.agree("bcast", comm, count)?;
         let made = Made::new("bcast", comm, items.len());
@@ -115,7 +131,10 @@ impl<'a, H: Host> Rank<'a, H> {
         comm: &Comm,
         root: u8,
         items: &[T],
-    ) -> Result<Vec<T>, CallError> {
+    ) -> Result<Vec<T>, CallError>
+        ensures same { self.new.desk.ghost_name ≡ self.old.desk.ghost_name }
+        ensures kept { (self.new.world ≡ self.old.world) × (self.new.ops ≡ self.old.ops) × (self.new.turns ≡ self.old.turns) }
+    {
         self.agree("gather", comm, items.len())?;
         let mut parts = Vec::new(self.alloc);
         for block in items.chunks(MOST_ITEMS) {
@@ -128,7 +147,10 @@ impl<'a, H: Host> Rank<'a, H> {
         &mut self,
         comm: &Comm,
         items: &[T],
-    ) -> Result<Vec<T>, CallError> {
+    ) -> Result<Vec<T>, CallError>
+        ensures same { self.new.desk.ghost_name ≡ self.old.desk.ghost_name }
+        ensures kept { (self.new.world ≡ self.old.world) × (self.new.ops ≡ self.old.ops) × (self.new.turns ≡ self.old.turns) }
+    {
         self.agree("allgather", comm, items.len())?;
         let mut parts = Vec::new(self.alloc);
         for block in items.chunks(MOST_ITEMS) {
@@ -143,7 +165,10 @@ impl<'a, H: Host> Rank<'a, H> {
         root: u8,
         count: usize,
         items: &[T],
-    ) -> Result<Vec<T>, CallError> {
+    ) -> Result<Vec<T>, CallError>
+        ensures same { self.new.desk.ghost_name ≡ self.old.desk.ghost_name }
+        ensures kept { (self.new.world ≡ self.old.world) × (self.new.ops ≡ self.old.ops) × (self.new.turns ≡ self.old.turns) }
+    {
         let all = count.saturating_mul(usize::from(comm.size()));
         let is_root = comm.rank() == root;
         self.agree("scatter", comm, count)?;
@@ -165,7 +190,10 @@ impl<'a, H: Host> Rank<'a, H> {
         comm: &Comm,
         count: usize,
         items: &[T],
-    ) -> Result<Vec<T>, CallError> {
+    ) -> Result<Vec<T>, CallError>
+        ensures same { self.new.desk.ghost_name ≡ self.old.desk.ghost_name }
+        ensures kept { (self.new.world ≡ self.old.world) × (self.new.ops ≡ self.old.ops) × (self.new.turns ≡ self.old.turns) }
+    {
         let all = count.saturating_mul(usize::from(comm.size()));
         self.agree("alltoall", comm, count)?;
         self.takes(Made::new("alltoall", comm, items.len()), all)?;
@@ -180,7 +208,10 @@ impl<'a, H: Host> Rank<'a, H> {
     }
 
     // That all ranks give this number of items, else the fault that one call would give.
-    fn agree(&mut self, name: &'static str, comm: &Comm, count: usize) -> Result<(), CallError> {
+    fn agree(&mut self, name: &'static str, comm: &Comm, count: usize) -> Result<(), CallError>
+        ensures same { self.new.desk.ghost_name ≡ self.old.desk.ghost_name }
+        ensures kept { (self.new.world ≡ self.old.world) × (self.new.ops ≡ self.old.ops) × (self.new.turns ≡ self.old.turns) }
+    {
         let counts = self.one_allgather(comm, &[count as u64])?;
         let mut rank: u8 = 0;
         for &other in &counts {

@@ -24,7 +24,7 @@ impl<'a, H: Host> Rank<'a, H> {
         ensures same { self.new.desk.ghost_name ≡ self.old.desk.ghost_name }
         ensures kept { (self.new.world ≡ self.old.world) × (self.new.ops ≡ self.old.ops) × (self.new.turns ≡ self.old.turns) }
     {
-        let list = self.allreduce(comm, op, &[item])?;
+        let list = self.one_allreduce(comm, op, &[item])?;
         self.only("allreduce", comm, list)
     }
 
@@ -34,7 +34,7 @@ impl<'a, H: Host> Rank<'a, H> {
         ensures same { self.new.desk.ghost_name ≡ self.old.desk.ghost_name }
         ensures kept { (self.new.world ≡ self.old.world) × (self.new.ops ≡ self.old.ops) × (self.new.turns ≡ self.old.turns) }
     {
-        let list = self.scan(comm, op, &[item])?;
+        let list = self.one_scan(comm, op, &[item])?;
         self.only("scan", comm, list)
     }
 
@@ -51,7 +51,7 @@ impl<'a, H: Host> Rank<'a, H> {
     {
         let one = [item];
         let items: &[T] = if comm.rank() == root { &one } else { &[] };
-        let list = self.bcast(comm, root, 1, items)?;
+        let list = self.one_bcast(comm, root, 1, items)?;
         self.only("bcast", comm, list)
     }
 
