@@ -48,8 +48,8 @@ fn calls(rt: HostRuntime) -> Result<(), Fail> {
     )?;
     call_shows(
         alloc,
-        CallError::GaveUp(request(alloc, &ops)?),
-        "posted and not done, and the host gave up",
+        CallError::GaveUp(request(alloc, &ops)?, 3),
+        "posted and not done, and rank 3 gave up",
     )
 }
 
@@ -64,8 +64,8 @@ fn waits(rt: HostRuntime) -> Result<(), Fail> {
     wait_shows(alloc, WaitError::OutOfMemory(()), "out of memory")?;
     wait_shows(
         alloc,
-        WaitError::GaveUp(()),
-        "not done, and the host gave up",
+        WaitError::GaveUp((), 3),
+        "not done, and rank 3 gave up",
     )?;
     wait_shows(alloc, WaitError::LetGo(()), "done, and its result let go")
 }

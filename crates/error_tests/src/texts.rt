@@ -226,7 +226,7 @@ fn jobs_of_ranks(rt: HostRuntime) -> Result<(), Fail> {
         "the system refused a thread",
     )?;
     shows(rt.alloc(), &TurnError::OutOfMemory, "out of memory")?;
-    shows(rt.alloc(), &TurnError::GaveUp, "the host gave up")?;
+    shows(rt.alloc(), &TurnError::GaveUp(63), "rank 63 gave up")?;
     shows(rt.alloc(), &AskError::NotKnown, "communicator not known")?;
     shows(rt.alloc(), &AskError::NoTopology, "no topology")?;
     shows(rt.alloc(), &AskError::OutOfMemory, "out of memory")?;

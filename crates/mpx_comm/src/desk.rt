@@ -228,8 +228,8 @@ impl<H: Host> Desk<H> {
 
     /// Waits for the result (`MPI_WAIT`, MPI 4.1 section 3.7.3) while the host makes at most `turns` turns: it looks once before the
     /// first and once after each, and makes no turn after the look that finds it, which closes the request. An `Err` hands the request
-    /// back: `StillWaiting` after just `turns` turns; `OutOfMemory` at a look at what is at hand, or for a turn; `GaveUp` where a rank
-    /// gave up, which is named, and the host makes no turn any more; `LetGo`, at once, one that was closed before and whose result was let go.
+    /// back: `StillWaiting` after just `turns` turns; `OutOfMemory` at a look at what is at hand, or for a turn; `GaveUp` with the
+    /// number of a rank that gave up, where the host makes no turn any more; `LetGo`, at once, one that was closed before and whose result was let go.
     pub fn wait(
         &mut self,
         alloc: Global,

@@ -82,9 +82,10 @@ pub record Turns (tells_want : Bool) (old new : PortView) : Type 0 where
   pub pushes : PushesAnother push pruned new
   pub told : tells_want ≡ (wanted_memory pop || (is_err prune || is_err push))
 
--- one that isn't made: memory was wanting; or this rank has given up, of which the member has heard, and nothing was done
+-- one that is refused: it was made, and memory was wanting, where the member has heard of no rank that gave up; or nothing was done, since this
+-- rank has given up, of which the member has heard
 abbrev pub RefusesTurn : (gave_up : ℕ → Type 0) → TurnError → (heard : Option ℕ) → PortView → PortView → Type 0
-RefusesTurn gave_up T.OutOfMemory heard old new = Turns true old new
+RefusesTurn gave_up T.OutOfMemory heard old new = (heard ≡ None) × Turns true old new
 RefusesTurn gave_up (T.GaveUp rank) heard old new = (heard ≡ Some rank) × ∥ gave_up rank ∥₁ × (new ≡ old)
 
 -- ONE PORT

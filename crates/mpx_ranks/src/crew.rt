@@ -1,5 +1,5 @@
 //! What the threads of a job tell each other beside the bus.
-ghost use Rattle.std.specs.Prelude.{◌≡◌, IfErr, IfOk, IfSome, None, is_some};
+ghost use Rattle.std.specs.Prelude.{◌≡◌, IfErr, IfOk, IfSome, is_some};
 
 use crate::start::{AllCame, Place, Start};
 use mpx_at_once::{Sleepers, Stop};
@@ -31,7 +31,7 @@ pub(crate) struct Quitter<K: Job> {
 }
 
 impl<K: Job> Quitter<K> {
-    /// This rank, which has given up.
+    /// The rank with this number, which has given up.
     pub(crate) fn new(rank: u8) -> Quitter<K>
         requires { K.gave_up rank }
         ensures { result.rank ≡ rank }
@@ -43,19 +43,18 @@ impl<K: Job> Quitter<K> {
     }
 }
 
-/// Why all threads of a job are to stop: the rank that has given up, or none where a thread was refused.
+/// A thread was refused.
 #[derive(Drop)]
-pub(crate) struct Halt<K: Job> {
-    pub(crate) quitter: Option<Quitter<K>>,
-}
+pub(crate) struct Refused;
 
-/// How many ranks there are, how many of them have returned, and why all are to stop, where they are. The first reason is kept.
-/// Those that hear nothing new sleep until there is something to hear.
+/// How many ranks there are, and how many of them have returned; the first rank that gave up, where one did; and whether a thread was
+/// refused. Those that hear nothing new sleep until there is something to hear.
 #[derive(Drop)]
 pub(crate) struct Crew<K: Job> {
     ranks: u64,
     returned: AtomicU64,
-    pub(crate) halt: OnceLock<Halt<K>>,
+    pub(crate) quitter: OnceLock<Quitter<K>>,
+    pub(crate) refused: OnceLock<Refused>,
     pub(crate) sleepers: Sleepers,
 }
 
@@ -65,54 +64,45 @@ impl<K: Job> Crew<K> {
         Crew {
             ranks: u64::from(ranks),
             returned: AtomicU64::new(0),
-            halt: OnceLock::new(),
+            quitter: OnceLock::new(),
+            refused: OnceLock::new(),
             sleepers: Sleepers::new(),
         }
     }
 
-    /// Waits until all threads have come, this one with its place, and answers what shows that. Or it answers a token where a thread was
-    /// refused before that, and only then: a rank may have given up while another's thread still looks.
+    /// Waits until all threads have come, this one with its place, and answers what shows that. Or it answers what shows that a thread was
+    /// refused, and only then: a rank may have given up while another's thread still looks.
     pub(crate) fn begins<'a, R: Wait>(
         &'a self,
         rt: &R,
         start: &'a Start<K>,
         place: Place<K>,
-    ) -> Result<OnceToken<'a, AllCame<K>>, OnceToken<'a, Halt<K>>>
+    ) -> Result<OnceToken<'a, AllCame<K>>, OnceToken<'a, Refused>>
         ensures ok { IfOk result (λ all. (all.of ≡ start.now.all.id) × (all.value.total.amount ≡ 0)) }
-        ensures err { IfErr result (λ token. (token.of ≡ self.now.halt.id) × (token.value.quitter ≡ None)) }
+        ensures err { IfErr result (λ token. token.of ≡ self.now.refused.id) }
     {
         start.comes(rt, place);
         for _ in rt.forever() {
             if let Some(all) = start.all_came() {
                 return Ok(all);
             }
-            if let Some(refusal) = self.refusal() {
-                return Err(refusal);
+            if let Some(refused) = self.refused.witness() {
+                return Err(refused);
             }
             yield_now();
         }
         unreachable!()
     }
 
-    // That a thread was refused, where one was.
-    fn refusal(&self) -> Option<OnceToken<'_, Halt<K>>>
-        ensures { IfSome result (λ token. (token.of ≡ self.now.halt.id) × (token.value.quitter ≡ None)) }
-    {
-        let token = self.halt.witness()?;
-        match self.halt.value(&token).quitter {
-            None => Some(token),
-            Some(_) => None,
-        }
-    }
-
-    /// A rank has returned. Where it has given up, it answers what shows that all are to stop, from then on.
+    /// A rank has returned. Where it has given up, it answers what shows that a rank has: this one, or the first that did. From then on
+    /// there is one.
     pub(crate) fn returns<R: Wait>(
         &self,
         rt: &R,
         quitter: Option<Quitter<K>>,
-    ) -> Option<OnceToken<'_, Halt<K>>>
+    ) -> Option<OnceToken<'_, Quitter<K>>>
         ensures told { is_some result ≡ is_some quitter }
-        ensures here { IfSome result (λ token. token.of ≡ self.now.halt.id) }
+        ensures here { IfSome result (λ token. token.of ≡ self.now.quitter.id) }
     {
         let told = match quitter {
             Some(quitter) => Some(self.tells(rt, quitter)),
@@ -123,35 +113,34 @@ impl<K: Job> Crew<K> {
         told
     }
 
-    // All are to stop since this rank has given up, or since the reason that was there first.
-    fn tells<R: Wait>(&self, rt: &R, quitter: Quitter<K>) -> OnceToken<'_, Halt<K>>
-        ensures { result.of ≡ self.now.halt.id }
+    // This rank has given up, or another had before.
+    fn tells<R: Wait>(&self, rt: &R, quitter: Quitter<K>) -> OnceToken<'_, Quitter<K>>
+        ensures { result.of ≡ self.now.quitter.id }
     {
-        let halt = Halt {
-            quitter: Some(quitter),
-        };
-        match self.halt.try_insert(rt, halt) {
+        match self.quitter.try_insert(rt, quitter) {
             Ok(token) => token,
             Err((token, _)) => token,
         }
     }
 
-    /// Why all are to stop, where they are.
-    pub(crate) fn halt(&self) -> Option<OnceToken<'_, Halt<K>>>
-        ensures { IfSome result (λ token. token.of ≡ self.now.halt.id) }
+    /// What shows that a rank has given up, where one has.
+    pub(crate) fn quitter(&self) -> Option<OnceToken<'_, Quitter<K>>>
+        ensures { IfSome result (λ token. token.of ≡ self.now.quitter.id) }
     {
-        self.halt.witness()
+        self.quitter.witness()
     }
 
-    /// Whether nobody needs to hear anything more: all ranks have returned, or all are to stop.
+    /// Whether nobody needs to hear anything more: all ranks have returned, or one has given up, or a thread was refused.
     pub(crate) fn is_over(&self) -> bool {
-        self.halt().is_some() || self.returned.load(Ordering::SeqCst) >= self.ranks
+        self.quitter().is_some()
+            || self.refused.witness().is_some()
+            || self.returned.load(Ordering::SeqCst) >= self.ranks
     }
 }
 
 impl<K: Job> Stop for Crew<K> {
     fn stop(&self) {
-        let _first = self.halt.try_set(Halt { quitter: None });
+        let _first = self.refused.try_set(Refused);
         self.sleepers.wake();
     }
 }

@@ -1,5 +1,5 @@
 //! A member of a job: the host of a rank's desk in a thread of its own.
-ghost use Rattle.std.specs.Prelude.{◌≡◌, IfErr, IfSome, IsSome, None, OnOk, false, option_and_then};
+ghost use Rattle.std.specs.Prelude.{◌≡◌, IfErr, IfSome, IsSome, None, OnOk, false};
 ghost use Rattle.std.specs.Option.{option_map};
 ghost use Rattle.std.proofs.Props.{props};
 ghost use Rattle.mpx_board.specs.Looks.{look};
@@ -9,7 +9,7 @@ ghost use Rattle.mpx_request.specs.Later.{Later};
 ghost use Rattle.mpx_ranks.specs.Had.{GoesOn};
 ghost use Rattle.mpx_ranks.specs.Members.{RefusesTurn, Turns};
 
-use crate::crew::{Crew, Halt, Job};
+use crate::crew::{Crew, Job, Quitter};
 use crate::folds::Folds;
 use crate::gossip::gossip;
 use crate::news::News;
@@ -42,7 +42,7 @@ pub(crate) struct Member<'a, L: Seat, O: Folds, K: Job, R: Wait> {
     pub(crate) port: Port,
     pub(crate) news: News,
     pub(crate) seat: PhantomData<L>,
-    pub(crate) halt: Option<OnceToken<'a, Halt<K>>>,
+    pub(crate) heard: Option<OnceToken<'a, Quitter<K>>>,
     ghost list_is: { O.operations ops.now ≡ L.setup.operations },
     ghost bus_is: { table_of bus.now ≡ L.table },
     ghost free: { L.setup.planned ≡ false },
@@ -51,7 +51,7 @@ pub(crate) struct Member<'a, L: Seat, O: Folds, K: Job, R: Wait> {
     ghost table_is: { port.table ≡ L.table },
     ghost setup_is: { port.setup ≡ L.setup },
     ghost me_is: { port.me ≡ L.me },
-    ghost halt_is: { IfSome halt (λ token. token.of ≡ crew.now.halt.id) } by { Prim.hlevel props },
+    ghost heard_is: { IfSome heard (λ token. token.of ≡ crew.now.quitter.id) } by { Prim.hlevel props },
 }
 
 impl<'a, L: Seat, O: Folds, K: Job, R: Wait> Member<'a, L, O, K, R> {
@@ -85,7 +85,7 @@ impl<'a, L: Seat, O: Folds, K: Job, R: Wait> Member<'a, L, O, K, R> {
             port,
             news: News::new(me),
             seat: PhantomData,
-            halt: None,
+            heard: None,
         }
     }
 
@@ -101,13 +101,10 @@ impl<'a, L: Seat, O: Folds, K: Job, R: Wait> Member<'a, L, O, K, R> {
 
     // The rank of which it has heard that it gave up, where it has.
     fn quitter(&self) -> Option<u8>
-        ensures { result ≡ option_and_then (λ token. option_map (λ q. q.rank) token.value.quitter) self.now.halt }
+        ensures { result ≡ option_map (λ token. token.value.rank) self.now.heard }
     {
-        let token = self.halt.as_ref()?;
-        match &self.crew.halt.value(token).quitter {
-            Some(quitter) => Some(quitter.rank),
-            None => None,
-        }
+        let token = self.heard.as_ref()?;
+        Some(self.crew.quitter.value(token).rank)
     }
 
     /// Makes turns for the others, until none needs them more.
@@ -139,7 +136,7 @@ impl<'a, L: Seat, O: Folds, K: Job, R: Wait> Host for Member<'a, L, O, K, R> {
 
     ghost turned = { λ a n b. GoesOn a.port b.port };
 
-    ghost turn_refused = { λ a why b. GoesOn a.port b.port × RefusesTurn K.gave_up why (option_and_then (λ token. option_map (λ q. q.rank) token.value.quitter) b.halt) a.port b.port };
+    ghost turn_refused = { λ a why b. GoesOn a.port b.port × RefusesTurn K.gave_up why (option_map (λ token. token.value.rank) b.heard) a.port b.port };
 
     // All that its port did tells which.
     ghost has_had = { λ m. HadIn m.port };
@@ -194,14 +191,14 @@ impl<'a, L: Seat, O: Folds, K: Job, R: Wait> Host for Member<'a, L, O, K, R> {
         ensures later { Later (node_in self.old.port) (node_in self.new.port) }
         ensures opened { (node_in self.new.port).opened ≡ (node_in self.old.port).opened }
         ensures counted { OnOk result (GoesOn self.old.port self.new.port) }
-        ensures refused { IfErr result (λ why. GoesOn self.old.port self.new.port × RefusesTurn K.gave_up why (option_and_then (λ token. option_map (λ q. q.rank) token.value.quitter) self.new.halt) self.old.port self.new.port) }
+        ensures refused { IfErr result (λ why. GoesOn self.old.port self.new.port × RefusesTurn K.gave_up why (option_map (λ token. token.value.rank) self.new.heard) self.old.port self.new.port) }
         ensures turns { OnOk result (Turns false self.old.port self.new.port) }
-        ensures none { OnOk result (option_and_then (λ token. option_map (λ q. q.rank) token.value.quitter) self.new.halt ≡ None) }
-        ensures stays { IsSome self.old.halt → self.new.halt ≡ self.old.halt }
+        ensures none { OnOk result (self.new.heard ≡ None) }
+        ensures stays { IsSome self.old.heard → self.new.heard ≡ self.old.heard }
     {
         let crew = self.crew;
-        if self.halt.is_none() {
-            self.halt = crew.halt();
+        if self.heard.is_none() {
+            self.heard = crew.quitter();
         }
         if let Some(rank) = self.quitter() {
             return Err(TurnError::GaveUp(rank));

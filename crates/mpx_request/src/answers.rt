@@ -10,7 +10,7 @@ pub enum TurnError {
     /// Memory was wanting. A later turn may be made.
     #[error("out of memory")]
     OutOfMemory,
-    /// This rank gave up: the host makes no turn any more.
+    /// The rank with this number gave up: the host makes no turn any more.
     #[error("rank {0} gave up")]
     GaveUp(u8),
 }
@@ -41,7 +41,7 @@ pub enum WaitError<R> {
     /// Memory was wanting, for what is at hand or for a turn.
     #[error("out of memory")]
     OutOfMemory(R),
-    /// It isn't done, and this rank gave up: [`TurnError::GaveUp`].
+    /// It isn't done, and the rank with this number gave up: [`TurnError::GaveUp`].
     #[error("not done, and rank {1} gave up")]
     GaveUp(R, u8),
     /// The result, or one of them, was let go: [`Host::forget`](crate::Host::forget).

@@ -91,7 +91,8 @@ pub trait Host: Drop {
         ensures { look result.now ≡ (node self.now).board };
 
     /// Lets time pass once: others may hear of this process, and it of them. It posts nothing, harvests nothing and opens nothing. Calls
-    /// that wait make as many turns as they are given, at most. An `Err` is want of memory, or says that the host makes no turn any more.
+    /// that wait make as many turns as they are given, at most. An `Err` is want of memory, or the number of a rank that gave up:
+    /// then the host makes no turn any more.
     fn turn(&mut self, alloc: Global) -> Result<(), TurnError>
         ensures later { Later (node self.old) (node self.new) }
         ensures opened { (node self.new).opened ≡ (node self.old).opened }

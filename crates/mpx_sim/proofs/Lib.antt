@@ -5,6 +5,7 @@ pub mod Carried
 pub mod Tried
 pub mod Harvests
 pub mod Left
+pub mod Shifts
 pub mod Sending
 pub mod Spelled
 pub mod Starting

@@ -14,6 +14,7 @@ ghost use Rattle.mpx_sim.specs.Running.{KeepsNode};
 ghost use Rattle.mpx_sim.specs.Shown.{call_in, call_of};
 ghost use Rattle.mpx_sim.specs.Turns.{Alone};
 
+use crate::contexts::{contexts_at_start, look_at_gathering, look_at_given};
 use crate::posts::Posts;
 use join_core::{Exact, OutOfMemory};
 use mpx_birth::Birth;
@@ -24,7 +25,7 @@ use mpx_node::{Finished, Node};
 use mpx_num::{Listing, Ops};
 use mpx_post::PostError;
 use mpx_rank::{Carrier, Heard};
-use mpx_statement::{Posting, Word};
+use mpx_statement::{Posting, Statement, Word};
 use mpx_value::Outcome;
 use std::alloc::Global;
 use std::collections::BTreeMap;
@@ -36,7 +37,7 @@ pub(crate) struct Posted {
     pub(crate) call: u32,
 }
 
-/// A process's node, the contexts that it looks at, and its posts, for who looks on.
+/// A process's node, the contexts that it looks at, and its posts, for an observer.
 #[derive(Drop)]
 pub(crate) struct RunDesk {
     pub(crate) node: Node,
@@ -45,13 +46,14 @@ pub(crate) struct RunDesk {
 }
 
 impl RunDesk {
-    /// The desk of process `me` of so many, of which the first are ranks, before any post. It looks at the world, and notes posts where that is
-    /// asked for.
+    /// The desk of process `me` of so many, of which the first are ranks, with these statements, before any post. It looks at the world, and notes
+    /// posts where that is asked for.
     pub(crate) fn new(
         alloc: Global,
         me: Proc,
         ranks: u8,
         processes: u8,
+        todo: &[Statement],
         notes: bool,
     ) -> Result<RunDesk, OutOfMemory>
         requires some { 0 < ranks }
@@ -65,7 +67,7 @@ impl RunDesk {
             Ok(node) => Ok(RunDesk {
                 node,
                 contexts,
-                posts: Posts::new(alloc, notes),
+                posts: Posts::new(alloc, todo, notes),
             }),
             Err(e) => {
                 drop(contexts);
@@ -271,30 +273,6 @@ fn new_name(alloc: Global, outcome: &Outcome) -> Result<Option<Name>, OutOfMemor
     }
 }
 
-// It is looked at from now on.
-fn look_at_given(
-    alloc: Global,
-    contexts: &mut Vec<Name>,
-    given: &Option<Name>,
-) -> Result<(), OutOfMemory> {
-    if let Some(name) = given {
-        contexts.push(name.copy(alloc)?)?;
-    }
-    Ok(())
-}
-
-// So is a gathering, with the first call on it.
-fn look_at_gathering(
-    alloc: Global,
-    contexts: &mut Vec<Name>,
-    posted: &Posted,
-) -> Result<(), OutOfMemory> {
-    if posted.call == 0 && posted.name.is_gathering() {
-        contexts.push(posted.name.copy(alloc)?)?;
-    }
-    Ok(())
-}
-
 // The call of a statement that posts, on what its word is bound to, or the refusal.
 fn attempt(
     alloc: Global,
@@ -347,13 +325,6 @@ fn context_of(
             Err(_) => Err(PostError::OutOfMemory),
         },
     }
-}
-
-// Every process looks at the world.
-fn contexts_at_start(alloc: Global) -> Result<Vec<Name>, OutOfMemory> {
-    let mut contexts = Vec::new(alloc);
-    contexts.push(Name::world(alloc))?;
-    Ok(contexts)
 }
 
 // Stores the results of a call and of those before it on its context, as far as they can be had. It answers whether all are stored.

@@ -6,6 +6,7 @@
 //! each, which a `Network` carries.
 #![tactic(auto)]
 
+mod contexts;
 mod desk;
 mod frame_under_way;
 mod frames;

@@ -1,33 +1,37 @@
-//! The posts of a run's rank, for who looks on.
+//! The posts of a run's rank, for an observer.
 
 use crate::observer::Observer;
-use join_core::Exact;
+use join_core::OutOfMemory;
 use mpx_name::Name;
 use mpx_statement::Statement;
 use std::alloc::Global;
 
-// A call that was posted, and by which of its rank's posting statements, from 0 on.
+// A call that was posted, and the place of its statement among its rank's, from 0 on.
 #[derive(Drop)]
 struct Post {
     name: Name,
     call: u32,
-    nth: usize,
+    statement: usize,
 }
 
-/// How many posts a rank has tried, and those that were made, where they are noted.
+/// Where posts are followed: the places of a rank's posting statements, and the posts that were made. How many were tried.
 #[derive(Drop)]
 pub(crate) struct Posts {
+    places: Vec<usize>,
     tried: usize,
-    is_followed: bool,
     made: Vec<Post>,
 }
 
 impl Posts {
-    /// None was tried yet.
-    pub(crate) fn new(alloc: Global, is_followed: bool) -> Posts {
+    /// None was tried yet, of a rank with these statements.
+    pub(crate) fn new(alloc: Global, statements: &[Statement], is_followed: bool) -> Posts {
+        let mut places = Vec::new(alloc);
+        if is_followed {
+            let _ = push_places(statements, &mut places);
+        }
         Posts {
+            places,
             tried: 0,
-            is_followed,
             made: Vec::new(alloc),
         }
     }
@@ -37,16 +41,20 @@ impl Posts {
         self.tried = self.tried.saturating_add(1);
     }
 
-    /// The one that was tried last was made: this call. Where memory for that is refused, it isn't noted.
+    /// The one that was tried last was made: this call. Where posts aren't followed, and where memory for it is refused, it isn't noted.
     pub(crate) fn note(&mut self, alloc: Global, name: &Name, call: u32) {
-        if !self.is_followed {
-            return;
-        }
-        let Ok(name) = name.copy(alloc) else {
+        let nth = self.tried.saturating_sub(1);
+        let Some(place) = self.places.get(nth) else {
             return;
         };
-        let nth = self.tried.saturating_sub(1);
-        let _ = self.made.push(Post { name, call, nth });
+        let statement = *place;
+        if let Ok(name) = name.copy(alloc) {
+            let _ = self.made.push(Post {
+                name,
+                call,
+                statement,
+            });
+        }
     }
 
     /// How many are noted.
@@ -54,32 +62,20 @@ impl Posts {
         self.made.len()
     }
 
-    /// Tells of those from this number on, in a turn, of a rank with these statements.
-    pub(crate) fn tell(
-        &self,
-        from: usize,
-        turn: u32,
-        rank: u8,
-        statements: &[Statement],
-        observer: &mut dyn Observer,
-    ) {
+    /// Reports those from this number on, in a turn, of this rank.
+    pub(crate) fn tell(&self, from: usize, turn: u32, rank: u8, observer: &mut dyn Observer) {
         for post in self.made.get(from..).unwrap_or(&[]) {
-            let statement = place_of(statements, post.nth);
-            observer.posted(turn, rank, &post.name, post.call, statement);
+            observer.posted(turn, rank, &post.name, post.call, post.statement);
         }
     }
 }
 
-// The place of the posting statement with this number.
-fn place_of(statements: &[Statement], nth: usize) -> usize {
-    let mut left = nth;
+// Adds the places of the statements that post.
+fn push_places(statements: &[Statement], places: &mut Vec<usize>) -> Result<(), OutOfMemory> {
     for place in 0..statements.len() {
         if matches!(statements[place], Statement::Post(_)) {
-            if left == 0 {
-                return place;
-            }
-            left -= 1;
+            places.push(place)?;
         }
     }
-    statements.len()
+    Ok(())
 }

@@ -33,7 +33,6 @@ use std::alloc::Global;
 #[derive(Drop)]
 pub(crate) struct Process<'a> {
     carrier: RunDesk,
-    statements: &'a [Statement],
     rank: Interpreter<'a, RunDesk>,
     sender: Sender,
     pub(crate) notes: Notes,
@@ -71,7 +70,7 @@ impl<'a> Process<'a> {
     {
         let world = world_of(alloc, me, ranks);
         let me = Proc::new(me);
-        let carrier = match RunDesk::new(alloc, me, ranks, processes, notes) {
+        let carrier = match RunDesk::new(alloc, me, ranks, processes, todo, notes) {
             Ok(carrier) => carrier,
             Err(e) => {
                 drop(world);
@@ -81,7 +80,6 @@ impl<'a> Process<'a> {
         match Interpreter::new(alloc, me, world, todo) {
             Ok(rank) => Ok(Process {
                 carrier,
-                statements: todo,
                 rank,
                 sender: Sender::new(),
                 notes: Notes::new(alloc),
@@ -362,10 +360,10 @@ impl<'a> Process<'a> {
         self.rank.lines()
     }
 
-    /// Tells of the calls that it has posted since that was last noted, where posts are followed.
+    /// Reports the calls that it has posted since that was last noted, where posts are followed.
     pub(crate) fn tell_posts(&self, turn: u32, observer: &mut dyn Observer) {
         let (posts, told) = (&self.carrier.posts, self.notes.posts);
-        posts.tell(told, turn, self.me(), self.statements, observer);
+        posts.tell(told, turn, self.me(), observer);
     }
 
     /// How many statements are left, with the one whose outcome it waits for.

@@ -4,10 +4,11 @@ use mpx_script::statement_lines;
 use std::alloc::Global;
 use std::io::{self, Write};
 
-/// The text of a run's script, and of each rank which lines give it its statements.
+/// The text of a run's script, where each line of it begins, and for each rank the numbers of the lines that give it its statements.
 #[derive(Drop)]
 pub(crate) struct ScriptLines {
     text: Vec<u8>,
+    starts: Vec<usize>,
     numbers: Vec<Vec<u32>>,
 }
 
@@ -16,19 +17,26 @@ impl ScriptLines {
     pub(crate) fn new(alloc: Global) -> ScriptLines {
         ScriptLines {
             text: Vec::new(alloc),
+            starts: Vec::new(alloc),
             numbers: Vec::new(alloc),
         }
     }
 
     /// The script is read from this text.
     pub(crate) fn read(&mut self, alloc: Global, text: &[u8]) -> io::Result<()> {
-        self.numbers = Vec::new(alloc);
-        self.text = Vec::new(alloc);
-        self.text.extend_from_slice(text)?;
+        let mut read = ScriptLines::new(alloc);
+        read.text.extend_from_slice(text)?;
+        read.starts.push(0)?;
+        for place in 0..text.len() {
+            if text[place] == b'\n' {
+                read.starts.push(place + 1)?;
+            }
+        }
+        *self = read;
         Ok(())
     }
 
-    /// Adds which line gives a rank the statement of this number, and the words of it behind its label.
+    /// Adds which line gives a rank the statement at this place, and the words of it after its label. An `Err` is want of memory, or of such a line.
     pub(crate) fn push_statement(
         &mut self,
         alloc: Global,
@@ -36,13 +44,20 @@ impl ScriptLines {
         statement: usize,
         told: &mut Vec<u8>,
     ) -> io::Result<()> {
-        let number = self.number_of(alloc, rank, statement)?;
+        let Some(number) = self.number_of(alloc, rank, statement)? else {
+            return Err(io::Error::from(io::ErrorKind::NotFound));
+        };
         write!(told, "line {number}:")?;
-        push_words(line_of(&self.text, number), told)
+        push_words(self.line(number), told)
     }
 
-    // The number of that line, or 0 where there is none. The lines of a rank are looked up once.
-    fn number_of(&mut self, alloc: Global, rank: u8, statement: usize) -> io::Result<u32> {
+    // The number of that line. The lines of a rank are looked up once.
+    fn number_of(
+        &mut self,
+        alloc: Global,
+        rank: u8,
+        statement: usize,
+    ) -> io::Result<Option<u32>> {
         let place = usize::from(rank);
         for next in self.numbers.len()..place + 1 {
             let rank = u8::try_from(next).unwrap_or(u8::MAX);
@@ -51,29 +66,22 @@ impl ScriptLines {
             };
             self.numbers.push(numbers)?;
         }
-        let numbers = match self.numbers.get(place) {
-            Some(numbers) => numbers.as_slice(),
-            None => &[],
-        };
-        Ok(numbers.get(statement).copied().unwrap_or(0))
+        match self.numbers.get(place) {
+            Some(numbers) => Ok(numbers.get(statement).copied()),
+            None => Ok(None),
+        }
     }
-}
 
-// The line of a text with this number, from 1 on, or nothing where there is none.
-fn line_of(text: &[u8], number: u32) -> &[u8] {
-    if number == 0 {
-        return &[];
-    }
-    let mut rest = text;
-    for _ in 1..number {
-        rest = match rest.iter().position(|byte| *byte == b'\n') {
-            Some(end) => &rest[end + 1..],
-            None => &[],
+    // The line with this number, from 1 on, or nothing where there is none.
+    fn line(&self, number: u32) -> &[u8] {
+        let Some(start) = self.starts.get((number as usize).wrapping_sub(1)) else {
+            return &[];
         };
-    }
-    match rest.iter().position(|byte| *byte == b'\n') {
-        Some(end) => &rest[..end],
-        None => rest,
+        let rest = self.text.get(*start..).unwrap_or(&[]);
+        match rest.iter().position(|byte| *byte == b'\n') {
+            Some(end) => &rest[..end],
+            None => rest,
+        }
     }
 }
 

@@ -14,6 +14,8 @@ mod desks;
 #[cfg(test)]
 mod had;
 #[cfg(test)]
+mod job_sizes;
+#[cfg(test)]
 mod jobs;
 #[cfg(test)]
 mod let_go;
@@ -33,6 +35,8 @@ mod posts_beside_gossip;
 mod questions;
 #[cfg(test)]
 mod queue_steps;
+#[cfg(test)]
+mod settling_rows;
 #[cfg(test)]
 mod shared_pairs;
 #[cfg(test)]
