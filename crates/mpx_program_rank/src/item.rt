@@ -210,6 +210,7 @@ impl Item for (i32, i32) {
 }
 
 // Both numbers of each pair.
+#[tactic(auto, using(crate::proofs::Pairs::both_push))]
 fn both_of(alloc: Global, pairs: &[(i32, i32)]) -> Result<Vec<i32>, AllocError>
     ensures { IfOk result (λ both. both.items ≡ both_numbers pairs.now) }
 {
@@ -222,6 +223,7 @@ fn both_of(alloc: Global, pairs: &[(i32, i32)]) -> Result<Vec<i32>, AllocError>
 }
 
 // The pairs of these numbers.
+#[tactic(auto, using(crate::proofs::Pairs::both_push))]
 fn pairs_of(alloc: Global, both: &[i32]) -> Result<Vec<(i32, i32)>, IntegersError>
     ensures { IfOk result (λ pairs. both_numbers pairs.items ≡ both.now) }
 {

@@ -106,10 +106,10 @@ impl<'a, H: Host> Rank<'a, H> {
         ensures same { self.new.desk.ghost_name ≡ self.old.desk.ghost_name }
         ensures kept { (self.new.world ≡ self.old.world) × (self.new.ops ≡ self.old.ops) × (self.new.turns ≡ self.old.turns) }
     {
-        let turned = self.desk.turn(self.alloc, 1);
+        let turn = self.desk.turn(self.alloc, 1);
         match self.desk.testany(self.alloc, self.ops) {
             Ok(Some((request, finished))) => Ok(Some(Done { request, finished })),
-            Ok(None) => match turned {
+            Ok(None) => match turn {
                 Ok(()) => Ok(None),
                 Err(why) => Err(CallError::bare(cause_of(why, None))),
             },
