@@ -2,8 +2,10 @@
 //!
 //! Before these calls the ranks say how many items they give, by an `allgather`. Where the numbers differ, each rank gets the fault that one call
 //! would give, and none goes on by itself. A rank whose items fit into one call makes that call, which then meets the `allgather`: a fault too.
-ghost use Rattle.std.specs.Prelude.{◌≡◌};
-ghost use Rattle.mpx_program_rank.specs.Lengths.{block_of};
+ghost use Rattle.std.specs.Prelude.{◌≡◌, OnOk, pos};
+ghost use Rattle.mpx_kind.specs.declared.kinds.Mode.TheVariants.{Blocking};
+ghost use Rattle.mpx_comm.specs.Lines as line;
+ghost use Rattle.mpx_program_rank.specs.Lengths.{GivesInParts, HaveAgreed, block_of};
 
 use crate::call_error::{CallError, Cause};
 use crate::item::Item;
@@ -11,7 +13,7 @@ use crate::rank::Rank;
 use crate::reading::Made;
 use mpx_comm::{Comm, Host};
 use mpx_match::{Fault, FaultKind};
-use mpx_num::{MOST_ITEMS, Op};
+use mpx_num::{Listing, MOST_ITEMS, Op, Ops};
 use mpx_post::PostError;
 use std::alloc::Global;
 
@@ -34,14 +36,18 @@ impl<'a, H: Host> Rank<'a, H> {
         op: Op,
         items: &[T],
     ) -> Result<Vec<T>, CallError>
+        ensures gives { GivesInParts (λ host. H.goes_by host (⟦<Ops as Listing>⟧.operations self.old.ops.now)) H.node H.turned H.turn_refused comm.now.name (λ part. line.allreduce Blocking op T.ty (T.numbers part)) T.numbers self.old.turns items.now result self.old.desk.now self.new.desk.now }
         ensures same { self.new.desk.ghost_name ≡ self.old.desk.ghost_name }
         ensures kept { (self.new.world ≡ self.old.world) × (self.new.ops ≡ self.old.ops) × (self.new.turns ≡ self.old.turns) }
     {
         self.agree("allreduce", comm, items.len())?;
         let mut list = Vec::new(self.alloc);
-        for block in items.chunks(MOST_ITEMS) {
+        let mut rest = items;
+        while !rest.is_empty() {
+            let (block, after) = rest.split_at(rest.len().min(MOST_ITEMS));
             let part = self.one_allreduce(comm, op, block)?;
             list.extend_from_slice(&part)?;
+            rest = after;
         }
         Ok(list)
     }
@@ -53,14 +59,18 @@ impl<'a, H: Host> Rank<'a, H> {
         op: Op,
         items: &[T],
     ) -> Result<Vec<T>, CallError>
+        ensures gives { GivesInParts (λ host. H.goes_by host (⟦<Ops as Listing>⟧.operations self.old.ops.now)) H.node H.turned H.turn_refused comm.now.name (λ part. line.reduce Blocking (pos root) op T.ty (T.numbers part)) T.numbers self.old.turns items.now result self.old.desk.now self.new.desk.now }
         ensures same { self.new.desk.ghost_name ≡ self.old.desk.ghost_name }
         ensures kept { (self.new.world ≡ self.old.world) × (self.new.ops ≡ self.old.ops) × (self.new.turns ≡ self.old.turns) }
     {
         self.agree("reduce", comm, items.len())?;
         let mut list = Vec::new(self.alloc);
-        for block in items.chunks(MOST_ITEMS) {
+        let mut rest = items;
+        while !rest.is_empty() {
+            let (block, after) = rest.split_at(rest.len().min(MOST_ITEMS));
             let part = self.one_reduce(comm, root, op, block)?;
             list.extend_from_slice(&part)?;
+            rest = after;
         }
         Ok(list)
     }
@@ -71,14 +81,18 @@ impl<'a, H: Host> Rank<'a, H> {
         op: Op,
         items: &[T],
     ) -> Result<Vec<T>, CallError>
+        ensures gives { GivesInParts (λ host. H.goes_by host (⟦<Ops as Listing>⟧.operations self.old.ops.now)) H.node H.turned H.turn_refused comm.now.name (λ part. line.scan Blocking op T.ty (T.numbers part)) T.numbers self.old.turns items.now result self.old.desk.now self.new.desk.now }
         ensures same { self.new.desk.ghost_name ≡ self.old.desk.ghost_name }
         ensures kept { (self.new.world ≡ self.old.world) × (self.new.ops ≡ self.old.ops) × (self.new.turns ≡ self.old.turns) }
     {
         self.agree("scan", comm, items.len())?;
         let mut list = Vec::new(self.alloc);
-        for block in items.chunks(MOST_ITEMS) {
+        let mut rest = items;
+        while !rest.is_empty() {
+            let (block, after) = rest.split_at(rest.len().min(MOST_ITEMS));
             let part = self.one_scan(comm, op, block)?;
             list.extend_from_slice(&part)?;
+            rest = after;
         }
         Ok(list)
     }
@@ -89,14 +103,18 @@ impl<'a, H: Host> Rank<'a, H> {
         op: Op,
         items: &[T],
     ) -> Result<Vec<T>, CallError>
+        ensures gives { GivesInParts (λ host. H.goes_by host (⟦<Ops as Listing>⟧.operations self.old.ops.now)) H.node H.turned H.turn_refused comm.now.name (λ part. line.exscan Blocking op T.ty (T.numbers part)) T.numbers self.old.turns items.now result self.old.desk.now self.new.desk.now }
         ensures same { self.new.desk.ghost_name ≡ self.old.desk.ghost_name }
         ensures kept { (self.new.world ≡ self.old.world) × (self.new.ops ≡ self.old.ops) × (self.new.turns ≡ self.old.turns) }
     {
         self.agree("exscan", comm, items.len())?;
         let mut list = Vec::new(self.alloc);
-        for block in items.chunks(MOST_ITEMS) {
+        let mut rest = items;
+        while !rest.is_empty() {
+            let (block, after) = rest.split_at(rest.len().min(MOST_ITEMS));
             let part = self.one_exscan(comm, op, block)?;
             list.extend_from_slice(&part)?;
+            rest = after;
         }
         Ok(list)
     }
@@ -209,6 +227,7 @@ impl<'a, H: Host> Rank<'a, H> {
 
     // That all ranks give this number of items, else the fault that one call would give.
     fn agree(&mut self, name: &'static str, comm: &Comm, count: usize) -> Result<(), CallError>
+        ensures agreed { OnOk result (HaveAgreed (λ host. H.goes_by host (⟦<Ops as Listing>⟧.operations self.old.ops.now)) H.node H.turned H.turn_refused comm.now.name count self.old.turns self.old.desk.now self.new.desk.now) }
         ensures same { self.new.desk.ghost_name ≡ self.old.desk.ghost_name }
         ensures kept { (self.new.world ≡ self.old.world) × (self.new.ops ≡ self.old.ops) × (self.new.turns ≡ self.old.turns) }
     {
