@@ -9,7 +9,7 @@
 It checks that each crate stands in a room, and on crates above it in crates.txt alone; that the crates of the way below are there; and
 that the picture and the table are what it would write. Where a crate comes or goes, --write is enough.
 
-Of the way, which crates are entered is what --seen says (29 November 2026, 50ce7a5e): the program of bench/look keeps each function apart. Of join_core a
+Of the way, which crates are entered is what --seen says (1 December 2026, 46fd2e79): the program of bench/look keeps each function apart. Of join_core a
 run without a frame enters only what drops its values."""
 import html
 import pathlib
@@ -25,7 +25,7 @@ BEGIN, END = "<!-- bench/house.py writes this table -->\n", "<!-- until here -->
 
 # The crates whose code control enters in a run of one allreduce, and those besides where a frame carries its posts.
 ENTERED = """gossipmpi mpx_shell mpx_words mpx_affine mpx_num mpx_program mpx_run mpx_script mpx_statement mpx_kind mpx_post mpx_sim mpx_node
-mpx_board mpx_birth mpx_name mpx_group mpx_format join_nest join_core mpx_rank mpx_value mpx_match mpx_fold mpx_meaning""".split()
+mpx_board mpx_floor mpx_bus mpx_birth mpx_name mpx_group mpx_format join_nest join_core mpx_rank mpx_value mpx_match mpx_fold mpx_meaning""".split()
 FRAMED = "mpx_delta mpx_digest mpx_encode mpx_rope mpx_wire mpx_decode".split()
 
 

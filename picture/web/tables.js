@@ -57,14 +57,14 @@ function waitsByCall(run, turn) {
 }
 
 function unheardWords(unheard) {
-  return unheard.length > 4 ? counted(unheard.length, "rank lacks", "ranks lack") + " some" : joined(unheard.map(([rank, others]) => `${rank} of ${spoken(others)}`));
+  return unheard.length > 4 ? counted(unheard.length, "rank lacks", "ranks lack") + " some" : joined(unheard.map(([rank, others]) => `${rank} lacks ${spoken(others)}`));
 }
 
 // Who waits for whom. The last turn's are the program's own, where it says them.
 function waitsTable(run, turn) {
   if (isSaid(run, turn)) {
     const rows = run.waits.map(({ rank, line, call, words }) => row("rank " + rank, `${call} (line ${line})`, words));
-    return table("At the end, as the program says it", headRow("Who waits", "In which call", "No post of"), rows);
+    return table("At the end, as the program says it", headRow("Rank", "Waits in", "No post of"), rows);
   }
   const rows = waitsByCall(run, turn).map(([call, { ranks, unmade, unheard }]) => {
     const name = make("th", { scope: "row" }, make("strong", {}, callTitle(run, call)), make("br", {}), make("span", { class: "note" }, [callName(run, call), callLines(run, call)].filter(Boolean).join(", ")));

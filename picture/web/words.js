@@ -185,11 +185,16 @@ function heldWords(run, turn) {
   if (circle.length) return `${capital(ranksWords(circle))} wait for each other: a deadlock.`;
   if (!arrows.length) {
     const waits = waitsAfter(run, turn);
-    return waits.length ? `All have called what others wait for. Posts are on their way to ${ranksWords(waits.map(({ rank }) => rank))}.` : turn ? "Nobody waits." : "";
+    if (waits.length) return `All have called what others wait for. Posts are on their way to ${ranksWords(waits.map(({ rank }) => rank))}.`;
+    return turn === run.last && waitingIn(run.said).length ? `All posts have come. The run ends before ${goOnWords(waitingIn(run.said))}.` : turn ? "Nobody waits." : "";
   }
   const isAll = numbers(run.ranks).every((rank) => last.includes(rank) || waiting.includes(rank)), where = last.length > 6 ? "" : whereWords(run, last, turn);
   const whom = isAll ? "everybody" : waiting.length > 6 ? "others" : spokenWaiting(waiting), who = last.length > 6 ? last.length + " ranks" : capital(ranksWords(last));
   return `${who} ${last.length === 1 ? "holds" : "hold"} ${whom} up${where ? ": " + where : ""}.`;
+}
+
+function goOnWords(ranks) {
+  return ranksWords(ranks) + (ranks.length === 1 ? " goes on" : " go on");
 }
 
 function spokenWaiting(waiting) {

@@ -2,7 +2,9 @@
 //! script's evaluation, or how much the script has.
 #![tactic(auto)]
 
-use mpx_shell::{asks_for_threads, exit_code, exit_code_in_threads, invocation_of, seen_by};
+use mpx_shell::{
+    asks_for_threads, exit_code, exit_code_in_threads, invocation_of, say_how_to_give, seen_by,
+};
 use std::process::ExitCode;
 use std::{env, io};
 
@@ -11,6 +13,7 @@ fn main(rt: HostRuntime) -> ExitCode {
     let asked = invocation_of(rt.alloc(), env::args(&rt));
     let mut seen = seen_by(&asked, rt.alloc(), &rt, rt.stderr());
     let (mut reader, mut out, mut err) = (rt.reader(), io::writer(&rt), rt.stderr());
+    say_how_to_give(&asked, &rt.stdin(), &mut err);
     if asks_for_threads(&asked) {
         return exit_code_in_threads(
             &rt,

@@ -1,6 +1,6 @@
 //! The program's own call, as its `main` makes it, over streams in memory.
 use crate::terminals::{Leaping, Shown};
-use mpx_shell::{asks_for_threads, exit_code, exit_code_in_threads, seen_by};
+use mpx_shell::{asks_for_threads, exit_code, exit_code_in_threads, say_how_to_give, seen_by};
 use mpx_words::call_of;
 use std::alloc::Global;
 use std::io::{Read, Write};
@@ -17,7 +17,7 @@ pub struct Exited {
     pub shown: Vec<u8>,
 }
 
-/// Makes the call with these words, or with some that are no text, shown on what is a terminal or isn't.
+/// Makes the call with these words, or with some that are no text, from what is a terminal or isn't, and shown there.
 pub fn call_program<T: Threads + Wait + Sync, R: Read, W: Write>(
     rt: &T,
     alloc: Global,
@@ -36,6 +36,7 @@ pub fn call_program<T: Threads + Wait + Sync, R: Read, W: Write>(
         Ok(words) => call_of(alloc, &words),
         Err(why) => Err(why),
     };
+    say_how_to_give(&asked, &shown, said);
     let mut seen = seen_by(&asked, alloc, &clock, shown);
     let code = if asks_for_threads(&asked) {
         exit_code_in_threads(rt, alloc, &asked, reader, out, said, &mut seen)

@@ -19,12 +19,24 @@ pub(crate) fn detail_of(
     refusal: ScriptError,
     ops: &Ops,
 ) -> Result<Option<String>, OutOfMemory> {
+    if text.is_empty() {
+        return empty_script(alloc);
+    }
     let Some(line) = line_in(alloc, text, refusal.line)? else {
         return Ok(None);
     };
     let told = told_of(alloc, &line, refusal.what, ops);
     drop(line);
     told
+}
+
+// How a script is given, where none was.
+fn empty_script(alloc: Global) -> Result<Option<String>, OutOfMemory> {
+    let mut told = String::new(alloc);
+    told.push_str(
+        "the script is empty: its first line is ranks N, and < my.job reads it from a file",
+    )?;
+    Ok(Some(told))
 }
 
 fn told_of(

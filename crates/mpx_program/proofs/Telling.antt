@@ -27,7 +27,7 @@ use Rattle.mpx_run.specs.declared.report.Left.{Left}
 use Rattle.mpx_run.specs.declared.texts.RunError.{RunError}
 use Rattle.mpx_waiting.specs.ToldLines.{waiting_told}
 use Rattle.mpx_program.specs.Explained.{AreCalls, IsBehind, IsFound, IsHeaded, IsToldOfRun, HasTold, TellsEarly, TellsEnd, TellsEvaluation, TellsOf, RunEnded, ended_in, processes_in, processes_of, unexplained}
-use Rattle.mpx_program.specs.Jobs.{AsFounded}
+use Rattle.mpx_program.specs.Jobs.{HasEnded}
 use Rattle.mpx_program.specs.declared.found.Found.{Found}
 use Rattle.mpx_program.specs.declared.found.Found.TheVariants as F
 
@@ -74,7 +74,7 @@ evaluation_alone ops script text ended (Waiting ranks Unknown) more by told = le
 
 -- what is told by what was found and by what is left is told of the job
 pub found_tells : (ops : List Operation) (command : Command) (options : Options) (script : ScriptView) (text : List ℕ) (found : Found) (left : Left) (end : End) (out more : List ℕ) → IsFound ops command script found → ComesTo IsFounded ops command options script end out
-    → Leaves ops command options script end out left → HasTold script text found left (Ok end) more → TellsOf (AsFounded).ends ops command options script text end out more
+    → Leaves ops command options script end out left → HasTold script text found left (Ok end) more → TellsOf HasEnded ops command options script text end out more
 found_tells ops command options script text F.Nothing left end out more is comes leaves told = absurd is
 found_tells ops command options script text F.Wanting left end out more is comes leaves told = absurd told
 found_tells ops Check options script text (F.Certain found) left end out more is comes leaves (reason, none, told) = subst (λ cs. AreTold text cs [] more) is (subst (λ r. AreTold text (map complaint_view found.items) r more) none told)

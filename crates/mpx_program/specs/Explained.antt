@@ -22,6 +22,7 @@ use Rattle.mpx_eval.specs.Unheard.{unheard_in}
 use Rattle.mpx_eval.specs.Waiting.{waiting_in_full}
 use Rattle.mpx_explain.specs.Findings.{AreTold}
 use Rattle.mpx_explain.specs.Overflows.{AreOverflows}
+use Rattle.mpx_explain.specs.RefusedLines.{AreRefusalsTold}
 use Rattle.mpx_explain.specs.RunEnds.{IsRunTold}
 use Rattle.mpx_explain.specs.declared.ended.EndedRun.{EndedRun}
 use Rattle.mpx_run.specs.Left.{transcripts_in}
@@ -128,6 +129,10 @@ unexplained = codes "out of memory: no more is explained\n"
 -- where more is asked for, that is told, or that memory is wanting for it
 abbrev pub TellsMore : OfEnds → (explains : Bool) → List Operation → Job → ScriptView → (text : List ℕ) → End → (out more : List ℕ) → Type 0
 TellsMore Of explains ops job script text end out more = explains ≡ true → (more ≡ unexplained) ⊎ TellsOf Of ops job.command job.options script text end out more
+
+-- where more is asked for, the refused lines of a text that is no script are told, or that memory is wanting for it
+abbrev pub TellsRefused : (explains : Bool) → List Operation → (text more : List ℕ) → Type 0
+TellsRefused explains ops text more = explains ≡ true → (more ≡ unexplained) ⊎ AreRefusalsTold ops text [] more
 
 -- what is found in a script for a job of this command, where that is asked for
 abbrev pub IsFound : List Operation → Command → ScriptView → Found → Type 0

@@ -19,8 +19,8 @@ use Rattle.mpx_run.specs.declared.end.End.{End}
 use Rattle.mpx_run.specs.declared.streams.WriteFault.{WriteFault}
 use Rattle.mpx_run.specs.declared.report.Left.{Left}
 use Rattle.mpx_run.specs.declared.texts.RunError.{RunError}
-use Rattle.mpx_run.specs.declared.texts.RunError.TheVariants.{GateGaveUp}
-use Rattle.mpx_program.specs.Explained.{OfEnds, TellsMore, ended_in}
+use Rattle.mpx_run.specs.declared.texts.RunError.TheVariants.{GateGaveUp, Script}
+use Rattle.mpx_program.specs.Explained.{OfEnds, TellsMore, TellsRefused, ended_in}
 use Rattle.mpx_program.specs.Status.{advice, explanation, message, refusal_status, status}
 use Rattle.mpx_program.specs.Strict.{IsStrict}
 use Rattle.mpx_words.specs.Usage.{usage}
@@ -42,37 +42,59 @@ abbrev pub StrictOn : List Operation → Invocation → (text : List ℕ) → Re
 StrictOn ops call text (Ok end) complains = IsStrict ops call text complains
 StrictOn ops call text (Err error) complains = Unit {0}
 
--- what is told more of a job with a text that is read so, that came to this end, and of which that text is out
-abbrev pub TellsRead : OfEnds → (explains : Bool) → List Operation → Job → Result ScriptView ScriptError → (text : List ℕ) → End → (out more : List ℕ) → Type 0
-TellsRead Of explains ops job (Ok script) text end out more = TellsMore Of explains ops job script text end out more
-TellsRead Of explains ops job (Err refusal) text end out more = Unit {0}
+-- what more is said of a job for this call with a script of this text, which came to this end, and of which that text is out
+abbrev pub OfMore : Type 1
+OfMore = List Operation → Invocation → ScriptView → (text : List ℕ) → End → (out more : List ℕ) → Type 0
 
--- where a job comes to an end, a text is out, and this is told more of the job that printed it
-abbrev pub ExplainsOn : OfEnds → List Operation → Invocation → (text : List ℕ) → (old new : Option (List ℕ)) → Result End RunError → (more : List ℕ) → Type 0
-ExplainsOn Of ops call text old new answer more = IfOk answer (λ end. (out : List ℕ) × Appends old new out × TellsRead Of call.flags.explain ops call.job (reading ops text) text end out more)
+-- the same of a job with a text that is read so
+abbrev pub TellsRead : OfMore → List Operation → Invocation → Result ScriptView ScriptError → (text : List ℕ) → End → (out more : List ℕ) → Type 0
+TellsRead Of ops call (Ok script) text end out more = Of ops call script text end out more
+TellsRead Of ops call (Err refusal) text end out more = Unit {0}
 
--- what is said of a run: of its end and text, and of how it ended
+-- where a job comes to an end, a text is out, and this is said more of the job that printed it
+abbrev pub ExplainsOn : OfMore → List Operation → Invocation → (text : List ℕ) → (old new : Option (List ℕ)) → Result End RunError → (more : List ℕ) → Type 0
+ExplainsOn Of ops call text old new answer more = IfOk answer (λ end. (out : List ℕ) × Appends old new out × TellsRead Of ops call (reading ops text) text end out more)
+
+-- what more is said for this call of a text that is no script
+abbrev pub OfRefused : Type 1
+OfRefused = List Operation → Invocation → (text more : List ℕ) → Type 0
+
+-- where a job's script is refused, that is said of the text that a reader gives
+abbrev pub ExplainsRefused : OfRefused → List Operation → Invocation → (there left : Option (List ℕ)) → Result End RunError → (more : List ℕ) → Type 0
+ExplainsRefused Of ops call there left answer more = (refusal : ScriptError) → answer ≡ Err (Script refusal) → (text : List ℕ) × TakesInput there left text × Of ops call text more
+
+-- what is promised of jobs: of a run's end and text, and of what more is said
 pub record OfJobs : Type 1 where
   pub runs : OfRuns
-  pub ends : OfEnds
+  pub tells : OfMore
+  pub refused : OfRefused
 
--- what is printed of a run, however it ended
+-- what is printed, whatever more is said
 abbrev pub AsPrinted : OfJobs
-AsPrinted = record { runs = IsPrinted; ends = λ ops options script end text ended. Unit {0} }
+AsPrinted = record { runs = IsPrinted; tells = λ ops call script text end out more. Unit {0}; refused = λ ops call text more. Unit {0} }
 
--- on what a run stands, and that a run with this text and end, by what is left of it, ended so
+-- a run with this text and end, by what is left of it, ended so
+abbrev pub HasEnded : OfEnds
+HasEnded ops options script end text ended = (left : Left) × IsLeftIn options.threads ops options script end text left × (ended ≡ ended_in script.ranks left)
+
+-- on what a run stands, and what `--explain` says
 abbrev pub AsFounded : OfJobs
-AsFounded = record { runs = IsFounded; ends = λ ops options script end text ended. (left : Left) × IsLeftIn options.threads ops options script end text left × (ended ≡ ended_in script.ranks left) }
+AsFounded = record {
+  runs = IsFounded;
+  tells = λ ops call script text end out more. TellsMore HasEnded call.flags.explain ops call.job script text end out more;
+  refused = λ ops call text more. TellsRefused call.flags.explain ops text more;
+}
 
 -- a call's job is done with a text by the job's own operations, and no gate ends it
 pub record AnswersText (Is : OfJobs) (ops : List Operation) (call : Invocation) (text : List ℕ) (old new : Option (List ℕ)) (code : ℕ) (Says : List ℕ → Type 0) : Type 0 where
   pub answer : Result End RunError
   pub prints : Prints Is.runs ops nowhere call.job text old new answer
   pub ungated : answer ≢ Err GateGaveUp
+  pub unrefused : (refusal : ScriptError) → answer ≢ Err (Script refusal)
   pub complains : Bool
   pub strict : StrictOn ops call text answer complains
   pub more : List ℕ
-  pub explains : ExplainsOn Is.ends ops call text old new answer more
+  pub explains : ExplainsOn Is.tells ops call text old new answer more
   pub exits : Exits answer complains call.flags.explain more code Says
 
 -- the same of the text that a reader gives
@@ -80,8 +102,8 @@ abbrev pub StrictBy : List Operation → Invocation → (there left : Option (Li
 StrictBy ops call there left (Ok end) complains = (text : List ℕ) × TakesInput there left text × IsStrict ops call text complains
 StrictBy ops call there left (Err error) complains = Unit {0}
 
-abbrev pub ExplainsBy : OfEnds → List Operation → Invocation → (there left old new : Option (List ℕ)) → Result End RunError → (more : List ℕ) → Type 0
-ExplainsBy Of ops call there left old new answer more = IfOk answer (λ end. (text : List ℕ) × TakesInput there left text × (out : List ℕ) × Appends old new out × TellsRead Of call.flags.explain ops call.job (reading ops text) text end out more)
+abbrev pub ExplainsBy : OfMore → List Operation → Invocation → (there left old new : Option (List ℕ)) → Result End RunError → (more : List ℕ) → Type 0
+ExplainsBy Of ops call there left old new answer more = IfOk answer (λ end. (text : List ℕ) × TakesInput there left text × (out : List ℕ) × Appends old new out × TellsRead Of ops call (reading ops text) text end out more)
 
 -- a reader gives a text that is read as this script, and whether it has calls to complain of is as `--strict` asks
 pub record IsPrepared (ops : List Operation) (call : Invocation) (there left : Option (List ℕ)) (text : List ℕ) (script : ScriptView) (complains : Bool) : Type 0 where
@@ -102,7 +124,8 @@ pub record DoesJobWith (Is : OfJobs) (ops : List Operation) (call : Invocation) 
   pub complains : Bool
   pub strict : StrictBy ops call there left answer complains
   pub more : List ℕ
-  pub explains : ExplainsBy Is.ends ops call there left old new answer more
+  pub explains : ExplainsBy Is.tells ops call there left old new answer more
+  pub refused : ExplainsRefused Is.refused ops call there left answer more
   pub exits : Exits answer complains call.flags.explain more code Says
 
 -- a call is refused, for a reason of that kind

@@ -3,6 +3,7 @@ ghost use Rattle.std.specs.Prelude.{◌≡◌, [], IfErr, IfOk, List, OnOk, fals
 ghost use Rattle.mpx_num.specs.declared.own.Operation.{Operation};
 ghost use Rattle.mpx_eval.specs.Findings.{AreFindings};
 ghost use Rattle.mpx_eval.specs.Found.{complaint_view, waiting_view};
+ghost use Rattle.mpx_explain.specs.RefusedLines.{AreRefusalsTold};
 ghost use Rattle.mpx_run.specs.Left.{transcripts_in};
 ghost use Rattle.mpx_run.specs.declared.report.Left.{Left};
 ghost use Rattle.mpx_waiting.specs.ToldLines.{waiting_told};
@@ -17,7 +18,7 @@ use mpx_explain::{
     EndedRun, explain_calls, explain_refusals, explain_results, explain_run, explain_unheard,
 };
 use mpx_node::Node;
-use mpx_num::Ops;
+use mpx_num::{Listing, Ops};
 use mpx_run::{Cause, End, Left, RunError};
 use mpx_script::Script;
 use mpx_waiting::push_waiting;
@@ -64,20 +65,21 @@ pub(crate) fn explained_reason(alloc: Global, call: &Invocation, error: &RunErro
     told
 }
 
-/// The same of a script that is refused: its refused lines.
+/// The same of a script that is refused: its refused lines. An `Err` is want of memory for them.
 pub(crate) fn explained_refusals(
     alloc: Global,
     call: &Invocation,
     text: &[u8],
     ops: &Ops,
-) -> Vec<u8>
-    ensures { call.now.flags.explain ≡ false → result.items ≡ [] }
+) -> Result<Vec<u8>, OutOfMemory>
+    ensures off { call.now.flags.explain ≡ false → IfOk result (λ told. told.items ≡ []) }
+    ensures on { call.now.flags.explain ≡ true → IfOk result (λ told. AreRefusalsTold (⟦<Ops as Listing>⟧.operations ops.now) text.now [] told.items) }
 {
     let mut told = Vec::new(alloc);
     if call.flags.explain {
-        let _ = explain_refusals(alloc, text, ops, &mut told);
+        explain_refusals(alloc, text, ops, &mut told)?;
     }
-    told
+    Ok(told)
 }
 
 // What is told by what was found.

@@ -60,7 +60,7 @@ pub fn run_job<T: Threads + Sync, R: Read, W: Write, E: Write>(
             &Err(failed.error),
             false,
             call.flags.explain,
-            &failed.more,
+            more_of(&failed.more),
             err,
         ),
     }
@@ -91,7 +91,7 @@ pub fn run_job_in_threads<T: Threads + Wait + Sync, R: Read, W: Write, E: Write>
             &Err(failed.error),
             false,
             call.flags.explain,
-            &failed.more,
+            more_of(&failed.more),
             err,
         ),
     }

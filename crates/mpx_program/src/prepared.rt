@@ -1,8 +1,10 @@
 //! A call's script, which is read once, and examined once at most.
-ghost use Rattle.std.specs.Prelude.{◌≡◌, Err, IfErr, IfOk, Ok, Option, List, ℕ, true};
+ghost use Rattle.std.specs.Prelude.{◌≡◌, [], Err, IfErr, IfOk, Ok, Option, List, ℕ, true};
+ghost use Rattle.mpx_explain.specs.RefusedLines.{AreRefusalsTold};
 ghost use Rattle.mpx_script.specs.Reading.{reading};
+ghost use Rattle.mpx_script.specs.declared.faults.ScriptError.{ScriptError};
 ghost use Rattle.mpx_run.specs.Founded.{IsFounded};
-ghost use Rattle.mpx_run.specs.Texts.{PrintsUngated};
+ghost use Rattle.mpx_run.specs.Texts.{PrintsUngated, TakesInput};
 ghost use Rattle.mpx_program.specs.Explained.{IsFound};
 ghost use Rattle.mpx_program.specs.Jobs.{FailsBefore, IsPrepared};
 ghost use Rattle.mpx_program.specs.Strict.{IsStrict};
@@ -27,11 +29,11 @@ pub(crate) struct Prepared {
     pub(crate) complains: bool,
 }
 
-/// Why there is none, and what `--explain` tells of it.
+/// Why there is none, and what `--explain` tells of it; an `Err` is want of memory for these lines.
 #[derive(Drop)]
 pub(crate) struct Failed {
     pub(crate) error: RunError,
-    pub(crate) more: Vec<u8>,
+    pub(crate) more: Result<Vec<u8>, OutOfMemory>,
 }
 
 /// Reads the text of a call's script, and the script, and finds what `--strict` and `--explain` ask for.
@@ -44,6 +46,8 @@ pub(crate) fn prepare<R: Read>(
     ensures ok { IfOk result (λ p. IsPrepared (⟦<Ops as Listing>⟧.operations ops.now) call.now (R.remaining reader.old) (R.remaining reader.new) p.text.items p.script p.complains) }
     ensures found { IfOk result (λ p. call.now.flags.explain ≡ true → IsFound (⟦<Ops as Listing>⟧.operations ops.now) call.now.job.command p.script p.found) }
     ensures err { IfErr result (λ f. FailsBefore (⟦<Ops as Listing>⟧.operations ops.now) call.now.job (R.remaining reader.old) (R.remaining reader.new) f.error) }
+    ensures told { IfErr result (λ f. (refusal : ScriptError) → f.error ≡ RunError.Script refusal → (text : List ℕ) × TakesInput (R.remaining reader.old) (R.remaining reader.new) text
+        × (call.now.flags.explain ≡ true → IfOk f.more (λ lines. AreRefusalsTold (⟦<Ops as Listing>⟧.operations ops.now) text [] lines.items))) }
 {
     match read_bytes(alloc, reader) {
         Ok(text) => match with_script(alloc, call, &text, ops) {
@@ -89,33 +93,19 @@ fn with_script(
     ensures strict { IfOk result (λ w. IsStrict (⟦<Ops as Listing>⟧.operations ops.now) call.now text.now w.examined.complains) }
     ensures found { IfOk result (λ w. call.now.flags.explain ≡ true → IsFound (⟦<Ops as Listing>⟧.operations ops.now) call.now.job.command w.script w.examined.found) }
     ensures err { IfErr result (λ f. (old : Option (List ℕ)) → PrintsUngated IsFounded (⟦<Ops as Listing>⟧.operations ops.now) call.now.job text.now old old (Err f.error)) }
+    ensures told { IfErr result (λ f. (refusal : ScriptError) → f.error ≡ RunError.Script refusal → call.now.flags.explain ≡ true
+        → IfOk f.more (λ lines. AreRefusalsTold (⟦<Ops as Listing>⟧.operations ops.now) text.now [] lines.items)) }
 {
     match read_script(alloc, text, ops) {
         Ok(script) => match examine_script(alloc, call, &script, ops) {
             Ok(examined) => Ok(WithScript { script, examined }),
             Err(OutOfMemory) => Err(without_more(alloc, RunError::Memory)),
         },
-        Err(refused) => {
-            let more = refused_lines(alloc, call, &refused, text, ops);
-            Err(Failed {
-                error: RunError::from(refused),
-                more,
-            })
-        }
-    }
-}
-
-// What is explained of a refused script.
-fn refused_lines(
-    alloc: Global,
-    call: &Invocation,
-    refused: &ReadScriptError,
-    text: &[u8],
-    ops: &Ops,
-) -> Vec<u8> {
-    match refused {
-        ReadScriptError::Refused(_) => explained_refusals(alloc, call, text, ops),
-        ReadScriptError::OutOfMemory => Vec::new(alloc),
+        Err(ReadScriptError::OutOfMemory) => Err(without_more(alloc, RunError::Memory)),
+        Err(ReadScriptError::Refused(refusal)) => Err(Failed {
+            error: RunError::Script(refusal),
+            more: explained_refusals(alloc, call, text, ops),
+        }),
     }
 }
 
@@ -123,7 +113,7 @@ fn refused_lines(
 fn with_reason(alloc: Global, call: &Invocation, error: RunError) -> Failed
     ensures { result.error ≡ error }
 {
-    let more = explained_reason(alloc, call, &error);
+    let more = Ok(explained_reason(alloc, call, &error));
     Failed { error, more }
 }
 
@@ -133,6 +123,6 @@ fn without_more(alloc: Global, error: RunError) -> Failed
 {
     Failed {
         error,
-        more: Vec::new(alloc),
+        more: Ok(Vec::new(alloc)),
     }
 }

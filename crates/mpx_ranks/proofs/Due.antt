@@ -1,12 +1,16 @@
 -- What is to be dropped, and what a prune to it does.
-use Rattle.std.proofs.Common.{◌≡◌, ℕ, zero, suc, ◌<◌, ◌+◌, Bool, true, false, cond, List, [], ◌∷◌, ◌++◌, length, map, Option, None, Some, Result, Ok, Err, refl, sym, ap, ◌∙◌, subst, arith}
+use Rattle.std.proofs.Common.{◌≡◌, ℕ, zero, suc, ◌<◌, ◌+◌, Bool, true, false, cond, List, [], ◌∷◌, ◌++◌, length, map, get_or, Option, None, Some, Result, Ok, Err, refl, sym, ap, ◌∙◌, subst, arith, inl, inr}
 use Rattle.std.specs.Prelude.{OnOk, slice_get}
 use Rattle.std.specs.FinMap.{get-entries, entries}
 use Rattle.std.specs.FinMap.Entries.{find}
 use Rattle.std.specs.Option.{option_map}
+use Rattle.std.specs.Result.{IsErr}
 use Rattle.std.specs.Ordering.{eq_by_cmp, is_eq}
 use Rattle.std.specs.declared.cmp.Ordering.{Ordering}
 use Rattle.std.specs.declared.cmp.Ordering.TheVariants.{Less, Equal, Greater}
+use Rattle.std.proofs.lemmas.Bool.{cases_eq}
+use Rattle.std.proofs.lemmas.Option.{get_or_from_slice_get}
+use Rattle.join_core.specs.declared.memory.OutOfMemory.{OutOfMemory}
 use Rattle.join_nest.specs.Seen.{seen}
 use Rattle.mpx_birth.specs.Births.{BirthView}
 use Rattle.mpx_board.specs.Boards.{Context, Look, minimum, told}
@@ -24,7 +28,7 @@ use Rattle.mpx_node.proofs.Dropped.{drops_floor, floor_is_pruned}
 use Rattle.mpx_node.specs.Nodes.{NodeView, learn_some, prune_part}
 use Rattle.mpx_node.specs.Settling.{DropsAll, HasDropped, IsToDrop, KillsFreed, with_prune}
 use Rattle.mpx_world.specs.Worlds.{ProcessView, drops, takes}
-use Rattle.mpx_ranks.specs.Members.{DropsOne, HasNoneToDrop}
+use Rattle.mpx_ranks.specs.Members.{DropsOne, FindsOne, HasNoneToDrop, Prunes}
 
 -- ALL CONTEXTS
 
@@ -53,9 +57,9 @@ keys_seen : {V W : Type 0} (view : V → W) (es : List (Name × V)) → map (λ 
 keys_seen view [] = refl
 keys_seen view (e ∷ es) = ap (λ ks. e.0 ∷ ks) (keys_seen view es)
 
-key_at : {V : Type 0} (es : List (Name × V)) (i : ℕ) (name : Name) → slice_get (map (λ e. e.0) es) i ≡ Some name → (e : Name × V) × (slice_get es i ≡ Some e) × (e.0 ≡ name)
+key_at : {V : Type 0} (es : List (Name × V)) (i : ℕ) (name : Name) → slice_get (map (λ e. e.0) es) i ≡ Some name → (e : Name × V) × ((slice_get es i ≡ Some e) × (e.0 ≡ name))
 key_at [] i name e = cc e
-key_at (x ∷ es) zero name e = (x, refl, cc e)
+key_at (x ∷ es) zero name e = (x, (refl, cc e))
 key_at (x ∷ es) (suc i) name e = key_at es i name e
 
 said_in : (parts : PartsView) (name : Name) → (look_of parts).contexts name ≡ or_nothing (find name_cmp name (entries parts.0))
@@ -70,6 +74,26 @@ none_due view node parts es board is each name floor has =
     let found = entry_found name (seen view es) floor (subst (λ (c : Context). HasFloor c floor) same has) in
     let at = key_at es found.0 name (ap (λ ks. slice_get ks found.0) (sym (keys_seen view es)) ∙ found.1) in
     subst (λ n. HasDropped n node) at.1.1 (each found.0 at.0 at.1.0) floor has
+
+-- ONE CONTEXT AFTER ANOTHER
+
+-- one entry more has none to drop
+pub one_more : {V : Type 0} (node : NodeView) (es : List (Name × V)) (n : ℕ) (x : Name × V) → x ≡ get_or es n x → HasDropped x.0 node
+    → ((i : ℕ) (e : Name × V) → i < n → slice_get es i ≡ Some e → HasDropped e.0 node)
+    → (i : ℕ) (e : Name × V) → i < n + 1 → slice_get es i ≡ Some e → HasDropped e.0 node
+one_more node es n x is none before i e less at = elim (cases_eq i n) [
+  | inl same ↦ subst (λ (y : Name × _). HasDropped y.0 node) (is ∙ ap (λ k. get_or es k x) (sym same) ∙ get_or_from_slice_get es i e x at) none
+  | inr other ↦ before i e (omega (arith, less, other)) at
+]
+
+-- memory was wanting for the name of one of which there are some
+pub finds_err : (node : NodeView) (r : Result (Option (Name × ℕ)) OutOfMemory) (name : Name) → IsErr r → ¬ (HasDropped name node) → FindsOne r node
+finds_err node (Ok found) name err some = cc err
+finds_err node (Err e) name err some = (name, some)
+
+pub prunes_err : (r : Result (Unit {0}) OutOfMemory) (a : PortView) → IsErr r → (name : Name) × ¬ (HasDropped name (node_in a)) → Prunes r a a
+prunes_err (Ok u) a err some = cc err
+prunes_err (Err e) a err some = (refl, some)
 
 -- A PRUNE
 

@@ -1,5 +1,5 @@
 -- What a pull and a put do to a port.
-use Rattle.std.specs.Prelude.{◌≡◌, ◌+◌, All, Bool, true, false, List, [], None, Some, Result, Ok, Err, slice_get}
+use Rattle.std.specs.Prelude.{◌≡◌, ◌+◌, ℕ, All, Bool, true, false, List, [], None, Some, Result, Ok, Err, slice_get}
 use Rattle.join_core.specs.declared.memory.OutOfMemory.{OutOfMemory}
 use Rattle.mpx_name.specs.Name.{Name}
 use Rattle.mpx_node.specs.Nodes.{front_on, has_next as node_has_next, posted_on}

@@ -78,6 +78,30 @@ pub fn asks_for_threads(asked: &Result<Invocation, clap::Error>) -> bool
     }
 }
 
+// What is said where a script is to come from a terminal.
+const FROM_TERMINAL: &str =
+    "The script is read from this terminal, up to Ctrl-D. From a file: gossipmpi run < my.job
+";
+
+/// Where the words of a process ask for something and its input is a terminal, says how a script is given. What fails on the standard error
+/// is let go.
+pub fn say_how_to_give<I: IsTerminal, E: Write>(
+    asked: &Result<Invocation, clap::Error>,
+    input: &I,
+    err: &mut E,
+)
+    ensures refused { OnErr asked.now (E.contents err.new ≡ E.contents err.old) }
+{
+    match asked {
+        Ok(_) => {
+            if input.is_terminal() {
+                let _ = err.write_all(FROM_TERMINAL.as_bytes());
+            }
+        }
+        Err(_) => {}
+    }
+}
+
 /// Answers what the words of a process ask for, unless that is a run in threads, and gives its status as the process's. It always returns: it
 /// waits for nobody. What fails on the standard error is let go: the status stays as it is. Of a call that no words ask for it promises nothing.
 pub fn exit_code<T: Threads + Sync, R: Read, W: Write, E: Write>(

@@ -342,12 +342,7 @@ fn harvest_to(
 }
 
 // Stores the results of a context until no further one can be had.
-fn harvest_all(
-    alloc: Global,
-    node: &mut Node,
-    name: &Name,
-    ops: &Ops,
-) -> Result<(), OutOfMemory>
+fn harvest_all(alloc: Global, node: &mut Node, name: &Name, ops: &Ops) -> Result<(), OutOfMemory>
     ensures { OnOk result (Harvests (⟦<Ops as Listing>⟧.operations ops.now) (node_of node.old) (node_of node.new)) }
 {
     node.harvest_all(alloc, name, ops)

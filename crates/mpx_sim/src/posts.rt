@@ -1,7 +1,7 @@
 //! The posts of a run's rank, for an observer.
 
 use crate::observer::Observer;
-use join_core::OutOfMemory;
+use join_core::{Exact, OutOfMemory};
 use mpx_name::Name;
 use mpx_statement::Statement;
 use std::alloc::Global;

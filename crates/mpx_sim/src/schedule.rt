@@ -2,7 +2,7 @@
 ghost use Rattle.std.specs.Prelude.{◌≡◌, ◌<◌, ◌≤◌, ◌↔◌, IfOk, IfSome, IsFalse, IsTrue, None, Some, if◌then◌else◌, length, nat_eq, suc, ℕ};
 ghost use Rattle.std.specs.List.Sorted.{IsPermutation};
 ghost use Rattle.mpx_sim.specs.Draws.{all_below, draw, drawn, drawn_again, drawn_times, generator, powers_below, shuffled};
-ghost use Rattle.mpx_sim.specs.Senders.{receiver};
+ghost use Rattle.mpx_sim.specs.Senders.{LeadSoFar, receiver};
 ghost use Rattle.mpx_sim.specs.Shown.{schedule_of};
 
 use join_core::OutOfMemory;
@@ -27,7 +27,7 @@ pub(crate) struct Schedule {
 
 impl Schedule {
     /// For so many processes. The shifts are the powers of two below their number, in an order that is drawn once. Where there is another process,
-    /// each shift leads to another one.
+    /// each shift leads to another one. Each distance is a sum of some of them.
     pub(crate) fn new(
         alloc: Global,
         seed: u64,
@@ -38,6 +38,7 @@ impl Schedule {
         ensures seed { IfOk result (λ schedule. schedule.words ≡ drawn_times (powers_below 6 processes) (generator seed)) }
         ensures shifts { IfOk result (λ schedule. schedule.shifts.items ≡ shuffled 0 (powers_below 6 processes) (generator seed) (all_below 6 processes)) }
         ensures others { IfOk result (λ schedule. (p place : ℕ) → 1 < processes → p < processes → receiver schedule.shifts.items processes p place ≡ p → ⊥) }
+        ensures far { IfOk result (λ schedule. (far : ℕ) → processes ≤ 64 → far < processes → LeadSoFar schedule.shifts.items far) }
     {
         let mut shifts = Vec::new(alloc);
         for place in 0..MOST_SHIFTS {

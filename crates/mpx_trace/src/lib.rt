@@ -2,9 +2,11 @@
 //! by [`Progress`](mpx_sim::Progress) alone how far the run is.
 //!
 //! In the order of reading: [`Trace`], a line an event; [`Table`], a row a turn. What a board holds is told by
-//! `holding.rt`. What fails on the writer is let go: a run goes on as if nobody looked on.
+//! `holding.rt`, and of a table's rank by `cells.rt`. What fails on the writer is let go: a run goes on as if nobody looked on.
 #![tactic(auto)]
 
+mod cells;
+mod columns;
 mod holding;
 mod news;
 mod script_lines;

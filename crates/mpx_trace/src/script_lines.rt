@@ -51,8 +51,15 @@ impl ScriptLines {
         push_words(self.line(number), told)
     }
 
-    // The number of that line. The lines of a rank are looked up once.
-    fn number_of(
+    /// How many digits the number of its last line has.
+    pub(crate) fn digits(&self, alloc: Global) -> io::Result<usize> {
+        let mut number = Vec::new(alloc);
+        write!(number, "{}", self.starts.len())?;
+        Ok(number.len())
+    }
+
+    /// The number of the line that gives a rank the statement of this number, where there is one. The lines of a rank are looked up once.
+    pub(crate) fn number_of(
         &mut self,
         alloc: Global,
         rank: u8,

@@ -1,24 +1,28 @@
 //! A simulated run, a row a turn.
 ghost use Rattle.std.specs.Prelude.{◌≡◌};
 
-use crate::holding::Newest;
-use crate::news::News;
+use crate::cells::Cell;
+use crate::columns::Columns;
+use crate::script_lines::ScriptLines;
+use mpx_name::Name;
 use mpx_node::Node;
 use mpx_sim::{FrameSeen, Observer, Progress};
 use std::alloc::Global;
 use std::io::{self, Write};
 
-/// Shows a simulated run as a table in Markdown, a row for each turn: of each process which posts of the newest call it held when it
-/// last took a frame (`-` before it took one), and then which frames brought something new of that, and which lines ranks got.
+/// Shows a simulated run as a table with a row for each turn: of each rank the script's line of its newest call, and whose posts to that
+/// call it has. Where that doesn't fit into 80 columns, a rank has one mark: whether it has all of these posts.
 #[derive(Drop)]
 pub struct Table<W: Write> {
     alloc: Global,
     out: W,
-    /// Of each process, what it held.
-    cells: Vec<Newest>,
-    /// What was new in this turn.
-    new: Vec<u8>,
-    news: News,
+    script: ScriptLines,
+    /// Of each process, what is shown; of relays that isn't written.
+    cells: Vec<Cell>,
+    /// How many ranks there are, as far as is known.
+    ranks: usize,
+    /// Where columns begin, once the head is written.
+    columns: Option<Columns>,
     /// How many rows were written.
     rows: u32,
 }
@@ -30,9 +34,10 @@ impl<W: Write> Table<W> {
         Table {
             alloc,
             out,
+            script: ScriptLines::new(alloc),
             cells: Vec::new(alloc),
-            new: Vec::new(alloc),
-            news: News::new(),
+            ranks: 0,
+            columns: None,
             rows: 0,
         }
     }
@@ -47,82 +52,63 @@ impl<W: Write> Table<W> {
     // There are cells up to this process.
     fn reach(&mut self, process: u8) -> io::Result<()> {
         for _ in self.cells.len()..usize::from(process).saturating_add(1) {
-            self.cells.push(Newest::new(self.alloc)?)?;
+            self.cells.push(Cell::new(self.alloc))?;
         }
         Ok(())
     }
 
     fn take(&mut self, frame: FrameSeen, node: &Node) -> io::Result<()> {
         self.reach(frame.to)?;
-        let Some(cell) = self.cells.get_mut(usize::from(frame.to)) else {
-            return Ok(());
-        };
-        let held = cell.after(self.alloc, node.board())?;
-        let is_same = cell.text == held.text;
-        *cell = held;
-        if is_same {
-            return Ok(());
+        if let Some(cell) = self.cells.get_mut(usize::from(frame.to)) {
+            cell.meet(self.alloc, node.board())?;
         }
-        let (from, to) = (frame.from, frame.to);
-        self.separate()?;
-        write!(self.new, "{from} -> {to}")
+        Ok(())
     }
 
-    fn get(&mut self, rank: u8, line: &str) -> io::Result<()> {
-        self.separate()?;
-        write!(self.new, "rank {rank}: {line}")
-    }
-
-    // Separates what is new from what was told before it.
-    fn separate(&mut self) -> io::Result<()> {
-        if !self.new.is_empty() {
-            self.new.extend_from_slice(b", ")?;
+    fn post(&mut self, rank: u8, name: &Name, call: u32, statement: usize) -> io::Result<()> {
+        let line = self
+            .script
+            .number_of(self.alloc, rank, statement)?
+            .unwrap_or(0);
+        self.ranks = self.ranks.max(usize::from(rank).saturating_add(1));
+        self.reach(rank)?;
+        if let Some(cell) = self.cells.get_mut(usize::from(rank)) {
+            cell.post(self.alloc, rank, name, call, line)?;
         }
         Ok(())
     }
 
     // Writes a row, and before the first one the table's head.
     fn write_row(&mut self, turn: u32) -> io::Result<()> {
-        let mut text = Vec::new(self.alloc);
-        if self.rows == 0 {
-            self.push_head(&mut text)?;
-        }
+        let alloc = self.alloc;
+        let mut text = Vec::new(alloc);
+        let columns = match self.columns {
+            Some(columns) => columns,
+            None => {
+                let columns = Columns::new(self.ranks, self.script.digits(alloc)?);
+                columns.push_head(alloc, &mut text)?;
+                columns
+            }
+        };
+        let cells = self.cells.get(..self.ranks).unwrap_or(&self.cells);
+        columns.push_turn(alloc, turn, cells, &mut text)?;
+        self.columns = Some(columns);
         self.rows = self.rows.saturating_add(1);
-        write!(text, "| {turn} |")?;
-        for cell in &self.cells {
-            text.extend_from_slice(b" ")?;
-            text.extend_from_slice(&cell.text)?;
-            text.extend_from_slice(b" |")?;
+        for cell in &mut self.cells {
+            cell.is_new = false;
         }
-        text.extend_from_slice(b" ")?;
-        text.extend_from_slice(&self.new)?;
-        text.extend_from_slice(b" |\n")?;
-        self.new.clear();
         self.out.write_all(&text)
-    }
-
-    fn push_head(&self, text: &mut Vec<u8>) -> io::Result<()> {
-        text.extend_from_slice(b"| turn |")?;
-        for process in 0..self.cells.len() {
-            write!(text, " {process} |")?;
-        }
-        text.extend_from_slice(b" new |\n|---|")?;
-        for _ in 0..self.cells.len() {
-            text.extend_from_slice(b"---|")?;
-        }
-        text.extend_from_slice(b"---|\n")?;
-        Ok(())
     }
 }
 
 impl<W: Write + Drop> Observer for Table<W> {
-    fn turn(&mut self, number: u32, _progress: Progress) {
-        let _ = self.write_row(number);
+    fn begins(&mut self, text: &[u8]) {
+        let _ = self.script.read(self.alloc, text);
     }
 
-    fn sent(&mut self, frame: FrameSeen, _lost: bool) {
-        let _ = self.reach(frame.from);
-        let _ = self.reach(frame.to);
+    fn turn(&mut self, number: u32, progress: Progress) {
+        self.ranks = progress.ranks;
+        let _ = self.write_row(number);
     }
 
     fn follows_frames(&self) -> bool {
@@ -133,14 +119,16 @@ impl<W: Write + Drop> Observer for Table<W> {
         let _ = self.take(frame, node);
     }
 
-    fn told(&mut self, _turn: u32, rank: u8, lines: &[String]) {
-        for line in self.news.of(rank, lines) {
-            let _ = self.get(rank, line.as_str());
-        }
+    fn follows_posts(&self) -> bool {
+        true
+    }
+
+    fn posted(&mut self, _turn: u32, rank: u8, name: &Name, call: u32, statement: usize) {
+        let _ = self.post(rank, name, call, statement);
     }
 
     fn over(&mut self) {
-        if !self.new.is_empty() {
+        if self.cells.iter().any(|cell| cell.is_new) {
             let _ = self.write_row(self.rows.saturating_add(1));
         }
         let _ = self.out.flush();

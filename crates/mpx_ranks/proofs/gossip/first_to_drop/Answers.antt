@@ -5,11 +5,17 @@ use Rattle.mpx_board.specs.Looks.{parts_of}
 use Rattle.mpx_board.specs.Parts.{PartsView}
 use Rattle.mpx_board.specs.Views.{view_of_lifted}
 use Rattle.mpx_node.specs.Shown.{node_of}
-use Rattle.mpx_ranks.proofs.Due.{none_due}
+use Rattle.mpx_ranks.proofs.Due.{finds_err, none_due, one_more}
 use Rattle.mpx_ranks.proofs.gossip.first_to_drop.Goals as goal
 
 pub loop-name-init : goal.loop-name-init
 loop-name-init c = λ i e l. absurd (omega (arith, l))
+
+pub loop-name-preserved : goal.loop-name-preserved
+loop-name-preserved c = one_more (node_of c.args.node.now) c.entries-name-items.result.now c.loop-name.name-index c.loop-name-item.result c.loop-name-item.is c.in_default.ensures c.loop-name.invariant
+
+pub returns-in_err-copy : goal.returns-in_err-copy
+returns-in_err-copy c = finds_err (node_of c.args.node.now) c.from_residual.result c.loop-name-item.result.0 c.from_residual.ensures.0 c.in-Some.ensures.1
 
 pub returns : goal.returns
 returns c =

@@ -41,4 +41,5 @@ returns-in-Err-GaveUp-clause-waits g c =
     let gave_up = rw c.in-Err-GaveUp.field-0-is at c.in-Err-GaveUp.ensures.gave_up in
     let kept = kept_tested (g.H.Host.node c.args.self.now.host) c.args.requests.items
     (ap (λ rs. list_any (has_let_go (g.H.Host.node c.args.self.now.host)) rs) (sym c.deref.ensures.value) ∙ sym c.one_was_let_go.ensures ∙ c.if-one_was_let_go.false) in
+    rw c.in-Err-GaveUp.field-0-is
     (refl, kept_later (g.H.Host.node c.args.self.now.host) (g.H.Host.node c.await_all.new.host) c.args.requests.items c.await_all.ensures.later kept, rw c.deref-2.ensures.value at gave_up, refl)

@@ -16,7 +16,7 @@ returns-in-Err-OutOfMemory-clause-waits g c =
 pub returns-in-Err-GaveUp-clause-waits : goal.returns-in-Err-GaveUp-clause-waits
 returns-in-Err-GaveUp-clause-waits g c =
     let gave_up = rw c.in-Err-GaveUp.field-0-is at c.in-Err-GaveUp.ensures.gave_up in
-    (rw c.as_slice.ensures.keys at gave_up, refl)
+    rw c.in-Err-GaveUp.field-0-is (rw c.as_slice.ensures.keys at gave_up, refl)
 
 pub returns-in-Ok-Some-clause-waits : goal.returns-in-Ok-Some-clause-waits
 returns-in-Ok-Some-clause-waits g c =
