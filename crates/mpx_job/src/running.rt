@@ -50,14 +50,13 @@ impl<'p, P: RankProgram> Program for Ranked<'p, P> {
         alloc: Global,
         desk: &mut Desk<H>,
         world: &Comm,
-        ops: &Ops,
+        _ops: &Ops,
     ) -> Result<P::Answer, P::Error> {
         let turns = self.program.turns();
         let mut rank = Rank {
             desk,
             alloc,
             world,
-            ops,
             turns,
         };
         self.program.run(&mut rank)

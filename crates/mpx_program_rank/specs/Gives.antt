@@ -116,8 +116,8 @@ abbrev pub Starts : {H : Type 0} {g : _} {A : Type 0} → List Operation → (no
 Starts {H} {g} ops node turned refused name draft request_of (Ok pending) old new =
     (between : Desk H g) × (made : Result (Unit {0}) TurnError) × DeskAsks ops node name draft (Ok (request_of pending)) old between
     × turned old.host 0 between.host × TurnsOnce turned refused made between new
-Starts ops node turned refused name draft request_of (Err e) old new =
-    IsNotMade (Err e) old new ⊎ ((refusal : PostError) × DeskAsks ops node name draft (Err refusal) old new × turned old.host 0 new.host × (desk_error e.cause ≡ Some (C.Refused refusal)))
+Starts {H} {g} {A} ops node turned refused name draft request_of (Err e) old new =
+    IsNotMade {A = A} (Err e) old new ⊎ ((refusal : PostError) × DeskAsks ops node name draft (Err refusal) old new × turned old.host 0 new.host × (desk_error e.cause ≡ Some (C.Refused refusal)))
 
 -- what is answered where the desk has posted so: the request, after one turn; or the refusal
 abbrev pub IsStarted : {H : Type 0} {g : _} {A : Type 0} → (turned : H → ℕ → H → Type 0) → (refused : H → TurnError → H → Type 0) → (request_of : A → Request) → Result Request PostError → Result A CallError → (old new : Desk H g) → Type 0

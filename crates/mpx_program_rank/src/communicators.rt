@@ -1,5 +1,5 @@
 //! The calls that make communicators, and the one that frees them.
-ghost use Rattle.std.specs.Prelude.{◌≡◌, IfErr, IfOk, Ok, Some, map, pos};
+ghost use Rattle.std.specs.Prelude.{◌≡◌, [], IfErr, IfOk, Ok, Some, map, pos};
 ghost use Rattle.mpx_comm.specs.Comms.{comm_of};
 ghost use Rattle.mpx_comm.specs.Given.{numbers_given};
 ghost use Rattle.mpx_comm.specs.Lines as line;
@@ -11,7 +11,7 @@ use crate::rank::Rank;
 use crate::reading::{Made, fault_in};
 use mpx_comm::{CallError as DeskError, Comm, Host};
 use mpx_node::Finished;
-use mpx_num::{Integer, Listing, Numbers, Ops};
+use mpx_num::{Integer, Numbers, Ops};
 use mpx_post::{DraftedEdge, DraftedNeighbour};
 use std::alloc::Global;
 
@@ -19,12 +19,13 @@ use std::alloc::Global;
 impl<'a, H: Host> Rank<'a, H> {
     /// `MPI_COMM_DUP`: a new communicator of the same members, with the same graph.
     pub fn dup(&mut self, comm: &Comm) -> Result<Comm, CallError>
-        ensures gives { Gives (H.goes_by self.old.desk.now.host (⟦<Ops as Listing>⟧.operations self.old.ops.now)) H.node H.turned H.turn_refused comm.now.name (line.dup) self.old.turns IsNewComm result self.old.desk.now self.new.desk.now }
+        ensures gives { Gives (H.goes_by self.old.desk.now.host []) H.node H.turned H.turn_refused comm.now.name (line.dup) self.old.turns IsNewComm result self.old.desk.now self.new.desk.now }
         ensures same { self.new.desk.ghost_name ≡ self.old.desk.ghost_name }
-        ensures kept { (self.new.world ≡ self.old.world) × (self.new.ops ≡ self.old.ops) × (self.new.turns ≡ self.old.turns) }
+        ensures kept { (self.new.world ≡ self.old.world) × (self.new.turns ≡ self.old.turns) }
     {
         let made = Made::new("dup", comm, 0);
-        let answer = self.desk.dup(self.alloc, comm, self.turns, self.ops);
+        let ops = Ops::none(self.alloc);
+        let answer = self.desk.dup(self.alloc, comm, self.turns, &ops);
         self.new_comm(made, answer)
     }
 
@@ -35,47 +36,51 @@ impl<'a, H: Host> Rank<'a, H> {
         colour: Option<i128>,
         key: i128,
     ) -> Result<Option<Comm>, CallError>
-        ensures gives { Gives (H.goes_by self.old.desk.now.host (⟦<Ops as Listing>⟧.operations self.old.ops.now)) H.node H.turned H.turn_refused comm.now.name (line.split colour key) self.old.turns IsComm result self.old.desk.now self.new.desk.now }
+        ensures gives { Gives (H.goes_by self.old.desk.now.host []) H.node H.turned H.turn_refused comm.now.name (line.split colour key) self.old.turns IsComm result self.old.desk.now self.new.desk.now }
         ensures same { self.new.desk.ghost_name ≡ self.old.desk.ghost_name }
-        ensures kept { (self.new.world ≡ self.old.world) × (self.new.ops ≡ self.old.ops) × (self.new.turns ≡ self.old.turns) }
+        ensures kept { (self.new.world ≡ self.old.world) × (self.new.turns ≡ self.old.turns) }
     {
         let made = Made::new("split", comm, 0);
-        let answer = self.desk.split(self.alloc, comm, colour, key, self.turns, self.ops);
+        let ops = Ops::none(self.alloc);
+        let answer = self.desk.split(self.alloc, comm, colour, key, self.turns, &ops);
         self.comm_given(made, answer)
     }
 
     /// [`Rank::split`] where every rank gives a colour: the new communicator.
     pub fn split_by<C: Integer>(&mut self, comm: &Comm, colour: C, key: C) -> Result<Comm, CallError>
-        ensures gives { Gives (H.goes_by self.old.desk.now.host (⟦<Ops as Listing>⟧.operations self.old.ops.now)) H.node H.turned H.turn_refused comm.now.name (line.split (Some (C.value colour)) (C.value key)) self.old.turns IsNewComm result self.old.desk.now self.new.desk.now }
+        ensures gives { Gives (H.goes_by self.old.desk.now.host []) H.node H.turned H.turn_refused comm.now.name (line.split (Some (C.value colour)) (C.value key)) self.old.turns IsNewComm result self.old.desk.now self.new.desk.now }
         ensures same { self.new.desk.ghost_name ≡ self.old.desk.ghost_name }
-        ensures kept { (self.new.world ≡ self.old.world) × (self.new.ops ≡ self.old.ops) × (self.new.turns ≡ self.old.turns) }
+        ensures kept { (self.new.world ≡ self.old.world) × (self.new.turns ≡ self.old.turns) }
     {
         let made = Made::new("split", comm, 0);
         let (colour, key) = (Some(colour.number()), key.number());
-        let answer = self.desk.split(self.alloc, comm, colour, key, self.turns, self.ops);
+        let ops = Ops::none(self.alloc);
+        let answer = self.desk.split(self.alloc, comm, colour, key, self.turns, &ops);
         self.new_comm(made, answer)
     }
 
     /// `MPI_COMM_CREATE`: the new communicator of these ranks, in this order, at each of them. All ranks call it.
     pub fn create(&mut self, comm: &Comm, ranks: &[u8]) -> Result<Option<Comm>, CallError>
-        ensures gives { Gives (H.goes_by self.old.desk.now.host (⟦<Ops as Listing>⟧.operations self.old.ops.now)) H.node H.turned H.turn_refused comm.now.name (line.create (map pos ranks.now)) self.old.turns IsComm result self.old.desk.now self.new.desk.now }
+        ensures gives { Gives (H.goes_by self.old.desk.now.host []) H.node H.turned H.turn_refused comm.now.name (line.create (map pos ranks.now)) self.old.turns IsComm result self.old.desk.now self.new.desk.now }
         ensures same { self.new.desk.ghost_name ≡ self.old.desk.ghost_name }
-        ensures kept { (self.new.world ≡ self.old.world) × (self.new.ops ≡ self.old.ops) × (self.new.turns ≡ self.old.turns) }
+        ensures kept { (self.new.world ≡ self.old.world) × (self.new.turns ≡ self.old.turns) }
     {
         let made = Made::new("create", comm, 0);
         let ranks = self.ranks(made, ranks)?;
-        let answer = self.desk.create(self.alloc, comm, ranks, self.turns, self.ops);
+        let ops = Ops::none(self.alloc);
+        let answer = self.desk.create(self.alloc, comm, ranks, self.turns, &ops);
         self.comm_given(made, answer)
     }
 
     /// `MPI_COMM_FREE`: this rank calls nothing on the communicator any more.
     pub fn free(&mut self, comm: &Comm) -> Result<(), CallError>
-        ensures gives { Gives (H.goes_by self.old.desk.now.host (⟦<Ops as Listing>⟧.operations self.old.ops.now)) H.node H.turned H.turn_refused comm.now.name (line.free) self.old.turns IsDone result self.old.desk.now self.new.desk.now }
+        ensures gives { Gives (H.goes_by self.old.desk.now.host []) H.node H.turned H.turn_refused comm.now.name (line.free) self.old.turns IsDone result self.old.desk.now self.new.desk.now }
         ensures same { self.new.desk.ghost_name ≡ self.old.desk.ghost_name }
-        ensures kept { (self.new.world ≡ self.old.world) × (self.new.ops ≡ self.old.ops) × (self.new.turns ≡ self.old.turns) }
+        ensures kept { (self.new.world ≡ self.old.world) × (self.new.turns ≡ self.old.turns) }
     {
         let made = Made::new("free", comm, 0);
-        let answer = self.desk.free(self.alloc, comm, self.turns, self.ops);
+        let ops = Ops::none(self.alloc);
+        let answer = self.desk.free(self.alloc, comm, self.turns, &ops);
         self.nothing(made, answer)
     }
 
@@ -86,13 +91,14 @@ impl<'a, H: Host> Rank<'a, H> {
         weighted: bool,
         edges: &[DraftedEdge],
     ) -> Result<Comm, CallError>
-        ensures gives { Gives (H.goes_by self.old.desk.now.host (⟦<Ops as Listing>⟧.operations self.old.ops.now)) H.node H.turned H.turn_refused comm.now.name (line.dist_graph weighted edges.now) self.old.turns IsNewComm result self.old.desk.now self.new.desk.now }
+        ensures gives { Gives (H.goes_by self.old.desk.now.host []) H.node H.turned H.turn_refused comm.now.name (line.dist_graph weighted edges.now) self.old.turns IsNewComm result self.old.desk.now self.new.desk.now }
         ensures same { self.new.desk.ghost_name ≡ self.old.desk.ghost_name }
-        ensures kept { (self.new.world ≡ self.old.world) × (self.new.ops ≡ self.old.ops) × (self.new.turns ≡ self.old.turns) }
+        ensures kept { (self.new.world ≡ self.old.world) × (self.new.turns ≡ self.old.turns) }
     {
         let made = Made::new("dist_graph", comm, 0);
         let edges = self.list(made, edges)?;
-        let answer = self.desk.dist_graph(self.alloc, comm, weighted, edges, self.turns, self.ops);
+        let ops = Ops::none(self.alloc);
+        let answer = self.desk.dist_graph(self.alloc, comm, weighted, edges, self.turns, &ops);
         self.new_comm(made, answer)
     }
 
@@ -104,14 +110,15 @@ impl<'a, H: Host> Rank<'a, H> {
         sources: &[DraftedNeighbour],
         destinations: &[DraftedNeighbour],
     ) -> Result<Comm, CallError>
-        ensures gives { Gives (H.goes_by self.old.desk.now.host (⟦<Ops as Listing>⟧.operations self.old.ops.now)) H.node H.turned H.turn_refused comm.now.name (line.dist_graph_adjacent weighted sources.now destinations.now) self.old.turns IsNewComm result self.old.desk.now self.new.desk.now }
+        ensures gives { Gives (H.goes_by self.old.desk.now.host []) H.node H.turned H.turn_refused comm.now.name (line.dist_graph_adjacent weighted sources.now destinations.now) self.old.turns IsNewComm result self.old.desk.now self.new.desk.now }
         ensures same { self.new.desk.ghost_name ≡ self.old.desk.ghost_name }
-        ensures kept { (self.new.world ≡ self.old.world) × (self.new.ops ≡ self.old.ops) × (self.new.turns ≡ self.old.turns) }
+        ensures kept { (self.new.world ≡ self.old.world) × (self.new.turns ≡ self.old.turns) }
     {
         let made = Made::new("dist_graph_adjacent", comm, 0);
         let sources = self.list(made, sources)?;
         let destinations = self.list(made, destinations)?;
-        let answer = self.desk.dist_graph_adjacent(self.alloc, comm, weighted, sources, destinations, self.turns, self.ops);
+        let ops = Ops::none(self.alloc);
+        let answer = self.desk.dist_graph_adjacent(self.alloc, comm, weighted, sources, destinations, self.turns, &ops);
         self.new_comm(made, answer)
     }
 
@@ -122,16 +129,17 @@ impl<'a, H: Host> Rank<'a, H> {
         tag: u16,
         ranks: &[u8],
     ) -> Result<Comm, CallError>
-        ensures gives { GivesGathered (H.goes_by self.old.desk.now.host (⟦<Ops as Listing>⟧.operations self.old.ops.now)) H.node H.turned H.turn_refused comm.now.name (pos tag) (map pos ranks.now) self.old.turns IsNewComm result self.old.desk.now self.new.desk.now }
+        ensures gives { GivesGathered (H.goes_by self.old.desk.now.host []) H.node H.turned H.turn_refused comm.now.name (pos tag) (map pos ranks.now) self.old.turns IsNewComm result self.old.desk.now self.new.desk.now }
         ensures same { self.new.desk.ghost_name ≡ self.old.desk.ghost_name }
-        ensures kept { (self.new.world ≡ self.old.world) × (self.new.ops ≡ self.old.ops) × (self.new.turns ≡ self.old.turns) }
+        ensures kept { (self.new.world ≡ self.old.world) × (self.new.turns ≡ self.old.turns) }
     {
         let made = Made::new("create_group", comm, 0);
         let ranks = self.ranks(made, ranks)?;
         let tag = i128::from(tag);
+        let ops = Ops::none(self.alloc);
         let answer =
             self.desk
-                .create_group(self.alloc, comm, tag, ranks, self.turns, self.ops);
+                .create_group(self.alloc, comm, tag, ranks, self.turns, &ops);
         self.new_comm(made, answer)
     }
 

@@ -1,5 +1,5 @@
 //! The calls by which every rank gets items of all.
-ghost use Rattle.std.specs.Prelude.{◌≡◌, ◌≤◌, length, map, pos};
+ghost use Rattle.std.specs.Prelude.{◌≡◌, ◌≤◌, [], length, map, pos};
 ghost use Rattle.mpx_kind.specs.declared.kinds.Mode.TheVariants.{Blocking, Nonblocking};
 ghost use Rattle.mpx_comm.specs.Lines as line;
 ghost use Rattle.mpx_program_rank.specs.Lengths.{block_of};
@@ -11,15 +11,15 @@ use crate::pending::Pending;
 use crate::rank::Rank;
 use crate::reading::Made;
 use mpx_comm::{Comm, Host};
-use mpx_num::{Listing, MOST_ITEMS, Ops};
+use mpx_num::{MOST_ITEMS, Ops};
 
 /// Each call is the one of [`Desk`](crate::Desk) with its name; what members give and get is told there.
 impl<'a, H: Host> Rank<'a, H> {
     /// `MPI_ALLGATHER`: every rank gets what all ranks give, in rank order.
     pub fn allgather<T: Item>(&mut self, comm: &Comm, items: &[T]) -> Result<Vec<T>, CallError>
-        ensures gives { length items.now ≤ 4096 → Gives (H.goes_by self.old.desk.now.host (⟦<Ops as Listing>⟧.operations self.old.ops.now)) H.node H.turned H.turn_refused comm.now.name (line.allgather Blocking T.ty (T.numbers items.now)) self.old.turns (IsRead T.numbers) result self.old.desk.now self.new.desk.now }
+        ensures gives { length items.now ≤ 4096 → Gives (H.goes_by self.old.desk.now.host []) H.node H.turned H.turn_refused comm.now.name (line.allgather Blocking T.ty (T.numbers items.now)) self.old.turns (IsRead T.numbers) result self.old.desk.now self.new.desk.now }
         ensures same { self.new.desk.ghost_name ≡ self.old.desk.ghost_name }
-        ensures kept { (self.new.world ≡ self.old.world) × (self.new.ops ≡ self.old.ops) × (self.new.turns ≡ self.old.turns) }
+        ensures kept { (self.new.world ≡ self.old.world) × (self.new.turns ≡ self.old.turns) }
     {
         if items.len() <= MOST_ITEMS {
             return self.one_allgather(comm, items);
@@ -29,26 +29,27 @@ impl<'a, H: Host> Rank<'a, H> {
 
     // [`Rank::allgather`] in one call.
     pub(crate) fn one_allgather<T: Item>(&mut self, comm: &Comm, items: &[T]) -> Result<Vec<T>, CallError>
-        ensures gives { Gives (H.goes_by self.old.desk.now.host (⟦<Ops as Listing>⟧.operations self.old.ops.now)) H.node H.turned H.turn_refused comm.now.name (line.allgather Blocking T.ty (T.numbers items.now)) self.old.turns (IsRead T.numbers) result self.old.desk.now self.new.desk.now }
+        ensures gives { Gives (H.goes_by self.old.desk.now.host []) H.node H.turned H.turn_refused comm.now.name (line.allgather Blocking T.ty (T.numbers items.now)) self.old.turns (IsRead T.numbers) result self.old.desk.now self.new.desk.now }
         ensures same { self.new.desk.ghost_name ≡ self.old.desk.ghost_name }
-        ensures kept { (self.new.world ≡ self.old.world) × (self.new.ops ≡ self.old.ops) × (self.new.turns ≡ self.old.turns) }
+        ensures kept { (self.new.world ≡ self.old.world) × (self.new.turns ≡ self.old.turns) }
     {
         let made = Made::new("allgather", comm, items.len());
         let given = self.given(made, items)?;
-        let answer =
-            self.desk.allgather(self.alloc, comm, T::item_type(), given, self.turns, self.ops);
+        let ops = Ops::none(self.alloc);
+        let answer = self.desk.allgather(self.alloc, comm, T::item_type(), given, self.turns, &ops);
         self.listed(made, answer)
     }
 
     /// [`Rank::allgather`] without waiting: its request.
     pub fn iallgather<T: Item>(&mut self, comm: &Comm, items: &[T]) -> Result<Pending<T>, CallError>
-        ensures starts { Starts (H.goes_by self.old.desk.now.host (⟦<Ops as Listing>⟧.operations self.old.ops.now)) H.node H.turned H.turn_refused comm.now.name (line.allgather Nonblocking T.ty (T.numbers items.now)) (λ pending. pending.request) result self.old.desk.now self.new.desk.now }
+        ensures starts { Starts (H.goes_by self.old.desk.now.host []) H.node H.turned H.turn_refused comm.now.name (line.allgather Nonblocking T.ty (T.numbers items.now)) (λ pending. pending.request) result self.old.desk.now self.new.desk.now }
         ensures same { self.new.desk.ghost_name ≡ self.old.desk.ghost_name }
-        ensures kept { (self.new.world ≡ self.old.world) × (self.new.ops ≡ self.old.ops) × (self.new.turns ≡ self.old.turns) }
+        ensures kept { (self.new.world ≡ self.old.world) × (self.new.turns ≡ self.old.turns) }
     {
         let made = Made::new("iallgather", comm, items.len());
         let given = self.given(made, items)?;
-        let answer = self.desk.iallgather(self.alloc, comm, T::item_type(), given, self.ops);
+        let ops = Ops::none(self.alloc);
+        let answer = self.desk.iallgather(self.alloc, comm, T::item_type(), given, &ops);
         self.pending(made, answer)
     }
 
@@ -59,16 +60,16 @@ impl<'a, H: Host> Rank<'a, H> {
         counts: &[u32],
         items: &[T],
     ) -> Result<Vec<T>, CallError>
-        ensures gives { Gives (H.goes_by self.old.desk.now.host (⟦<Ops as Listing>⟧.operations self.old.ops.now)) H.node H.turned H.turn_refused comm.now.name (line.allgatherv Blocking T.ty (map pos counts.now) (T.numbers items.now)) self.old.turns (IsRead T.numbers) result self.old.desk.now self.new.desk.now }
+        ensures gives { Gives (H.goes_by self.old.desk.now.host []) H.node H.turned H.turn_refused comm.now.name (line.allgatherv Blocking T.ty (map pos counts.now) (T.numbers items.now)) self.old.turns (IsRead T.numbers) result self.old.desk.now self.new.desk.now }
         ensures same { self.new.desk.ghost_name ≡ self.old.desk.ghost_name }
-        ensures kept { (self.new.world ≡ self.old.world) × (self.new.ops ≡ self.old.ops) × (self.new.turns ≡ self.old.turns) }
+        ensures kept { (self.new.world ≡ self.old.world) × (self.new.turns ≡ self.old.turns) }
     {
         let made = Made::new("allgatherv", comm, items.len()).counted(counts.len());
         let counts = self.counts(made, counts)?;
         let given = self.given(made, items)?;
-        let answer = self.desk.allgatherv(
-            self.alloc, comm, T::item_type(), counts, given, self.turns, self.ops,
-        );
+        let ops = Ops::none(self.alloc);
+        let answer =
+            self.desk.allgatherv(self.alloc, comm, T::item_type(), counts, given, self.turns, &ops);
         self.listed(made, answer)
     }
 
@@ -79,15 +80,15 @@ impl<'a, H: Host> Rank<'a, H> {
         counts: &[u32],
         items: &[T],
     ) -> Result<Pending<T>, CallError>
-        ensures starts { Starts (H.goes_by self.old.desk.now.host (⟦<Ops as Listing>⟧.operations self.old.ops.now)) H.node H.turned H.turn_refused comm.now.name (line.allgatherv Nonblocking T.ty (map pos counts.now) (T.numbers items.now)) (λ pending. pending.request) result self.old.desk.now self.new.desk.now }
+        ensures starts { Starts (H.goes_by self.old.desk.now.host []) H.node H.turned H.turn_refused comm.now.name (line.allgatherv Nonblocking T.ty (map pos counts.now) (T.numbers items.now)) (λ pending. pending.request) result self.old.desk.now self.new.desk.now }
         ensures same { self.new.desk.ghost_name ≡ self.old.desk.ghost_name }
-        ensures kept { (self.new.world ≡ self.old.world) × (self.new.ops ≡ self.old.ops) × (self.new.turns ≡ self.old.turns) }
+        ensures kept { (self.new.world ≡ self.old.world) × (self.new.turns ≡ self.old.turns) }
     {
         let made = Made::new("iallgatherv", comm, items.len()).counted(counts.len());
         let counts = self.counts(made, counts)?;
         let given = self.given(made, items)?;
-        let answer =
-            self.desk.iallgatherv(self.alloc, comm, T::item_type(), counts, given, self.ops);
+        let ops = Ops::none(self.alloc);
+        let answer = self.desk.iallgatherv(self.alloc, comm, T::item_type(), counts, given, &ops);
         self.pending(made, answer)
     }
 
@@ -98,9 +99,9 @@ impl<'a, H: Host> Rank<'a, H> {
         count: usize,
         items: &[T],
     ) -> Result<Vec<T>, CallError>
-        ensures gives { count ≤ block_of comm.now.size → Gives (H.goes_by self.old.desk.now.host (⟦<Ops as Listing>⟧.operations self.old.ops.now)) H.node H.turned H.turn_refused comm.now.name (line.alltoall Blocking T.ty (pos count) (T.numbers items.now)) self.old.turns (IsRead T.numbers) result self.old.desk.now self.new.desk.now }
+        ensures gives { count ≤ block_of comm.now.size → Gives (H.goes_by self.old.desk.now.host []) H.node H.turned H.turn_refused comm.now.name (line.alltoall Blocking T.ty (pos count) (T.numbers items.now)) self.old.turns (IsRead T.numbers) result self.old.desk.now self.new.desk.now }
         ensures same { self.new.desk.ghost_name ≡ self.old.desk.ghost_name }
-        ensures kept { (self.new.world ≡ self.old.world) × (self.new.ops ≡ self.old.ops) × (self.new.turns ≡ self.old.turns) }
+        ensures kept { (self.new.world ≡ self.old.world) × (self.new.turns ≡ self.old.turns) }
     {
         if count <= self.block(comm) {
             return self.one_alltoall(comm, count, items);
@@ -115,14 +116,15 @@ impl<'a, H: Host> Rank<'a, H> {
         count: usize,
         items: &[T],
     ) -> Result<Vec<T>, CallError>
-        ensures gives { Gives (H.goes_by self.old.desk.now.host (⟦<Ops as Listing>⟧.operations self.old.ops.now)) H.node H.turned H.turn_refused comm.now.name (line.alltoall Blocking T.ty (pos count) (T.numbers items.now)) self.old.turns (IsRead T.numbers) result self.old.desk.now self.new.desk.now }
+        ensures gives { Gives (H.goes_by self.old.desk.now.host []) H.node H.turned H.turn_refused comm.now.name (line.alltoall Blocking T.ty (pos count) (T.numbers items.now)) self.old.turns (IsRead T.numbers) result self.old.desk.now self.new.desk.now }
         ensures same { self.new.desk.ghost_name ≡ self.old.desk.ghost_name }
-        ensures kept { (self.new.world ≡ self.old.world) × (self.new.ops ≡ self.old.ops) × (self.new.turns ≡ self.old.turns) }
+        ensures kept { (self.new.world ≡ self.old.world) × (self.new.turns ≡ self.old.turns) }
     {
-        let made = Made::new("alltoall", comm, items.len());
+        let made = Made::new("alltoall", comm, items.len()).blocks(count);
         let given = self.given(made, items)?;
+        let ops = Ops::none(self.alloc);
         let answer = self.desk.alltoall(
-            self.alloc, comm, T::item_type(), count as i128, given, self.turns, self.ops,
+            self.alloc, comm, T::item_type(), count as i128, given, self.turns, &ops,
         );
         self.listed(made, answer)
     }
@@ -134,14 +136,15 @@ impl<'a, H: Host> Rank<'a, H> {
         count: usize,
         items: &[T],
     ) -> Result<Pending<T>, CallError>
-        ensures starts { Starts (H.goes_by self.old.desk.now.host (⟦<Ops as Listing>⟧.operations self.old.ops.now)) H.node H.turned H.turn_refused comm.now.name (line.alltoall Nonblocking T.ty (pos count) (T.numbers items.now)) (λ pending. pending.request) result self.old.desk.now self.new.desk.now }
+        ensures starts { Starts (H.goes_by self.old.desk.now.host []) H.node H.turned H.turn_refused comm.now.name (line.alltoall Nonblocking T.ty (pos count) (T.numbers items.now)) (λ pending. pending.request) result self.old.desk.now self.new.desk.now }
         ensures same { self.new.desk.ghost_name ≡ self.old.desk.ghost_name }
-        ensures kept { (self.new.world ≡ self.old.world) × (self.new.ops ≡ self.old.ops) × (self.new.turns ≡ self.old.turns) }
+        ensures kept { (self.new.world ≡ self.old.world) × (self.new.turns ≡ self.old.turns) }
     {
-        let made = Made::new("ialltoall", comm, items.len());
+        let made = Made::new("ialltoall", comm, items.len()).blocks(count);
         let given = self.given(made, items)?;
+        let ops = Ops::none(self.alloc);
         let answer =
-            self.desk.ialltoall(self.alloc, comm, T::item_type(), count as i128, given, self.ops);
+            self.desk.ialltoall(self.alloc, comm, T::item_type(), count as i128, given, &ops);
         self.pending(made, answer)
     }
 
@@ -153,16 +156,17 @@ impl<'a, H: Host> Rank<'a, H> {
         taken: &[u32],
         items: &[T],
     ) -> Result<Vec<T>, CallError>
-        ensures gives { Gives (H.goes_by self.old.desk.now.host (⟦<Ops as Listing>⟧.operations self.old.ops.now)) H.node H.turned H.turn_refused comm.now.name (line.alltoallv Blocking T.ty (map pos sent.now) (map pos taken.now) (T.numbers items.now)) self.old.turns (IsRead T.numbers) result self.old.desk.now self.new.desk.now }
+        ensures gives { Gives (H.goes_by self.old.desk.now.host []) H.node H.turned H.turn_refused comm.now.name (line.alltoallv Blocking T.ty (map pos sent.now) (map pos taken.now) (T.numbers items.now)) self.old.turns (IsRead T.numbers) result self.old.desk.now self.new.desk.now }
         ensures same { self.new.desk.ghost_name ≡ self.old.desk.ghost_name }
-        ensures kept { (self.new.world ≡ self.old.world) × (self.new.ops ≡ self.old.ops) × (self.new.turns ≡ self.old.turns) }
+        ensures kept { (self.new.world ≡ self.old.world) × (self.new.turns ≡ self.old.turns) }
     {
         let made = Made::new("alltoallv", comm, items.len()).counted(sent.len());
         let sent = self.counts(made, sent)?;
         let taken = self.counts(made, taken)?;
         let given = self.given(made, items)?;
+        let ops = Ops::none(self.alloc);
         let answer = self.desk.alltoallv(
-            self.alloc, comm, T::item_type(), sent, taken, given, self.turns, self.ops,
+            self.alloc, comm, T::item_type(), sent, taken, given, self.turns, &ops,
         );
         self.listed(made, answer)
     }
@@ -175,16 +179,17 @@ impl<'a, H: Host> Rank<'a, H> {
         taken: &[u32],
         items: &[T],
     ) -> Result<Pending<T>, CallError>
-        ensures starts { Starts (H.goes_by self.old.desk.now.host (⟦<Ops as Listing>⟧.operations self.old.ops.now)) H.node H.turned H.turn_refused comm.now.name (line.alltoallv Nonblocking T.ty (map pos sent.now) (map pos taken.now) (T.numbers items.now)) (λ pending. pending.request) result self.old.desk.now self.new.desk.now }
+        ensures starts { Starts (H.goes_by self.old.desk.now.host []) H.node H.turned H.turn_refused comm.now.name (line.alltoallv Nonblocking T.ty (map pos sent.now) (map pos taken.now) (T.numbers items.now)) (λ pending. pending.request) result self.old.desk.now self.new.desk.now }
         ensures same { self.new.desk.ghost_name ≡ self.old.desk.ghost_name }
-        ensures kept { (self.new.world ≡ self.old.world) × (self.new.ops ≡ self.old.ops) × (self.new.turns ≡ self.old.turns) }
+        ensures kept { (self.new.world ≡ self.old.world) × (self.new.turns ≡ self.old.turns) }
     {
         let made = Made::new("ialltoallv", comm, items.len()).counted(sent.len());
         let sent = self.counts(made, sent)?;
         let taken = self.counts(made, taken)?;
         let given = self.given(made, items)?;
+        let ops = Ops::none(self.alloc);
         let answer =
-            self.desk.ialltoallv(self.alloc, comm, T::item_type(), sent, taken, given, self.ops);
+            self.desk.ialltoallv(self.alloc, comm, T::item_type(), sent, taken, given, &ops);
         self.pending(made, answer)
     }
 }

@@ -2,7 +2,7 @@
 //!
 //! Before these calls the ranks say how many items they give, by an `allgather`. Where the numbers differ, each rank gets the fault that one call
 //! would give, and none goes on by itself. A rank whose items fit into one call makes that call, which then meets the `allgather`: a fault too.
-ghost use Rattle.std.specs.Prelude.{◌≡◌, OnOk, pos};
+ghost use Rattle.std.specs.Prelude.{◌≡◌, [], OnOk, pos};
 ghost use Rattle.mpx_kind.specs.declared.kinds.Mode.TheVariants.{Blocking};
 ghost use Rattle.mpx_comm.specs.Lines as line;
 ghost use Rattle.mpx_program_rank.specs.Lengths.{GivesInParts, HaveAgreed, block_of};
@@ -13,7 +13,7 @@ use crate::rank::Rank;
 use crate::reading::Made;
 use mpx_comm::{Comm, Host};
 use mpx_match::{Fault, FaultKind};
-use mpx_num::{Listing, MOST_ITEMS, Op, Ops};
+use mpx_num::{MOST_ITEMS, Op};
 use mpx_post::PostError;
 use std::alloc::Global;
 
@@ -36,9 +36,9 @@ impl<'a, H: Host> Rank<'a, H> {
         op: Op,
         items: &[T],
     ) -> Result<Vec<T>, CallError>
-        ensures gives { GivesInParts (λ host. H.goes_by host (⟦<Ops as Listing>⟧.operations self.old.ops.now)) H.node H.turned H.turn_refused comm.now.name (λ part. line.allreduce Blocking op T.ty (T.numbers part)) T.numbers self.old.turns items.now result self.old.desk.now self.new.desk.now }
+        ensures gives { GivesInParts (λ host. H.goes_by host []) H.node H.turned H.turn_refused comm.now.name (λ part. line.allreduce Blocking op T.ty (T.numbers part)) T.numbers self.old.turns items.now result self.old.desk.now self.new.desk.now }
         ensures same { self.new.desk.ghost_name ≡ self.old.desk.ghost_name }
-        ensures kept { (self.new.world ≡ self.old.world) × (self.new.ops ≡ self.old.ops) × (self.new.turns ≡ self.old.turns) }
+        ensures kept { (self.new.world ≡ self.old.world) × (self.new.turns ≡ self.old.turns) }
     {
         self.agree("allreduce", comm, items.len())?;
         let mut list = Vec::new(self.alloc);
@@ -59,9 +59,9 @@ impl<'a, H: Host> Rank<'a, H> {
         op: Op,
         items: &[T],
     ) -> Result<Vec<T>, CallError>
-        ensures gives { GivesInParts (λ host. H.goes_by host (⟦<Ops as Listing>⟧.operations self.old.ops.now)) H.node H.turned H.turn_refused comm.now.name (λ part. line.reduce Blocking (pos root) op T.ty (T.numbers part)) T.numbers self.old.turns items.now result self.old.desk.now self.new.desk.now }
+        ensures gives { GivesInParts (λ host. H.goes_by host []) H.node H.turned H.turn_refused comm.now.name (λ part. line.reduce Blocking (pos root) op T.ty (T.numbers part)) T.numbers self.old.turns items.now result self.old.desk.now self.new.desk.now }
         ensures same { self.new.desk.ghost_name ≡ self.old.desk.ghost_name }
-        ensures kept { (self.new.world ≡ self.old.world) × (self.new.ops ≡ self.old.ops) × (self.new.turns ≡ self.old.turns) }
+        ensures kept { (self.new.world ≡ self.old.world) × (self.new.turns ≡ self.old.turns) }
     {
         self.agree("reduce", comm, items.len())?;
         let mut list = Vec::new(self.alloc);
@@ -81,9 +81,9 @@ impl<'a, H: Host> Rank<'a, H> {
         op: Op,
         items: &[T],
     ) -> Result<Vec<T>, CallError>
-        ensures gives { GivesInParts (λ host. H.goes_by host (⟦<Ops as Listing>⟧.operations self.old.ops.now)) H.node H.turned H.turn_refused comm.now.name (λ part. line.scan Blocking op T.ty (T.numbers part)) T.numbers self.old.turns items.now result self.old.desk.now self.new.desk.now }
+        ensures gives { GivesInParts (λ host. H.goes_by host []) H.node H.turned H.turn_refused comm.now.name (λ part. line.scan Blocking op T.ty (T.numbers part)) T.numbers self.old.turns items.now result self.old.desk.now self.new.desk.now }
         ensures same { self.new.desk.ghost_name ≡ self.old.desk.ghost_name }
-        ensures kept { (self.new.world ≡ self.old.world) × (self.new.ops ≡ self.old.ops) × (self.new.turns ≡ self.old.turns) }
+        ensures kept { (self.new.world ≡ self.old.world) × (self.new.turns ≡ self.old.turns) }
     {
         self.agree("scan", comm, items.len())?;
         let mut list = Vec::new(self.alloc);
@@ -103,9 +103,9 @@ impl<'a, H: Host> Rank<'a, H> {
         op: Op,
         items: &[T],
     ) -> Result<Vec<T>, CallError>
-        ensures gives { GivesInParts (λ host. H.goes_by host (⟦<Ops as Listing>⟧.operations self.old.ops.now)) H.node H.turned H.turn_refused comm.now.name (λ part. line.exscan Blocking op T.ty (T.numbers part)) T.numbers self.old.turns items.now result self.old.desk.now self.new.desk.now }
+        ensures gives { GivesInParts (λ host. H.goes_by host []) H.node H.turned H.turn_refused comm.now.name (λ part. line.exscan Blocking op T.ty (T.numbers part)) T.numbers self.old.turns items.now result self.old.desk.now self.new.desk.now }
         ensures same { self.new.desk.ghost_name ≡ self.old.desk.ghost_name }
-        ensures kept { (self.new.world ≡ self.old.world) × (self.new.ops ≡ self.old.ops) × (self.new.turns ≡ self.old.turns) }
+        ensures kept { (self.new.world ≡ self.old.world) × (self.new.turns ≡ self.old.turns) }
     {
         self.agree("exscan", comm, items.len())?;
         let mut list = Vec::new(self.alloc);
@@ -127,12 +127,12 @@ impl<'a, H: Host> Rank<'a, H> {
         items: &[T],
     ) -> Result<Vec<T>, CallError>
         ensures same { self.new.desk.ghost_name ≡ self.old.desk.ghost_name }
-        ensures kept { (self.new.world ≡ self.old.world) × (self.new.ops ≡ self.old.ops) × (self.new.turns ≡ self.old.turns) }
+        ensures kept { (self.new.world ≡ self.old.world) × (self.new.turns ≡ self.old.turns) }
     {
         let is_root = comm.rank() == root;
         self.agree("bcast", comm, count)?;
-        let made = Made::new("bcast", comm, items.len());
-        self.takes(made.sent(count), if is_root { count } else { 0 })?;
+        let made = Made::new("bcast", comm, items.len()).rooted(i128::from(root));
+        self.takes(made.sent(count))?;
         let mut list = Vec::new(self.alloc);
         for first in (0..count).step_by(MOST_ITEMS) {
             let each = MOST_ITEMS.min(count.saturating_sub(first));
@@ -151,7 +151,7 @@ impl<'a, H: Host> Rank<'a, H> {
         items: &[T],
     ) -> Result<Vec<T>, CallError>
         ensures same { self.new.desk.ghost_name ≡ self.old.desk.ghost_name }
-        ensures kept { (self.new.world ≡ self.old.world) × (self.new.ops ≡ self.old.ops) × (self.new.turns ≡ self.old.turns) }
+        ensures kept { (self.new.world ≡ self.old.world) × (self.new.turns ≡ self.old.turns) }
     {
         self.agree("gather", comm, items.len())?;
         let mut parts = Vec::new(self.alloc);
@@ -167,7 +167,7 @@ impl<'a, H: Host> Rank<'a, H> {
         items: &[T],
     ) -> Result<Vec<T>, CallError>
         ensures same { self.new.desk.ghost_name ≡ self.old.desk.ghost_name }
-        ensures kept { (self.new.world ≡ self.old.world) × (self.new.ops ≡ self.old.ops) × (self.new.turns ≡ self.old.turns) }
+        ensures kept { (self.new.world ≡ self.old.world) × (self.new.turns ≡ self.old.turns) }
     {
         self.agree("allgather", comm, items.len())?;
         let mut parts = Vec::new(self.alloc);
@@ -185,13 +185,11 @@ impl<'a, H: Host> Rank<'a, H> {
         items: &[T],
     ) -> Result<Vec<T>, CallError>
         ensures same { self.new.desk.ghost_name ≡ self.old.desk.ghost_name }
-        ensures kept { (self.new.world ≡ self.old.world) × (self.new.ops ≡ self.old.ops) × (self.new.turns ≡ self.old.turns) }
+        ensures kept { (self.new.world ≡ self.old.world) × (self.new.turns ≡ self.old.turns) }
     {
-        let all = count.saturating_mul(usize::from(comm.size()));
-        let is_root = comm.rank() == root;
         self.agree("scatter", comm, count)?;
-        let made = Made::new("scatter", comm, items.len());
-        self.takes(made, if is_root { all } else { 0 })?;
+        let made = Made::new("scatter", comm, items.len()).rooted(i128::from(root));
+        self.takes(made.scattered(count))?;
         let most = self.block(comm).max(1);
         let mut list = Vec::new(self.alloc);
         for first in (0..count).step_by(most) {
@@ -210,11 +208,10 @@ impl<'a, H: Host> Rank<'a, H> {
         items: &[T],
     ) -> Result<Vec<T>, CallError>
         ensures same { self.new.desk.ghost_name ≡ self.old.desk.ghost_name }
-        ensures kept { (self.new.world ≡ self.old.world) × (self.new.ops ≡ self.old.ops) × (self.new.turns ≡ self.old.turns) }
+        ensures kept { (self.new.world ≡ self.old.world) × (self.new.turns ≡ self.old.turns) }
     {
-        let all = count.saturating_mul(usize::from(comm.size()));
         self.agree("alltoall", comm, count)?;
-        self.takes(Made::new("alltoall", comm, items.len()), all)?;
+        self.takes(Made::new("alltoall", comm, items.len()).blocks(count))?;
         let most = self.block(comm).max(1);
         let mut parts = Vec::new(self.alloc);
         for first in (0..count).step_by(most) {
@@ -227,9 +224,9 @@ impl<'a, H: Host> Rank<'a, H> {
 
     // That all ranks give this number of items, else the fault that one call would give.
     fn agree(&mut self, name: &'static str, comm: &Comm, count: usize) -> Result<(), CallError>
-        ensures agreed { OnOk result (HaveAgreed (λ host. H.goes_by host (⟦<Ops as Listing>⟧.operations self.old.ops.now)) H.node H.turned H.turn_refused comm.now.name count self.old.turns self.old.desk.now self.new.desk.now) }
+        ensures agreed { OnOk result (HaveAgreed (λ host. H.goes_by host []) H.node H.turned H.turn_refused comm.now.name count self.old.turns self.old.desk.now self.new.desk.now) }
         ensures same { self.new.desk.ghost_name ≡ self.old.desk.ghost_name }
-        ensures kept { (self.new.world ≡ self.old.world) × (self.new.ops ≡ self.old.ops) × (self.new.turns ≡ self.old.turns) }
+        ensures kept { (self.new.world ≡ self.old.world) × (self.new.turns ≡ self.old.turns) }
     {
         let counts = self.one_allgather(comm, &[count as u64])?;
         let mut rank: u8 = 0;
@@ -246,8 +243,8 @@ impl<'a, H: Host> Rank<'a, H> {
     }
 
     // That a call is given as many items as it takes.
-    fn takes(&self, made: Made<'_>, taken: usize) -> Result<(), CallError> {
-        if made.items == taken {
+    fn takes(&self, made: Made<'_>) -> Result<(), CallError> {
+        if made.taken == Some(made.items) {
             return Ok(());
         }
         Err(self.refused(made, PostError::ItemsLength))

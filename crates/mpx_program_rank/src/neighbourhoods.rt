@@ -1,5 +1,5 @@
 //! The calls along the edges of a communicator's graph.
-ghost use Rattle.std.specs.Prelude.{◌≡◌, ◌≤◌, length, map, pos};
+ghost use Rattle.std.specs.Prelude.{◌≡◌, ◌≤◌, [], length, map, pos};
 ghost use Rattle.mpx_kind.specs.declared.kinds.Mode.TheVariants.{Blocking, Nonblocking};
 ghost use Rattle.mpx_comm.specs.Lines as line;
 ghost use Rattle.mpx_program_rank.specs.Gives.{Gives, IsRead, Starts};
@@ -10,7 +10,7 @@ use crate::pending::Pending;
 use crate::rank::Rank;
 use crate::reading::Made;
 use mpx_comm::{Comm, Host};
-use mpx_num::{Listing, Ops};
+use mpx_num::{Ops};
 
 /// Each call is the one of [`Desk`](crate::Desk) with its name; what members give and get is told there.
 impl<'a, H: Host> Rank<'a, H> {
@@ -21,14 +21,15 @@ impl<'a, H: Host> Rank<'a, H> {
         count: usize,
         items: &[T],
     ) -> Result<Vec<T>, CallError>
-        ensures gives { Gives (H.goes_by self.old.desk.now.host (⟦<Ops as Listing>⟧.operations self.old.ops.now)) H.node H.turned H.turn_refused comm.now.name (line.neighbor_allgather Blocking T.ty (pos count) (T.numbers items.now)) self.old.turns (IsRead T.numbers) result self.old.desk.now self.new.desk.now }
+        ensures gives { Gives (H.goes_by self.old.desk.now.host []) H.node H.turned H.turn_refused comm.now.name (line.neighbor_allgather Blocking T.ty (pos count) (T.numbers items.now)) self.old.turns (IsRead T.numbers) result self.old.desk.now self.new.desk.now }
         ensures same { self.new.desk.ghost_name ≡ self.old.desk.ghost_name }
-        ensures kept { (self.new.world ≡ self.old.world) × (self.new.ops ≡ self.old.ops) × (self.new.turns ≡ self.old.turns) }
+        ensures kept { (self.new.world ≡ self.old.world) × (self.new.turns ≡ self.old.turns) }
     {
         let made = Made::new("neighbor_allgather", comm, items.len());
         let given = self.given(made, items)?;
+        let ops = Ops::none(self.alloc);
         let answer = self.desk.neighbor_allgather(
-            self.alloc, comm, T::item_type(), count as i128, given, self.turns, self.ops,
+            self.alloc, comm, T::item_type(), count as i128, given, self.turns, &ops,
         );
         self.listed(made, answer)
     }
@@ -40,14 +41,15 @@ impl<'a, H: Host> Rank<'a, H> {
         count: usize,
         items: &[T],
     ) -> Result<Pending<T>, CallError>
-        ensures starts { Starts (H.goes_by self.old.desk.now.host (⟦<Ops as Listing>⟧.operations self.old.ops.now)) H.node H.turned H.turn_refused comm.now.name (line.neighbor_allgather Nonblocking T.ty (pos count) (T.numbers items.now)) (λ pending. pending.request) result self.old.desk.now self.new.desk.now }
+        ensures starts { Starts (H.goes_by self.old.desk.now.host []) H.node H.turned H.turn_refused comm.now.name (line.neighbor_allgather Nonblocking T.ty (pos count) (T.numbers items.now)) (λ pending. pending.request) result self.old.desk.now self.new.desk.now }
         ensures same { self.new.desk.ghost_name ≡ self.old.desk.ghost_name }
-        ensures kept { (self.new.world ≡ self.old.world) × (self.new.ops ≡ self.old.ops) × (self.new.turns ≡ self.old.turns) }
+        ensures kept { (self.new.world ≡ self.old.world) × (self.new.turns ≡ self.old.turns) }
     {
         let made = Made::new("ineighbor_allgather", comm, items.len());
         let given = self.given(made, items)?;
+        let ops = Ops::none(self.alloc);
         let answer = self.desk.ineighbor_allgather(
-            self.alloc, comm, T::item_type(), count as i128, given, self.ops,
+            self.alloc, comm, T::item_type(), count as i128, given, &ops,
         );
         self.pending(made, answer)
     }
@@ -59,15 +61,16 @@ impl<'a, H: Host> Rank<'a, H> {
         counts: &[u32],
         items: &[T],
     ) -> Result<Vec<T>, CallError>
-        ensures gives { Gives (H.goes_by self.old.desk.now.host (⟦<Ops as Listing>⟧.operations self.old.ops.now)) H.node H.turned H.turn_refused comm.now.name (line.neighbor_allgatherv Blocking T.ty (map pos counts.now) (T.numbers items.now)) self.old.turns (IsRead T.numbers) result self.old.desk.now self.new.desk.now }
+        ensures gives { Gives (H.goes_by self.old.desk.now.host []) H.node H.turned H.turn_refused comm.now.name (line.neighbor_allgatherv Blocking T.ty (map pos counts.now) (T.numbers items.now)) self.old.turns (IsRead T.numbers) result self.old.desk.now self.new.desk.now }
         ensures same { self.new.desk.ghost_name ≡ self.old.desk.ghost_name }
-        ensures kept { (self.new.world ≡ self.old.world) × (self.new.ops ≡ self.old.ops) × (self.new.turns ≡ self.old.turns) }
+        ensures kept { (self.new.world ≡ self.old.world) × (self.new.turns ≡ self.old.turns) }
     {
         let made = Made::new("neighbor_allgatherv", comm, items.len()).counted(counts.len());
         let counts = self.counts(made, counts)?;
         let given = self.given(made, items)?;
+        let ops = Ops::none(self.alloc);
         let answer = self.desk.neighbor_allgatherv(
-            self.alloc, comm, T::item_type(), counts, given, self.turns, self.ops,
+            self.alloc, comm, T::item_type(), counts, given, self.turns, &ops,
         );
         self.listed(made, answer)
     }
@@ -79,16 +82,16 @@ impl<'a, H: Host> Rank<'a, H> {
         counts: &[u32],
         items: &[T],
     ) -> Result<Pending<T>, CallError>
-        ensures starts { Starts (H.goes_by self.old.desk.now.host (⟦<Ops as Listing>⟧.operations self.old.ops.now)) H.node H.turned H.turn_refused comm.now.name (line.neighbor_allgatherv Nonblocking T.ty (map pos counts.now) (T.numbers items.now)) (λ pending. pending.request) result self.old.desk.now self.new.desk.now }
+        ensures starts { Starts (H.goes_by self.old.desk.now.host []) H.node H.turned H.turn_refused comm.now.name (line.neighbor_allgatherv Nonblocking T.ty (map pos counts.now) (T.numbers items.now)) (λ pending. pending.request) result self.old.desk.now self.new.desk.now }
         ensures same { self.new.desk.ghost_name ≡ self.old.desk.ghost_name }
-        ensures kept { (self.new.world ≡ self.old.world) × (self.new.ops ≡ self.old.ops) × (self.new.turns ≡ self.old.turns) }
+        ensures kept { (self.new.world ≡ self.old.world) × (self.new.turns ≡ self.old.turns) }
     {
         let made = Made::new("ineighbor_allgatherv", comm, items.len()).counted(counts.len());
         let counts = self.counts(made, counts)?;
         let given = self.given(made, items)?;
-        let answer = self.desk.ineighbor_allgatherv(
-            self.alloc, comm, T::item_type(), counts, given, self.ops,
-        );
+        let ops = Ops::none(self.alloc);
+        let answer =
+            self.desk.ineighbor_allgatherv(self.alloc, comm, T::item_type(), counts, given, &ops);
         self.pending(made, answer)
     }
 
@@ -100,21 +103,15 @@ impl<'a, H: Host> Rank<'a, H> {
         taken: usize,
         items: &[T],
     ) -> Result<Vec<T>, CallError>
-        ensures gives { Gives (H.goes_by self.old.desk.now.host (⟦<Ops as Listing>⟧.operations self.old.ops.now)) H.node H.turned H.turn_refused comm.now.name (line.neighbor_alltoall Blocking T.ty (pos sent) (pos taken) (T.numbers items.now)) self.old.turns (IsRead T.numbers) result self.old.desk.now self.new.desk.now }
+        ensures gives { Gives (H.goes_by self.old.desk.now.host []) H.node H.turned H.turn_refused comm.now.name (line.neighbor_alltoall Blocking T.ty (pos sent) (pos taken) (T.numbers items.now)) self.old.turns (IsRead T.numbers) result self.old.desk.now self.new.desk.now }
         ensures same { self.new.desk.ghost_name ≡ self.old.desk.ghost_name }
-        ensures kept { (self.new.world ≡ self.old.world) × (self.new.ops ≡ self.old.ops) × (self.new.turns ≡ self.old.turns) }
+        ensures kept { (self.new.world ≡ self.old.world) × (self.new.turns ≡ self.old.turns) }
     {
         let made = Made::new("neighbor_alltoall", comm, items.len());
         let given = self.given(made, items)?;
+        let ops = Ops::none(self.alloc);
         let answer = self.desk.neighbor_alltoall(
-            self.alloc,
-            comm,
-            T::item_type(),
-            sent as i128,
-            taken as i128,
-            given,
-            self.turns,
-            self.ops,
+            self.alloc, comm, T::item_type(), sent as i128, taken as i128, given, self.turns, &ops,
         );
         self.listed(made, answer)
     }
@@ -127,14 +124,15 @@ impl<'a, H: Host> Rank<'a, H> {
         taken: usize,
         items: &[T],
     ) -> Result<Pending<T>, CallError>
-        ensures starts { Starts (H.goes_by self.old.desk.now.host (⟦<Ops as Listing>⟧.operations self.old.ops.now)) H.node H.turned H.turn_refused comm.now.name (line.neighbor_alltoall Nonblocking T.ty (pos sent) (pos taken) (T.numbers items.now)) (λ pending. pending.request) result self.old.desk.now self.new.desk.now }
+        ensures starts { Starts (H.goes_by self.old.desk.now.host []) H.node H.turned H.turn_refused comm.now.name (line.neighbor_alltoall Nonblocking T.ty (pos sent) (pos taken) (T.numbers items.now)) (λ pending. pending.request) result self.old.desk.now self.new.desk.now }
         ensures same { self.new.desk.ghost_name ≡ self.old.desk.ghost_name }
-        ensures kept { (self.new.world ≡ self.old.world) × (self.new.ops ≡ self.old.ops) × (self.new.turns ≡ self.old.turns) }
+        ensures kept { (self.new.world ≡ self.old.world) × (self.new.turns ≡ self.old.turns) }
     {
         let made = Made::new("ineighbor_alltoall", comm, items.len());
         let given = self.given(made, items)?;
+        let ops = Ops::none(self.alloc);
         let answer = self.desk.ineighbor_alltoall(
-            self.alloc, comm, T::item_type(), sent as i128, taken as i128, given, self.ops,
+            self.alloc, comm, T::item_type(), sent as i128, taken as i128, given, &ops,
         );
         self.pending(made, answer)
     }
@@ -147,16 +145,17 @@ impl<'a, H: Host> Rank<'a, H> {
         taken: &[u32],
         items: &[T],
     ) -> Result<Vec<T>, CallError>
-        ensures gives { Gives (H.goes_by self.old.desk.now.host (⟦<Ops as Listing>⟧.operations self.old.ops.now)) H.node H.turned H.turn_refused comm.now.name (line.neighbor_alltoallv Blocking T.ty (map pos sent.now) (map pos taken.now) (T.numbers items.now)) self.old.turns (IsRead T.numbers) result self.old.desk.now self.new.desk.now }
+        ensures gives { Gives (H.goes_by self.old.desk.now.host []) H.node H.turned H.turn_refused comm.now.name (line.neighbor_alltoallv Blocking T.ty (map pos sent.now) (map pos taken.now) (T.numbers items.now)) self.old.turns (IsRead T.numbers) result self.old.desk.now self.new.desk.now }
         ensures same { self.new.desk.ghost_name ≡ self.old.desk.ghost_name }
-        ensures kept { (self.new.world ≡ self.old.world) × (self.new.ops ≡ self.old.ops) × (self.new.turns ≡ self.old.turns) }
+        ensures kept { (self.new.world ≡ self.old.world) × (self.new.turns ≡ self.old.turns) }
     {
         let made = Made::new("neighbor_alltoallv", comm, items.len()).counted(sent.len());
         let sent = self.counts(made, sent)?;
         let taken = self.counts(made, taken)?;
         let given = self.given(made, items)?;
+        let ops = Ops::none(self.alloc);
         let answer = self.desk.neighbor_alltoallv(
-            self.alloc, comm, T::item_type(), sent, taken, given, self.turns, self.ops,
+            self.alloc, comm, T::item_type(), sent, taken, given, self.turns, &ops,
         );
         self.listed(made, answer)
     }
@@ -169,16 +168,17 @@ impl<'a, H: Host> Rank<'a, H> {
         taken: &[u32],
         items: &[T],
     ) -> Result<Pending<T>, CallError>
-        ensures starts { Starts (H.goes_by self.old.desk.now.host (⟦<Ops as Listing>⟧.operations self.old.ops.now)) H.node H.turned H.turn_refused comm.now.name (line.neighbor_alltoallv Nonblocking T.ty (map pos sent.now) (map pos taken.now) (T.numbers items.now)) (λ pending. pending.request) result self.old.desk.now self.new.desk.now }
+        ensures starts { Starts (H.goes_by self.old.desk.now.host []) H.node H.turned H.turn_refused comm.now.name (line.neighbor_alltoallv Nonblocking T.ty (map pos sent.now) (map pos taken.now) (T.numbers items.now)) (λ pending. pending.request) result self.old.desk.now self.new.desk.now }
         ensures same { self.new.desk.ghost_name ≡ self.old.desk.ghost_name }
-        ensures kept { (self.new.world ≡ self.old.world) × (self.new.ops ≡ self.old.ops) × (self.new.turns ≡ self.old.turns) }
+        ensures kept { (self.new.world ≡ self.old.world) × (self.new.turns ≡ self.old.turns) }
     {
         let made = Made::new("ineighbor_alltoallv", comm, items.len()).counted(sent.len());
         let sent = self.counts(made, sent)?;
         let taken = self.counts(made, taken)?;
         let given = self.given(made, items)?;
+        let ops = Ops::none(self.alloc);
         let answer = self.desk.ineighbor_alltoallv(
-            self.alloc, comm, T::item_type(), sent, taken, given, self.ops,
+            self.alloc, comm, T::item_type(), sent, taken, given, &ops,
         );
         self.pending(made, answer)
     }

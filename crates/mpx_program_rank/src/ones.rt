@@ -9,7 +9,7 @@ use crate::item::Item;
 use crate::rank::Rank;
 use crate::reading::Made;
 use mpx_comm::{Comm, Host};
-use mpx_num::{Listing, Op, Ops};
+use mpx_num::Op;
 
 /// Each is the call of its name with a list of one item, and answers the one item that the call gives.
 impl<'a, H: Host> Rank<'a, H> {
@@ -20,9 +20,9 @@ impl<'a, H: Host> Rank<'a, H> {
         op: Op,
         item: T,
     ) -> Result<T, CallError>
-        ensures gives { Gives (H.goes_by self.old.desk.now.host (⟦<Ops as Listing>⟧.operations self.old.ops.now)) H.node H.turned H.turn_refused comm.now.name (line.allreduce Blocking op T.ty (T.numbers (item ∷ []))) self.old.turns (IsOne T.numbers) result self.old.desk.now self.new.desk.now }
+        ensures gives { Gives (H.goes_by self.old.desk.now.host []) H.node H.turned H.turn_refused comm.now.name (line.allreduce Blocking op T.ty (T.numbers (item ∷ []))) self.old.turns (IsOne T.numbers) result self.old.desk.now self.new.desk.now }
         ensures same { self.new.desk.ghost_name ≡ self.old.desk.ghost_name }
-        ensures kept { (self.new.world ≡ self.old.world) × (self.new.ops ≡ self.old.ops) × (self.new.turns ≡ self.old.turns) }
+        ensures kept { (self.new.world ≡ self.old.world) × (self.new.turns ≡ self.old.turns) }
     {
         let list = self.one_allreduce(comm, op, &[item])?;
         self.only("allreduce", comm, list)
@@ -30,9 +30,9 @@ impl<'a, H: Host> Rank<'a, H> {
 
     /// [`Rank::scan`] of one item.
     pub fn scan_one<T: Item>(&mut self, comm: &Comm, op: Op, item: T) -> Result<T, CallError>
-        ensures gives { Gives (H.goes_by self.old.desk.now.host (⟦<Ops as Listing>⟧.operations self.old.ops.now)) H.node H.turned H.turn_refused comm.now.name (line.scan Blocking op T.ty (T.numbers (item ∷ []))) self.old.turns (IsOne T.numbers) result self.old.desk.now self.new.desk.now }
+        ensures gives { Gives (H.goes_by self.old.desk.now.host []) H.node H.turned H.turn_refused comm.now.name (line.scan Blocking op T.ty (T.numbers (item ∷ []))) self.old.turns (IsOne T.numbers) result self.old.desk.now self.new.desk.now }
         ensures same { self.new.desk.ghost_name ≡ self.old.desk.ghost_name }
-        ensures kept { (self.new.world ≡ self.old.world) × (self.new.ops ≡ self.old.ops) × (self.new.turns ≡ self.old.turns) }
+        ensures kept { (self.new.world ≡ self.old.world) × (self.new.turns ≡ self.old.turns) }
     {
         let list = self.one_scan(comm, op, &[item])?;
         self.only("scan", comm, list)
@@ -45,9 +45,9 @@ impl<'a, H: Host> Rank<'a, H> {
         root: u8,
         item: T,
     ) -> Result<T, CallError>
-        ensures gives { Gives (H.goes_by self.old.desk.now.host (⟦<Ops as Listing>⟧.operations self.old.ops.now)) H.node H.turned H.turn_refused comm.now.name (line.bcast Blocking (pos root) T.ty (pos 1) (T.numbers (own_item comm.now.rank root item))) self.old.turns (IsOne T.numbers) result self.old.desk.now self.new.desk.now }
+        ensures gives { Gives (H.goes_by self.old.desk.now.host []) H.node H.turned H.turn_refused comm.now.name (line.bcast Blocking (pos root) T.ty (pos 1) (T.numbers (own_item comm.now.rank root item))) self.old.turns (IsOne T.numbers) result self.old.desk.now self.new.desk.now }
         ensures same { self.new.desk.ghost_name ≡ self.old.desk.ghost_name }
-        ensures kept { (self.new.world ≡ self.old.world) × (self.new.ops ≡ self.old.ops) × (self.new.turns ≡ self.old.turns) }
+        ensures kept { (self.new.world ≡ self.old.world) × (self.new.turns ≡ self.old.turns) }
     {
         let one = [item];
         let items: &[T] = if comm.rank() == root { &one } else { &[] };

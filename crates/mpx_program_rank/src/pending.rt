@@ -1,5 +1,5 @@
 //! Requests of calls that don't block: each knows the type of its items.
-ghost use Rattle.std.specs.Prelude.{◌≡◌, IfErr, IfOk, Ok, Some};
+ghost use Rattle.std.specs.Prelude.{◌≡◌, [], IfErr, IfOk, Ok, Some};
 ghost use Rattle.mpx_comm.specs.Given.{numbers_given};
 ghost use Rattle.mpx_program_rank.specs.Gives.{IsStarted, IsUnread};
 ghost use Rattle.mpx_program_rank.specs.Waiting.{AnyGives, IsTested, IsWaited, TestGives, WaitGives, turn_error, wait_error};
@@ -12,7 +12,7 @@ use crate::reading::{Made, list_in};
 use mpx_comm::{Host, Request, Tested, TurnError, WaitError};
 use mpx_name::Name;
 use mpx_node::Finished;
-use mpx_num::{Listing, Ops};
+use mpx_num::Ops;
 use mpx_post::PostError;
 use std::alloc::{AllocFailed, Global};
 use std::marker::PhantomData;
@@ -52,7 +52,7 @@ impl<'a, H: Host> Rank<'a, H> {
     pub fn wait<T: Item>(&mut self, pending: Pending<T>) -> Result<Vec<T>, CallError>
         ensures gives { WaitGives H.node H.turned H.turn_refused pending.request self.old.turns (IsWaited T.numbers) result self.old.desk.now self.new.desk.now }
         ensures same { self.new.desk.ghost_name ≡ self.old.desk.ghost_name }
-        ensures kept { (self.new.world ≡ self.old.world) × (self.new.ops ≡ self.old.ops) × (self.new.turns ≡ self.old.turns) }
+        ensures kept { (self.new.world ≡ self.old.world) × (self.new.turns ≡ self.old.turns) }
     {
         let Pending {
             request,
@@ -60,7 +60,8 @@ impl<'a, H: Host> Rank<'a, H> {
             of: _,
         } = pending;
         let called = self.called(name, request.name(), request.call());
-        match self.desk.wait(self.alloc, request, self.turns, self.ops) {
+        let ops = Ops::none(self.alloc);
+        match self.desk.wait(self.alloc, request, self.turns, &ops) {
             Ok(finished) => read(self.alloc, called, finished),
             Err(why) => Err(CallError::of(called, self.waited(why))),
         }
@@ -73,7 +74,7 @@ impl<'a, H: Host> Rank<'a, H> {
     ) -> Result<Tested<Vec<T>, Pending<T>>, CallError>
         ensures gives { TestGives H.node H.turned H.turn_refused pending.request (IsTested T.numbers (λ again. again.request)) result self.old.desk.now self.new.desk.now }
         ensures same { self.new.desk.ghost_name ≡ self.old.desk.ghost_name }
-        ensures kept { (self.new.world ≡ self.old.world) × (self.new.ops ≡ self.old.ops) × (self.new.turns ≡ self.old.turns) }
+        ensures kept { (self.new.world ≡ self.old.world) × (self.new.turns ≡ self.old.turns) }
     {
         let Pending {
             request,
@@ -82,7 +83,8 @@ impl<'a, H: Host> Rank<'a, H> {
         } = pending;
         let called = self.called(name, request.name(), request.call());
         let turned = self.desk.turn(self.alloc, 1);
-        match self.desk.test(self.alloc, request, self.ops) {
+        let ops = Ops::none(self.alloc);
+        match self.desk.test(self.alloc, request, &ops) {
             Ok(Tested::Done(finished)) => match read(self.alloc, called, finished) {
                 Ok(list) => Ok(Tested::Done(list)),
                 Err(e) => Err(e),
@@ -102,12 +104,13 @@ impl<'a, H: Host> Rank<'a, H> {
 
     /// Makes a turn, and gives the first open call in order of posting that is done (`MPI_TESTANY`), or none.
     pub fn testany(&mut self) -> Result<Option<Done>, CallError>
-        ensures gives { AnyGives (λ host. H.goes_by host (⟦<Ops as Listing>⟧.operations self.old.ops.now)) H.node H.turned H.turn_refused result self.old.desk.now self.new.desk.now }
+        ensures gives { AnyGives (λ host. H.goes_by host []) H.node H.turned H.turn_refused result self.old.desk.now self.new.desk.now }
         ensures same { self.new.desk.ghost_name ≡ self.old.desk.ghost_name }
-        ensures kept { (self.new.world ≡ self.old.world) × (self.new.ops ≡ self.old.ops) × (self.new.turns ≡ self.old.turns) }
+        ensures kept { (self.new.world ≡ self.old.world) × (self.new.turns ≡ self.old.turns) }
     {
         let turn = self.desk.turn(self.alloc, 1);
-        match self.desk.testany(self.alloc, self.ops) {
+        let ops = Ops::none(self.alloc);
+        match self.desk.testany(self.alloc, &ops) {
             Ok(Some((request, finished))) => Ok(Some(Done { request, finished })),
             Ok(None) => match turn {
                 Ok(()) => Ok(None),
@@ -119,7 +122,8 @@ impl<'a, H: Host> Rank<'a, H> {
 
     /// Waits for the first open call in order of posting that is done (`MPI_WAITANY`), at most the rank's turns. None where none is open.
     pub fn waitany(&mut self) -> Result<Option<Done>, CallError> {
-        match self.desk.waitany(self.alloc, self.turns, self.ops) {
+        let ops = Ops::none(self.alloc);
+        match self.desk.waitany(self.alloc, self.turns, &ops) {
             Ok(Some((request, finished))) => Ok(Some(Done { request, finished })),
             Ok(None) => Ok(None),
             Err(why) => Err(CallError::bare(self.waited_for_any(why))),
@@ -142,7 +146,7 @@ impl<'a, H: Host> Rank<'a, H> {
     ) -> Result<Pending<T>, CallError>
         ensures starts { IsStarted H.turned H.turn_refused (λ pending. pending.request) posted result self.old.desk.now self.new.desk.now }
         ensures same { self.new.desk.ghost_name ≡ self.old.desk.ghost_name }
-        ensures kept { (self.new.world ≡ self.old.world) × (self.new.ops ≡ self.old.ops) × (self.new.turns ≡ self.old.turns) }
+        ensures kept { (self.new.world ≡ self.old.world) × (self.new.turns ≡ self.old.turns) }
     {
         match posted {
             Ok(request) => {

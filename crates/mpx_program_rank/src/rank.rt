@@ -2,18 +2,18 @@
 ghost use Rattle.std.specs.Prelude.{◌≡◌};
 
 use mpx_comm::{Comm, Desk, Host};
-use mpx_num::Ops;
 use std::alloc::Global;
 
-/// A rank of a job: its desk, its allocator, the communicator of all ranks as it has it, the job's own operations, and how many turns a call
-/// that waits makes at most. Each call is the one of [`Desk`] with its name. It is given a communicator and slices, and answers vectors; a fault
-/// is an `Err`. What is asked of a communicator without a post is asked of the `desk`.
+/// A rank of a job: its desk, its allocator, the communicator of all ranks as it has it, and how many turns a call that waits makes at most.
+/// Each call is the one of [`Desk`] with its name. It is given a communicator and slices, and answers vectors; a fault is an `Err`. What is asked of
+/// a communicator without a post is asked of the `desk`.
+///
+/// Calls lend an empty list of own operations: a rank's host goes by those of its job, whatever is lent.
 #[derive(Drop)]
 pub struct Rank<'a, H: Host> {
     pub desk: &'a mut Desk<H>,
     pub alloc: Global,
     pub world: &'a Comm,
-    pub ops: &'a Ops,
     pub turns: u64,
 }
 

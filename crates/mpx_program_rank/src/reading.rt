@@ -57,6 +57,20 @@ impl<'c> Made<'c> {
         }
     }
 
+    /// Where each gives a block of `count` items for each rank.
+    pub(crate) fn blocks(self, count: usize) -> Made<'c> {
+        let all = count.saturating_mul(usize::from(self.comm.size()));
+        Made {
+            taken: Some(all),
+            ..self
+        }
+    }
+
+    /// Where the root gives a block of `count` items for each rank, and the others none.
+    pub(crate) fn scattered(self, count: usize) -> Made<'c> {
+        self.sent(count.saturating_mul(usize::from(self.comm.size())))
+    }
+
     /// With so many counts.
     pub(crate) fn counted(self, counts: usize) -> Made<'c> {
         Made { counts, ..self }

@@ -1,5 +1,5 @@
 //! The calls that combine items.
-ghost use Rattle.std.specs.Prelude.{◌≡◌, ◌≤◌, length, map, pos};
+ghost use Rattle.std.specs.Prelude.{◌≡◌, ◌≤◌, [], length, map, pos};
 ghost use Rattle.mpx_kind.specs.declared.kinds.Mode.TheVariants.{Blocking, Nonblocking};
 ghost use Rattle.mpx_comm.specs.Lines as line;
 ghost use Rattle.mpx_program_rank.specs.Gives.{Gives, IsRead, Starts};
@@ -10,7 +10,7 @@ use crate::pending::Pending;
 use crate::rank::Rank;
 use crate::reading::Made;
 use mpx_comm::{Comm, Host};
-use mpx_num::{Listing, MOST_ITEMS, Op, Ops};
+use mpx_num::{MOST_ITEMS, Op, Ops};
 
 /// Each call is the one of [`Desk`](crate::Desk) with its name; what members give and get is told there.
 impl<'a, H: Host> Rank<'a, H> {
@@ -22,9 +22,9 @@ impl<'a, H: Host> Rank<'a, H> {
         op: Op,
         items: &[T],
     ) -> Result<Vec<T>, CallError>
-        ensures gives { length items.now ≤ 4096 → Gives (H.goes_by self.old.desk.now.host (⟦<Ops as Listing>⟧.operations self.old.ops.now)) H.node H.turned H.turn_refused comm.now.name (line.reduce Blocking (pos root) op T.ty (T.numbers items.now)) self.old.turns (IsRead T.numbers) result self.old.desk.now self.new.desk.now }
+        ensures gives { length items.now ≤ 4096 → Gives (H.goes_by self.old.desk.now.host []) H.node H.turned H.turn_refused comm.now.name (line.reduce Blocking (pos root) op T.ty (T.numbers items.now)) self.old.turns (IsRead T.numbers) result self.old.desk.now self.new.desk.now }
         ensures same { self.new.desk.ghost_name ≡ self.old.desk.ghost_name }
-        ensures kept { (self.new.world ≡ self.old.world) × (self.new.ops ≡ self.old.ops) × (self.new.turns ≡ self.old.turns) }
+        ensures kept { (self.new.world ≡ self.old.world) × (self.new.turns ≡ self.old.turns) }
     {
         if items.len() <= MOST_ITEMS {
             return self.one_reduce(comm, root, op, items);
@@ -40,14 +40,15 @@ impl<'a, H: Host> Rank<'a, H> {
         op: Op,
         items: &[T],
     ) -> Result<Vec<T>, CallError>
-        ensures gives { Gives (H.goes_by self.old.desk.now.host (⟦<Ops as Listing>⟧.operations self.old.ops.now)) H.node H.turned H.turn_refused comm.now.name (line.reduce Blocking (pos root) op T.ty (T.numbers items.now)) self.old.turns (IsRead T.numbers) result self.old.desk.now self.new.desk.now }
+        ensures gives { Gives (H.goes_by self.old.desk.now.host []) H.node H.turned H.turn_refused comm.now.name (line.reduce Blocking (pos root) op T.ty (T.numbers items.now)) self.old.turns (IsRead T.numbers) result self.old.desk.now self.new.desk.now }
         ensures same { self.new.desk.ghost_name ≡ self.old.desk.ghost_name }
-        ensures kept { (self.new.world ≡ self.old.world) × (self.new.ops ≡ self.old.ops) × (self.new.turns ≡ self.old.turns) }
+        ensures kept { (self.new.world ≡ self.old.world) × (self.new.turns ≡ self.old.turns) }
     {
         let made = Made::new("reduce", comm, items.len()).rooted(i128::from(root));
         let given = self.given(made, items)?;
+        let ops = Ops::none(self.alloc);
         let answer = self.desk.reduce(
-            self.alloc, comm, i128::from(root), op, T::item_type(), given, self.turns, self.ops,
+            self.alloc, comm, i128::from(root), op, T::item_type(), given, self.turns, &ops,
         );
         self.listed(made, answer)
     }
@@ -60,15 +61,15 @@ impl<'a, H: Host> Rank<'a, H> {
         op: Op,
         items: &[T],
     ) -> Result<Pending<T>, CallError>
-        ensures starts { Starts (H.goes_by self.old.desk.now.host (⟦<Ops as Listing>⟧.operations self.old.ops.now)) H.node H.turned H.turn_refused comm.now.name (line.reduce Nonblocking (pos root) op T.ty (T.numbers items.now)) (λ pending. pending.request) result self.old.desk.now self.new.desk.now }
+        ensures starts { Starts (H.goes_by self.old.desk.now.host []) H.node H.turned H.turn_refused comm.now.name (line.reduce Nonblocking (pos root) op T.ty (T.numbers items.now)) (λ pending. pending.request) result self.old.desk.now self.new.desk.now }
         ensures same { self.new.desk.ghost_name ≡ self.old.desk.ghost_name }
-        ensures kept { (self.new.world ≡ self.old.world) × (self.new.ops ≡ self.old.ops) × (self.new.turns ≡ self.old.turns) }
+        ensures kept { (self.new.world ≡ self.old.world) × (self.new.turns ≡ self.old.turns) }
     {
         let made = Made::new("ireduce", comm, items.len()).rooted(i128::from(root));
         let given = self.given(made, items)?;
-        let answer = self.desk.ireduce(
-            self.alloc, comm, i128::from(root), op, T::item_type(), given, self.ops,
-        );
+        let ops = Ops::none(self.alloc);
+        let answer =
+            self.desk.ireduce(self.alloc, comm, i128::from(root), op, T::item_type(), given, &ops);
         self.pending(made, answer)
     }
 
@@ -79,9 +80,9 @@ impl<'a, H: Host> Rank<'a, H> {
         op: Op,
         items: &[T],
     ) -> Result<Vec<T>, CallError>
-        ensures gives { length items.now ≤ 4096 → Gives (H.goes_by self.old.desk.now.host (⟦<Ops as Listing>⟧.operations self.old.ops.now)) H.node H.turned H.turn_refused comm.now.name (line.allreduce Blocking op T.ty (T.numbers items.now)) self.old.turns (IsRead T.numbers) result self.old.desk.now self.new.desk.now }
+        ensures gives { length items.now ≤ 4096 → Gives (H.goes_by self.old.desk.now.host []) H.node H.turned H.turn_refused comm.now.name (line.allreduce Blocking op T.ty (T.numbers items.now)) self.old.turns (IsRead T.numbers) result self.old.desk.now self.new.desk.now }
         ensures same { self.new.desk.ghost_name ≡ self.old.desk.ghost_name }
-        ensures kept { (self.new.world ≡ self.old.world) × (self.new.ops ≡ self.old.ops) × (self.new.turns ≡ self.old.turns) }
+        ensures kept { (self.new.world ≡ self.old.world) × (self.new.turns ≡ self.old.turns) }
     {
         if items.len() <= MOST_ITEMS {
             return self.one_allreduce(comm, op, items);
@@ -96,14 +97,15 @@ impl<'a, H: Host> Rank<'a, H> {
         op: Op,
         items: &[T],
     ) -> Result<Vec<T>, CallError>
-        ensures gives { Gives (H.goes_by self.old.desk.now.host (⟦<Ops as Listing>⟧.operations self.old.ops.now)) H.node H.turned H.turn_refused comm.now.name (line.allreduce Blocking op T.ty (T.numbers items.now)) self.old.turns (IsRead T.numbers) result self.old.desk.now self.new.desk.now }
+        ensures gives { Gives (H.goes_by self.old.desk.now.host []) H.node H.turned H.turn_refused comm.now.name (line.allreduce Blocking op T.ty (T.numbers items.now)) self.old.turns (IsRead T.numbers) result self.old.desk.now self.new.desk.now }
         ensures same { self.new.desk.ghost_name ≡ self.old.desk.ghost_name }
-        ensures kept { (self.new.world ≡ self.old.world) × (self.new.ops ≡ self.old.ops) × (self.new.turns ≡ self.old.turns) }
+        ensures kept { (self.new.world ≡ self.old.world) × (self.new.turns ≡ self.old.turns) }
     {
         let made = Made::new("allreduce", comm, items.len());
         let given = self.given(made, items)?;
+        let ops = Ops::none(self.alloc);
         let answer =
-            self.desk.allreduce(self.alloc, comm, op, T::item_type(), given, self.turns, self.ops);
+            self.desk.allreduce(self.alloc, comm, op, T::item_type(), given, self.turns, &ops);
         self.listed(made, answer)
     }
 
@@ -114,13 +116,14 @@ impl<'a, H: Host> Rank<'a, H> {
         op: Op,
         items: &[T],
     ) -> Result<Pending<T>, CallError>
-        ensures starts { Starts (H.goes_by self.old.desk.now.host (⟦<Ops as Listing>⟧.operations self.old.ops.now)) H.node H.turned H.turn_refused comm.now.name (line.allreduce Nonblocking op T.ty (T.numbers items.now)) (λ pending. pending.request) result self.old.desk.now self.new.desk.now }
+        ensures starts { Starts (H.goes_by self.old.desk.now.host []) H.node H.turned H.turn_refused comm.now.name (line.allreduce Nonblocking op T.ty (T.numbers items.now)) (λ pending. pending.request) result self.old.desk.now self.new.desk.now }
         ensures same { self.new.desk.ghost_name ≡ self.old.desk.ghost_name }
-        ensures kept { (self.new.world ≡ self.old.world) × (self.new.ops ≡ self.old.ops) × (self.new.turns ≡ self.old.turns) }
+        ensures kept { (self.new.world ≡ self.old.world) × (self.new.turns ≡ self.old.turns) }
     {
         let made = Made::new("iallreduce", comm, items.len());
         let given = self.given(made, items)?;
-        let answer = self.desk.iallreduce(self.alloc, comm, op, T::item_type(), given, self.ops);
+        let ops = Ops::none(self.alloc);
+        let answer = self.desk.iallreduce(self.alloc, comm, op, T::item_type(), given, &ops);
         self.pending(made, answer)
     }
 
@@ -132,14 +135,15 @@ impl<'a, H: Host> Rank<'a, H> {
         count: usize,
         items: &[T],
     ) -> Result<Vec<T>, CallError>
-        ensures gives { Gives (H.goes_by self.old.desk.now.host (⟦<Ops as Listing>⟧.operations self.old.ops.now)) H.node H.turned H.turn_refused comm.now.name (line.reduce_scatter_block Blocking op T.ty (pos count) (T.numbers items.now)) self.old.turns (IsRead T.numbers) result self.old.desk.now self.new.desk.now }
+        ensures gives { Gives (H.goes_by self.old.desk.now.host []) H.node H.turned H.turn_refused comm.now.name (line.reduce_scatter_block Blocking op T.ty (pos count) (T.numbers items.now)) self.old.turns (IsRead T.numbers) result self.old.desk.now self.new.desk.now }
         ensures same { self.new.desk.ghost_name ≡ self.old.desk.ghost_name }
-        ensures kept { (self.new.world ≡ self.old.world) × (self.new.ops ≡ self.old.ops) × (self.new.turns ≡ self.old.turns) }
+        ensures kept { (self.new.world ≡ self.old.world) × (self.new.turns ≡ self.old.turns) }
     {
-        let made = Made::new("reduce_scatter_block", comm, items.len());
+        let made = Made::new("reduce_scatter_block", comm, items.len()).blocks(count);
         let given = self.given(made, items)?;
+        let ops = Ops::none(self.alloc);
         let answer = self.desk.reduce_scatter_block(
-            self.alloc, comm, op, T::item_type(), count as i128, given, self.turns, self.ops,
+            self.alloc, comm, op, T::item_type(), count as i128, given, self.turns, &ops,
         );
         self.listed(made, answer)
     }
@@ -152,14 +156,15 @@ impl<'a, H: Host> Rank<'a, H> {
         count: usize,
         items: &[T],
     ) -> Result<Pending<T>, CallError>
-        ensures starts { Starts (H.goes_by self.old.desk.now.host (⟦<Ops as Listing>⟧.operations self.old.ops.now)) H.node H.turned H.turn_refused comm.now.name (line.reduce_scatter_block Nonblocking op T.ty (pos count) (T.numbers items.now)) (λ pending. pending.request) result self.old.desk.now self.new.desk.now }
+        ensures starts { Starts (H.goes_by self.old.desk.now.host []) H.node H.turned H.turn_refused comm.now.name (line.reduce_scatter_block Nonblocking op T.ty (pos count) (T.numbers items.now)) (λ pending. pending.request) result self.old.desk.now self.new.desk.now }
         ensures same { self.new.desk.ghost_name ≡ self.old.desk.ghost_name }
-        ensures kept { (self.new.world ≡ self.old.world) × (self.new.ops ≡ self.old.ops) × (self.new.turns ≡ self.old.turns) }
+        ensures kept { (self.new.world ≡ self.old.world) × (self.new.turns ≡ self.old.turns) }
     {
-        let made = Made::new("ireduce_scatter_block", comm, items.len());
+        let made = Made::new("ireduce_scatter_block", comm, items.len()).blocks(count);
         let given = self.given(made, items)?;
+        let ops = Ops::none(self.alloc);
         let answer = self.desk.ireduce_scatter_block(
-            self.alloc, comm, op, T::item_type(), count as i128, given, self.ops,
+            self.alloc, comm, op, T::item_type(), count as i128, given, &ops,
         );
         self.pending(made, answer)
     }
@@ -172,15 +177,16 @@ impl<'a, H: Host> Rank<'a, H> {
         counts: &[u32],
         items: &[T],
     ) -> Result<Vec<T>, CallError>
-        ensures gives { Gives (H.goes_by self.old.desk.now.host (⟦<Ops as Listing>⟧.operations self.old.ops.now)) H.node H.turned H.turn_refused comm.now.name (line.reduce_scatter Blocking op T.ty (map pos counts.now) (T.numbers items.now)) self.old.turns (IsRead T.numbers) result self.old.desk.now self.new.desk.now }
+        ensures gives { Gives (H.goes_by self.old.desk.now.host []) H.node H.turned H.turn_refused comm.now.name (line.reduce_scatter Blocking op T.ty (map pos counts.now) (T.numbers items.now)) self.old.turns (IsRead T.numbers) result self.old.desk.now self.new.desk.now }
         ensures same { self.new.desk.ghost_name ≡ self.old.desk.ghost_name }
-        ensures kept { (self.new.world ≡ self.old.world) × (self.new.ops ≡ self.old.ops) × (self.new.turns ≡ self.old.turns) }
+        ensures kept { (self.new.world ≡ self.old.world) × (self.new.turns ≡ self.old.turns) }
     {
         let made = Made::new("reduce_scatter", comm, items.len()).counted(counts.len());
         let counts = self.counts(made, counts)?;
         let given = self.given(made, items)?;
+        let ops = Ops::none(self.alloc);
         let answer = self.desk.reduce_scatter(
-            self.alloc, comm, op, T::item_type(), counts, given, self.turns, self.ops,
+            self.alloc, comm, op, T::item_type(), counts, given, self.turns, &ops,
         );
         self.listed(made, answer)
     }
@@ -193,24 +199,24 @@ impl<'a, H: Host> Rank<'a, H> {
         counts: &[u32],
         items: &[T],
     ) -> Result<Pending<T>, CallError>
-        ensures starts { Starts (H.goes_by self.old.desk.now.host (⟦<Ops as Listing>⟧.operations self.old.ops.now)) H.node H.turned H.turn_refused comm.now.name (line.reduce_scatter Nonblocking op T.ty (map pos counts.now) (T.numbers items.now)) (λ pending. pending.request) result self.old.desk.now self.new.desk.now }
+        ensures starts { Starts (H.goes_by self.old.desk.now.host []) H.node H.turned H.turn_refused comm.now.name (line.reduce_scatter Nonblocking op T.ty (map pos counts.now) (T.numbers items.now)) (λ pending. pending.request) result self.old.desk.now self.new.desk.now }
         ensures same { self.new.desk.ghost_name ≡ self.old.desk.ghost_name }
-        ensures kept { (self.new.world ≡ self.old.world) × (self.new.ops ≡ self.old.ops) × (self.new.turns ≡ self.old.turns) }
+        ensures kept { (self.new.world ≡ self.old.world) × (self.new.turns ≡ self.old.turns) }
     {
         let made = Made::new("ireduce_scatter", comm, items.len()).counted(counts.len());
         let counts = self.counts(made, counts)?;
         let given = self.given(made, items)?;
-        let answer = self.desk.ireduce_scatter(
-            self.alloc, comm, op, T::item_type(), counts, given, self.ops,
-        );
+        let ops = Ops::none(self.alloc);
+        let answer =
+            self.desk.ireduce_scatter(self.alloc, comm, op, T::item_type(), counts, given, &ops);
         self.pending(made, answer)
     }
 
     /// `MPI_SCAN`: every rank gets the reduction of what the ranks up to its own give, item by item.
     pub fn scan<T: Item>(&mut self, comm: &Comm, op: Op, items: &[T]) -> Result<Vec<T>, CallError>
-        ensures gives { length items.now ≤ 4096 → Gives (H.goes_by self.old.desk.now.host (⟦<Ops as Listing>⟧.operations self.old.ops.now)) H.node H.turned H.turn_refused comm.now.name (line.scan Blocking op T.ty (T.numbers items.now)) self.old.turns (IsRead T.numbers) result self.old.desk.now self.new.desk.now }
+        ensures gives { length items.now ≤ 4096 → Gives (H.goes_by self.old.desk.now.host []) H.node H.turned H.turn_refused comm.now.name (line.scan Blocking op T.ty (T.numbers items.now)) self.old.turns (IsRead T.numbers) result self.old.desk.now self.new.desk.now }
         ensures same { self.new.desk.ghost_name ≡ self.old.desk.ghost_name }
-        ensures kept { (self.new.world ≡ self.old.world) × (self.new.ops ≡ self.old.ops) × (self.new.turns ≡ self.old.turns) }
+        ensures kept { (self.new.world ≡ self.old.world) × (self.new.turns ≡ self.old.turns) }
     {
         if items.len() <= MOST_ITEMS {
             return self.one_scan(comm, op, items);
@@ -225,14 +231,14 @@ impl<'a, H: Host> Rank<'a, H> {
         op: Op,
         items: &[T],
     ) -> Result<Vec<T>, CallError>
-        ensures gives { Gives (H.goes_by self.old.desk.now.host (⟦<Ops as Listing>⟧.operations self.old.ops.now)) H.node H.turned H.turn_refused comm.now.name (line.scan Blocking op T.ty (T.numbers items.now)) self.old.turns (IsRead T.numbers) result self.old.desk.now self.new.desk.now }
+        ensures gives { Gives (H.goes_by self.old.desk.now.host []) H.node H.turned H.turn_refused comm.now.name (line.scan Blocking op T.ty (T.numbers items.now)) self.old.turns (IsRead T.numbers) result self.old.desk.now self.new.desk.now }
         ensures same { self.new.desk.ghost_name ≡ self.old.desk.ghost_name }
-        ensures kept { (self.new.world ≡ self.old.world) × (self.new.ops ≡ self.old.ops) × (self.new.turns ≡ self.old.turns) }
+        ensures kept { (self.new.world ≡ self.old.world) × (self.new.turns ≡ self.old.turns) }
     {
         let made = Made::new("scan", comm, items.len());
         let given = self.given(made, items)?;
-        let answer =
-            self.desk.scan(self.alloc, comm, op, T::item_type(), given, self.turns, self.ops);
+        let ops = Ops::none(self.alloc);
+        let answer = self.desk.scan(self.alloc, comm, op, T::item_type(), given, self.turns, &ops);
         self.listed(made, answer)
     }
 
@@ -243,21 +249,22 @@ impl<'a, H: Host> Rank<'a, H> {
         op: Op,
         items: &[T],
     ) -> Result<Pending<T>, CallError>
-        ensures starts { Starts (H.goes_by self.old.desk.now.host (⟦<Ops as Listing>⟧.operations self.old.ops.now)) H.node H.turned H.turn_refused comm.now.name (line.scan Nonblocking op T.ty (T.numbers items.now)) (λ pending. pending.request) result self.old.desk.now self.new.desk.now }
+        ensures starts { Starts (H.goes_by self.old.desk.now.host []) H.node H.turned H.turn_refused comm.now.name (line.scan Nonblocking op T.ty (T.numbers items.now)) (λ pending. pending.request) result self.old.desk.now self.new.desk.now }
         ensures same { self.new.desk.ghost_name ≡ self.old.desk.ghost_name }
-        ensures kept { (self.new.world ≡ self.old.world) × (self.new.ops ≡ self.old.ops) × (self.new.turns ≡ self.old.turns) }
+        ensures kept { (self.new.world ≡ self.old.world) × (self.new.turns ≡ self.old.turns) }
     {
         let made = Made::new("iscan", comm, items.len());
         let given = self.given(made, items)?;
-        let answer = self.desk.iscan(self.alloc, comm, op, T::item_type(), given, self.ops);
+        let ops = Ops::none(self.alloc);
+        let answer = self.desk.iscan(self.alloc, comm, op, T::item_type(), given, &ops);
         self.pending(made, answer)
     }
 
     /// `MPI_EXSCAN`: every rank gets the reduction of what the ranks below its own give, item by item, and rank 0 nothing.
     pub fn exscan<T: Item>(&mut self, comm: &Comm, op: Op, items: &[T]) -> Result<Vec<T>, CallError>
-        ensures gives { length items.now ≤ 4096 → Gives (H.goes_by self.old.desk.now.host (⟦<Ops as Listing>⟧.operations self.old.ops.now)) H.node H.turned H.turn_refused comm.now.name (line.exscan Blocking op T.ty (T.numbers items.now)) self.old.turns (IsRead T.numbers) result self.old.desk.now self.new.desk.now }
+        ensures gives { length items.now ≤ 4096 → Gives (H.goes_by self.old.desk.now.host []) H.node H.turned H.turn_refused comm.now.name (line.exscan Blocking op T.ty (T.numbers items.now)) self.old.turns (IsRead T.numbers) result self.old.desk.now self.new.desk.now }
         ensures same { self.new.desk.ghost_name ≡ self.old.desk.ghost_name }
-        ensures kept { (self.new.world ≡ self.old.world) × (self.new.ops ≡ self.old.ops) × (self.new.turns ≡ self.old.turns) }
+        ensures kept { (self.new.world ≡ self.old.world) × (self.new.turns ≡ self.old.turns) }
     {
         if items.len() <= MOST_ITEMS {
             return self.one_exscan(comm, op, items);
@@ -272,14 +279,15 @@ impl<'a, H: Host> Rank<'a, H> {
         op: Op,
         items: &[T],
     ) -> Result<Vec<T>, CallError>
-        ensures gives { Gives (H.goes_by self.old.desk.now.host (⟦<Ops as Listing>⟧.operations self.old.ops.now)) H.node H.turned H.turn_refused comm.now.name (line.exscan Blocking op T.ty (T.numbers items.now)) self.old.turns (IsRead T.numbers) result self.old.desk.now self.new.desk.now }
+        ensures gives { Gives (H.goes_by self.old.desk.now.host []) H.node H.turned H.turn_refused comm.now.name (line.exscan Blocking op T.ty (T.numbers items.now)) self.old.turns (IsRead T.numbers) result self.old.desk.now self.new.desk.now }
         ensures same { self.new.desk.ghost_name ≡ self.old.desk.ghost_name }
-        ensures kept { (self.new.world ≡ self.old.world) × (self.new.ops ≡ self.old.ops) × (self.new.turns ≡ self.old.turns) }
+        ensures kept { (self.new.world ≡ self.old.world) × (self.new.turns ≡ self.old.turns) }
     {
         let made = Made::new("exscan", comm, items.len());
         let given = self.given(made, items)?;
+        let ops = Ops::none(self.alloc);
         let answer =
-            self.desk.exscan(self.alloc, comm, op, T::item_type(), given, self.turns, self.ops);
+            self.desk.exscan(self.alloc, comm, op, T::item_type(), given, self.turns, &ops);
         self.listed(made, answer)
     }
 
@@ -290,13 +298,14 @@ impl<'a, H: Host> Rank<'a, H> {
         op: Op,
         items: &[T],
     ) -> Result<Pending<T>, CallError>
-        ensures starts { Starts (H.goes_by self.old.desk.now.host (⟦<Ops as Listing>⟧.operations self.old.ops.now)) H.node H.turned H.turn_refused comm.now.name (line.exscan Nonblocking op T.ty (T.numbers items.now)) (λ pending. pending.request) result self.old.desk.now self.new.desk.now }
+        ensures starts { Starts (H.goes_by self.old.desk.now.host []) H.node H.turned H.turn_refused comm.now.name (line.exscan Nonblocking op T.ty (T.numbers items.now)) (λ pending. pending.request) result self.old.desk.now self.new.desk.now }
         ensures same { self.new.desk.ghost_name ≡ self.old.desk.ghost_name }
-        ensures kept { (self.new.world ≡ self.old.world) × (self.new.ops ≡ self.old.ops) × (self.new.turns ≡ self.old.turns) }
+        ensures kept { (self.new.world ≡ self.old.world) × (self.new.turns ≡ self.old.turns) }
     {
         let made = Made::new("iexscan", comm, items.len());
         let given = self.given(made, items)?;
-        let answer = self.desk.iexscan(self.alloc, comm, op, T::item_type(), given, self.ops);
+        let ops = Ops::none(self.alloc);
+        let answer = self.desk.iexscan(self.alloc, comm, op, T::item_type(), given, &ops);
         self.pending(made, answer)
     }
 }

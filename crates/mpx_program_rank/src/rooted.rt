@@ -1,5 +1,5 @@
 //! The calls that move items from or to a root, and the barrier.
-ghost use Rattle.std.specs.Prelude.{◌≡◌, ◌≤◌, length, map, pos};
+ghost use Rattle.std.specs.Prelude.{◌≡◌, ◌≤◌, [], length, map, pos};
 ghost use Rattle.mpx_kind.specs.declared.kinds.Mode.TheVariants.{Blocking, Nonblocking};
 ghost use Rattle.mpx_comm.specs.Lines as line;
 ghost use Rattle.mpx_program_rank.specs.Lengths.{block_of};
@@ -11,29 +11,31 @@ use crate::pending::Pending;
 use crate::rank::Rank;
 use crate::reading::Made;
 use mpx_comm::{Comm, Host};
-use mpx_num::{Listing, MOST_ITEMS, Ops};
+use mpx_num::{MOST_ITEMS, Ops};
 
 /// Each call is the one of [`Desk`](crate::Desk) with its name; what members give and get is told there.
 impl<'a, H: Host> Rank<'a, H> {
     /// `MPI_BARRIER`: it ends once all ranks have called it.
     pub fn barrier(&mut self, comm: &Comm) -> Result<(), CallError>
-        ensures gives { Gives (H.goes_by self.old.desk.now.host (⟦<Ops as Listing>⟧.operations self.old.ops.now)) H.node H.turned H.turn_refused comm.now.name (line.barrier Blocking) self.old.turns (IsDone) result self.old.desk.now self.new.desk.now }
+        ensures gives { Gives (H.goes_by self.old.desk.now.host []) H.node H.turned H.turn_refused comm.now.name (line.barrier Blocking) self.old.turns (IsDone) result self.old.desk.now self.new.desk.now }
         ensures same { self.new.desk.ghost_name ≡ self.old.desk.ghost_name }
-        ensures kept { (self.new.world ≡ self.old.world) × (self.new.ops ≡ self.old.ops) × (self.new.turns ≡ self.old.turns) }
+        ensures kept { (self.new.world ≡ self.old.world) × (self.new.turns ≡ self.old.turns) }
     {
         let made = Made::new("barrier", comm, 0);
-        let answer = self.desk.barrier(self.alloc, comm, self.turns, self.ops);
+        let ops = Ops::none(self.alloc);
+        let answer = self.desk.barrier(self.alloc, comm, self.turns, &ops);
         self.nothing(made, answer)
     }
 
     /// [`Rank::barrier`] without waiting: its request, which gives no items.
     pub fn ibarrier(&mut self, comm: &Comm) -> Result<Pending<u8>, CallError>
-        ensures starts { Starts (H.goes_by self.old.desk.now.host (⟦<Ops as Listing>⟧.operations self.old.ops.now)) H.node H.turned H.turn_refused comm.now.name (line.barrier Nonblocking) (λ pending. pending.request) result self.old.desk.now self.new.desk.now }
+        ensures starts { Starts (H.goes_by self.old.desk.now.host []) H.node H.turned H.turn_refused comm.now.name (line.barrier Nonblocking) (λ pending. pending.request) result self.old.desk.now self.new.desk.now }
         ensures same { self.new.desk.ghost_name ≡ self.old.desk.ghost_name }
-        ensures kept { (self.new.world ≡ self.old.world) × (self.new.ops ≡ self.old.ops) × (self.new.turns ≡ self.old.turns) }
+        ensures kept { (self.new.world ≡ self.old.world) × (self.new.turns ≡ self.old.turns) }
     {
         let made = Made::new("ibarrier", comm, 0);
-        let answer = self.desk.ibarrier(self.alloc, comm, self.ops);
+        let ops = Ops::none(self.alloc);
+        let answer = self.desk.ibarrier(self.alloc, comm, &ops);
         self.pending(made, answer)
     }
 
@@ -45,9 +47,9 @@ impl<'a, H: Host> Rank<'a, H> {
         count: usize,
         items: &[T],
     ) -> Result<Vec<T>, CallError>
-        ensures gives { count ≤ 4096 → Gives (H.goes_by self.old.desk.now.host (⟦<Ops as Listing>⟧.operations self.old.ops.now)) H.node H.turned H.turn_refused comm.now.name (line.bcast Blocking (pos root) T.ty (pos count) (T.numbers items.now)) self.old.turns (IsRead T.numbers) result self.old.desk.now self.new.desk.now }
+        ensures gives { count ≤ 4096 → Gives (H.goes_by self.old.desk.now.host []) H.node H.turned H.turn_refused comm.now.name (line.bcast Blocking (pos root) T.ty (pos count) (T.numbers items.now)) self.old.turns (IsRead T.numbers) result self.old.desk.now self.new.desk.now }
         ensures same { self.new.desk.ghost_name ≡ self.old.desk.ghost_name }
-        ensures kept { (self.new.world ≡ self.old.world) × (self.new.ops ≡ self.old.ops) × (self.new.turns ≡ self.old.turns) }
+        ensures kept { (self.new.world ≡ self.old.world) × (self.new.turns ≡ self.old.turns) }
     {
         if count <= MOST_ITEMS {
             return self.one_bcast(comm, root, count, items);
@@ -63,12 +65,13 @@ impl<'a, H: Host> Rank<'a, H> {
         count: usize,
         items: &[T],
     ) -> Result<Vec<T>, CallError>
-        ensures gives { Gives (H.goes_by self.old.desk.now.host (⟦<Ops as Listing>⟧.operations self.old.ops.now)) H.node H.turned H.turn_refused comm.now.name (line.bcast Blocking (pos root) T.ty (pos count) (T.numbers items.now)) self.old.turns (IsRead T.numbers) result self.old.desk.now self.new.desk.now }
+        ensures gives { Gives (H.goes_by self.old.desk.now.host []) H.node H.turned H.turn_refused comm.now.name (line.bcast Blocking (pos root) T.ty (pos count) (T.numbers items.now)) self.old.turns (IsRead T.numbers) result self.old.desk.now self.new.desk.now }
         ensures same { self.new.desk.ghost_name ≡ self.old.desk.ghost_name }
-        ensures kept { (self.new.world ≡ self.old.world) × (self.new.ops ≡ self.old.ops) × (self.new.turns ≡ self.old.turns) }
+        ensures kept { (self.new.world ≡ self.old.world) × (self.new.turns ≡ self.old.turns) }
     {
         let made = Made::new("bcast", comm, items.len()).rooted(i128::from(root)).sent(count);
         let given = self.given(made, items)?;
+        let ops = Ops::none(self.alloc);
         let answer = self.desk.bcast(
             self.alloc,
             comm,
@@ -77,7 +80,7 @@ impl<'a, H: Host> Rank<'a, H> {
             count as i128,
             given,
             self.turns,
-            self.ops,
+            &ops,
         );
         self.listed(made, answer)
     }
@@ -90,14 +93,15 @@ impl<'a, H: Host> Rank<'a, H> {
         count: usize,
         items: &[T],
     ) -> Result<Pending<T>, CallError>
-        ensures starts { Starts (H.goes_by self.old.desk.now.host (⟦<Ops as Listing>⟧.operations self.old.ops.now)) H.node H.turned H.turn_refused comm.now.name (line.bcast Nonblocking (pos root) T.ty (pos count) (T.numbers items.now)) (λ pending. pending.request) result self.old.desk.now self.new.desk.now }
+        ensures starts { Starts (H.goes_by self.old.desk.now.host []) H.node H.turned H.turn_refused comm.now.name (line.bcast Nonblocking (pos root) T.ty (pos count) (T.numbers items.now)) (λ pending. pending.request) result self.old.desk.now self.new.desk.now }
         ensures same { self.new.desk.ghost_name ≡ self.old.desk.ghost_name }
-        ensures kept { (self.new.world ≡ self.old.world) × (self.new.ops ≡ self.old.ops) × (self.new.turns ≡ self.old.turns) }
+        ensures kept { (self.new.world ≡ self.old.world) × (self.new.turns ≡ self.old.turns) }
     {
         let made = Made::new("ibcast", comm, items.len()).rooted(i128::from(root)).sent(count);
         let given = self.given(made, items)?;
+        let ops = Ops::none(self.alloc);
         let answer = self.desk.ibcast(
-            self.alloc, comm, i128::from(root), T::item_type(), count as i128, given, self.ops,
+            self.alloc, comm, i128::from(root), T::item_type(), count as i128, given, &ops,
         );
         self.pending(made, answer)
     }
@@ -109,9 +113,9 @@ impl<'a, H: Host> Rank<'a, H> {
         root: u8,
         items: &[T],
     ) -> Result<Vec<T>, CallError>
-        ensures gives { length items.now ≤ 4096 → Gives (H.goes_by self.old.desk.now.host (⟦<Ops as Listing>⟧.operations self.old.ops.now)) H.node H.turned H.turn_refused comm.now.name (line.gather Blocking (pos root) T.ty (T.numbers items.now)) self.old.turns (IsRead T.numbers) result self.old.desk.now self.new.desk.now }
+        ensures gives { length items.now ≤ 4096 → Gives (H.goes_by self.old.desk.now.host []) H.node H.turned H.turn_refused comm.now.name (line.gather Blocking (pos root) T.ty (T.numbers items.now)) self.old.turns (IsRead T.numbers) result self.old.desk.now self.new.desk.now }
         ensures same { self.new.desk.ghost_name ≡ self.old.desk.ghost_name }
-        ensures kept { (self.new.world ≡ self.old.world) × (self.new.ops ≡ self.old.ops) × (self.new.turns ≡ self.old.turns) }
+        ensures kept { (self.new.world ≡ self.old.world) × (self.new.turns ≡ self.old.turns) }
     {
         if items.len() <= MOST_ITEMS {
             return self.one_gather(comm, root, items);
@@ -126,14 +130,15 @@ impl<'a, H: Host> Rank<'a, H> {
         root: u8,
         items: &[T],
     ) -> Result<Vec<T>, CallError>
-        ensures gives { Gives (H.goes_by self.old.desk.now.host (⟦<Ops as Listing>⟧.operations self.old.ops.now)) H.node H.turned H.turn_refused comm.now.name (line.gather Blocking (pos root) T.ty (T.numbers items.now)) self.old.turns (IsRead T.numbers) result self.old.desk.now self.new.desk.now }
+        ensures gives { Gives (H.goes_by self.old.desk.now.host []) H.node H.turned H.turn_refused comm.now.name (line.gather Blocking (pos root) T.ty (T.numbers items.now)) self.old.turns (IsRead T.numbers) result self.old.desk.now self.new.desk.now }
         ensures same { self.new.desk.ghost_name ≡ self.old.desk.ghost_name }
-        ensures kept { (self.new.world ≡ self.old.world) × (self.new.ops ≡ self.old.ops) × (self.new.turns ≡ self.old.turns) }
+        ensures kept { (self.new.world ≡ self.old.world) × (self.new.turns ≡ self.old.turns) }
     {
         let made = Made::new("gather", comm, items.len()).rooted(i128::from(root));
         let given = self.given(made, items)?;
+        let ops = Ops::none(self.alloc);
         let answer = self.desk.gather(
-            self.alloc, comm, i128::from(root), T::item_type(), given, self.turns, self.ops,
+            self.alloc, comm, i128::from(root), T::item_type(), given, self.turns, &ops,
         );
         self.listed(made, answer)
     }
@@ -145,14 +150,15 @@ impl<'a, H: Host> Rank<'a, H> {
         root: u8,
         items: &[T],
     ) -> Result<Pending<T>, CallError>
-        ensures starts { Starts (H.goes_by self.old.desk.now.host (⟦<Ops as Listing>⟧.operations self.old.ops.now)) H.node H.turned H.turn_refused comm.now.name (line.gather Nonblocking (pos root) T.ty (T.numbers items.now)) (λ pending. pending.request) result self.old.desk.now self.new.desk.now }
+        ensures starts { Starts (H.goes_by self.old.desk.now.host []) H.node H.turned H.turn_refused comm.now.name (line.gather Nonblocking (pos root) T.ty (T.numbers items.now)) (λ pending. pending.request) result self.old.desk.now self.new.desk.now }
         ensures same { self.new.desk.ghost_name ≡ self.old.desk.ghost_name }
-        ensures kept { (self.new.world ≡ self.old.world) × (self.new.ops ≡ self.old.ops) × (self.new.turns ≡ self.old.turns) }
+        ensures kept { (self.new.world ≡ self.old.world) × (self.new.turns ≡ self.old.turns) }
     {
         let made = Made::new("igather", comm, items.len()).rooted(i128::from(root));
         let given = self.given(made, items)?;
+        let ops = Ops::none(self.alloc);
         let answer =
-            self.desk.igather(self.alloc, comm, i128::from(root), T::item_type(), given, self.ops);
+            self.desk.igather(self.alloc, comm, i128::from(root), T::item_type(), given, &ops);
         self.pending(made, answer)
     }
 
@@ -164,15 +170,16 @@ impl<'a, H: Host> Rank<'a, H> {
         counts: &[u32],
         items: &[T],
     ) -> Result<Vec<T>, CallError>
-        ensures gives { Gives (H.goes_by self.old.desk.now.host (⟦<Ops as Listing>⟧.operations self.old.ops.now)) H.node H.turned H.turn_refused comm.now.name (line.gatherv Blocking (pos root) T.ty (map pos counts.now) (T.numbers items.now)) self.old.turns (IsRead T.numbers) result self.old.desk.now self.new.desk.now }
+        ensures gives { Gives (H.goes_by self.old.desk.now.host []) H.node H.turned H.turn_refused comm.now.name (line.gatherv Blocking (pos root) T.ty (map pos counts.now) (T.numbers items.now)) self.old.turns (IsRead T.numbers) result self.old.desk.now self.new.desk.now }
         ensures same { self.new.desk.ghost_name ≡ self.old.desk.ghost_name }
-        ensures kept { (self.new.world ≡ self.old.world) × (self.new.ops ≡ self.old.ops) × (self.new.turns ≡ self.old.turns) }
+        ensures kept { (self.new.world ≡ self.old.world) × (self.new.turns ≡ self.old.turns) }
     {
         let made = Made::new("gatherv", comm, items.len()).rooted(i128::from(root)).counted(counts.len());
         let counts = self.counts(made, counts)?;
         let given = self.given(made, items)?;
+        let ops = Ops::none(self.alloc);
         let answer = self.desk.gatherv(
-            self.alloc, comm, i128::from(root), T::item_type(), counts, given, self.turns, self.ops,
+            self.alloc, comm, i128::from(root), T::item_type(), counts, given, self.turns, &ops,
         );
         self.listed(made, answer)
     }
@@ -185,15 +192,16 @@ impl<'a, H: Host> Rank<'a, H> {
         counts: &[u32],
         items: &[T],
     ) -> Result<Pending<T>, CallError>
-        ensures starts { Starts (H.goes_by self.old.desk.now.host (⟦<Ops as Listing>⟧.operations self.old.ops.now)) H.node H.turned H.turn_refused comm.now.name (line.gatherv Nonblocking (pos root) T.ty (map pos counts.now) (T.numbers items.now)) (λ pending. pending.request) result self.old.desk.now self.new.desk.now }
+        ensures starts { Starts (H.goes_by self.old.desk.now.host []) H.node H.turned H.turn_refused comm.now.name (line.gatherv Nonblocking (pos root) T.ty (map pos counts.now) (T.numbers items.now)) (λ pending. pending.request) result self.old.desk.now self.new.desk.now }
         ensures same { self.new.desk.ghost_name ≡ self.old.desk.ghost_name }
-        ensures kept { (self.new.world ≡ self.old.world) × (self.new.ops ≡ self.old.ops) × (self.new.turns ≡ self.old.turns) }
+        ensures kept { (self.new.world ≡ self.old.world) × (self.new.turns ≡ self.old.turns) }
     {
         let made = Made::new("igatherv", comm, items.len()).rooted(i128::from(root)).counted(counts.len());
         let counts = self.counts(made, counts)?;
         let given = self.given(made, items)?;
+        let ops = Ops::none(self.alloc);
         let answer = self.desk.igatherv(
-            self.alloc, comm, i128::from(root), T::item_type(), counts, given, self.ops,
+            self.alloc, comm, i128::from(root), T::item_type(), counts, given, &ops,
         );
         self.pending(made, answer)
     }
@@ -206,9 +214,9 @@ impl<'a, H: Host> Rank<'a, H> {
         count: usize,
         items: &[T],
     ) -> Result<Vec<T>, CallError>
-        ensures gives { count ≤ block_of comm.now.size → Gives (H.goes_by self.old.desk.now.host (⟦<Ops as Listing>⟧.operations self.old.ops.now)) H.node H.turned H.turn_refused comm.now.name (line.scatter Blocking (pos root) T.ty (pos count) (T.numbers items.now)) self.old.turns (IsRead T.numbers) result self.old.desk.now self.new.desk.now }
+        ensures gives { count ≤ block_of comm.now.size → Gives (H.goes_by self.old.desk.now.host []) H.node H.turned H.turn_refused comm.now.name (line.scatter Blocking (pos root) T.ty (pos count) (T.numbers items.now)) self.old.turns (IsRead T.numbers) result self.old.desk.now self.new.desk.now }
         ensures same { self.new.desk.ghost_name ≡ self.old.desk.ghost_name }
-        ensures kept { (self.new.world ≡ self.old.world) × (self.new.ops ≡ self.old.ops) × (self.new.turns ≡ self.old.turns) }
+        ensures kept { (self.new.world ≡ self.old.world) × (self.new.turns ≡ self.old.turns) }
     {
         if count <= self.block(comm) {
             return self.one_scatter(comm, root, count, items);
@@ -224,12 +232,13 @@ impl<'a, H: Host> Rank<'a, H> {
         count: usize,
         items: &[T],
     ) -> Result<Vec<T>, CallError>
-        ensures gives { Gives (H.goes_by self.old.desk.now.host (⟦<Ops as Listing>⟧.operations self.old.ops.now)) H.node H.turned H.turn_refused comm.now.name (line.scatter Blocking (pos root) T.ty (pos count) (T.numbers items.now)) self.old.turns (IsRead T.numbers) result self.old.desk.now self.new.desk.now }
+        ensures gives { Gives (H.goes_by self.old.desk.now.host []) H.node H.turned H.turn_refused comm.now.name (line.scatter Blocking (pos root) T.ty (pos count) (T.numbers items.now)) self.old.turns (IsRead T.numbers) result self.old.desk.now self.new.desk.now }
         ensures same { self.new.desk.ghost_name ≡ self.old.desk.ghost_name }
-        ensures kept { (self.new.world ≡ self.old.world) × (self.new.ops ≡ self.old.ops) × (self.new.turns ≡ self.old.turns) }
+        ensures kept { (self.new.world ≡ self.old.world) × (self.new.turns ≡ self.old.turns) }
     {
-        let made = Made::new("scatter", comm, items.len()).rooted(i128::from(root));
+        let made = Made::new("scatter", comm, items.len()).rooted(i128::from(root)).scattered(count);
         let given = self.given(made, items)?;
+        let ops = Ops::none(self.alloc);
         let answer = self.desk.scatter(
             self.alloc,
             comm,
@@ -238,7 +247,7 @@ impl<'a, H: Host> Rank<'a, H> {
             count as i128,
             given,
             self.turns,
-            self.ops,
+            &ops,
         );
         self.listed(made, answer)
     }
@@ -251,14 +260,15 @@ impl<'a, H: Host> Rank<'a, H> {
         count: usize,
         items: &[T],
     ) -> Result<Pending<T>, CallError>
-        ensures starts { Starts (H.goes_by self.old.desk.now.host (⟦<Ops as Listing>⟧.operations self.old.ops.now)) H.node H.turned H.turn_refused comm.now.name (line.scatter Nonblocking (pos root) T.ty (pos count) (T.numbers items.now)) (λ pending. pending.request) result self.old.desk.now self.new.desk.now }
+        ensures starts { Starts (H.goes_by self.old.desk.now.host []) H.node H.turned H.turn_refused comm.now.name (line.scatter Nonblocking (pos root) T.ty (pos count) (T.numbers items.now)) (λ pending. pending.request) result self.old.desk.now self.new.desk.now }
         ensures same { self.new.desk.ghost_name ≡ self.old.desk.ghost_name }
-        ensures kept { (self.new.world ≡ self.old.world) × (self.new.ops ≡ self.old.ops) × (self.new.turns ≡ self.old.turns) }
+        ensures kept { (self.new.world ≡ self.old.world) × (self.new.turns ≡ self.old.turns) }
     {
-        let made = Made::new("iscatter", comm, items.len()).rooted(i128::from(root));
+        let made = Made::new("iscatter", comm, items.len()).rooted(i128::from(root)).scattered(count);
         let given = self.given(made, items)?;
+        let ops = Ops::none(self.alloc);
         let answer = self.desk.iscatter(
-            self.alloc, comm, i128::from(root), T::item_type(), count as i128, given, self.ops,
+            self.alloc, comm, i128::from(root), T::item_type(), count as i128, given, &ops,
         );
         self.pending(made, answer)
     }
@@ -272,13 +282,14 @@ impl<'a, H: Host> Rank<'a, H> {
         count: usize,
         items: &[T],
     ) -> Result<Vec<T>, CallError>
-        ensures gives { Gives (H.goes_by self.old.desk.now.host (⟦<Ops as Listing>⟧.operations self.old.ops.now)) H.node H.turned H.turn_refused comm.now.name (line.scatterv Blocking (pos root) T.ty (map pos counts.now) (pos count) (T.numbers items.now)) self.old.turns (IsRead T.numbers) result self.old.desk.now self.new.desk.now }
+        ensures gives { Gives (H.goes_by self.old.desk.now.host []) H.node H.turned H.turn_refused comm.now.name (line.scatterv Blocking (pos root) T.ty (map pos counts.now) (pos count) (T.numbers items.now)) self.old.turns (IsRead T.numbers) result self.old.desk.now self.new.desk.now }
         ensures same { self.new.desk.ghost_name ≡ self.old.desk.ghost_name }
-        ensures kept { (self.new.world ≡ self.old.world) × (self.new.ops ≡ self.old.ops) × (self.new.turns ≡ self.old.turns) }
+        ensures kept { (self.new.world ≡ self.old.world) × (self.new.turns ≡ self.old.turns) }
     {
         let made = Made::new("scatterv", comm, items.len()).rooted(i128::from(root)).counted(counts.len());
         let counts = self.counts(made, counts)?;
         let given = self.given(made, items)?;
+        let ops = Ops::none(self.alloc);
         let answer = self.desk.scatterv(
             self.alloc,
             comm,
@@ -288,7 +299,7 @@ impl<'a, H: Host> Rank<'a, H> {
             count as i128,
             given,
             self.turns,
-            self.ops,
+            &ops,
         );
         self.listed(made, answer)
     }
@@ -302,22 +313,16 @@ impl<'a, H: Host> Rank<'a, H> {
         count: usize,
         items: &[T],
     ) -> Result<Pending<T>, CallError>
-        ensures starts { Starts (H.goes_by self.old.desk.now.host (⟦<Ops as Listing>⟧.operations self.old.ops.now)) H.node H.turned H.turn_refused comm.now.name (line.scatterv Nonblocking (pos root) T.ty (map pos counts.now) (pos count) (T.numbers items.now)) (λ pending. pending.request) result self.old.desk.now self.new.desk.now }
+        ensures starts { Starts (H.goes_by self.old.desk.now.host []) H.node H.turned H.turn_refused comm.now.name (line.scatterv Nonblocking (pos root) T.ty (map pos counts.now) (pos count) (T.numbers items.now)) (λ pending. pending.request) result self.old.desk.now self.new.desk.now }
         ensures same { self.new.desk.ghost_name ≡ self.old.desk.ghost_name }
-        ensures kept { (self.new.world ≡ self.old.world) × (self.new.ops ≡ self.old.ops) × (self.new.turns ≡ self.old.turns) }
+        ensures kept { (self.new.world ≡ self.old.world) × (self.new.turns ≡ self.old.turns) }
     {
         let made = Made::new("iscatterv", comm, items.len()).rooted(i128::from(root)).counted(counts.len());
         let counts = self.counts(made, counts)?;
         let given = self.given(made, items)?;
+        let ops = Ops::none(self.alloc);
         let answer = self.desk.iscatterv(
-            self.alloc,
-            comm,
-            i128::from(root),
-            T::item_type(),
-            counts,
-            count as i128,
-            given,
-            self.ops,
+            self.alloc, comm, i128::from(root), T::item_type(), counts, count as i128, given, &ops,
         );
         self.pending(made, answer)
     }

@@ -5,6 +5,5 @@ abbrev pub invariant-loop-first : goal.invariant-loop-first
 invariant-loop-first g l = record {
   same : l.self.desk.ghost_name ≡ l.initial.self.desk.ghost_name;
   world : l.self.world ≡ l.initial.self.world;
-  ops : l.self.ops ≡ l.initial.self.ops;
   turns : l.self.turns ≡ l.initial.self.turns;
 }
