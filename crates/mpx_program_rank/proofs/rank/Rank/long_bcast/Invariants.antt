@@ -1,5 +1,5 @@
 use Rattle.std.proofs.Common.{◌≡◌}
-use Rattle.mpx_program_rank.proofs.lengths.Rank.long_bcast.Given as goal
+use Rattle.mpx_program_rank.proofs.rank.Rank.long_bcast.Given as goal
 
 abbrev pub invariant-loop-first : goal.invariant-loop-first
 invariant-loop-first g l = record {
