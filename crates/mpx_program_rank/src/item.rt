@@ -204,14 +204,14 @@ impl Item for (i32, i32) {
     }
 
     fn list_of(alloc: Global, given: &[i128]) -> Result<Vec<Self>, IntegersError> {
-        let both = integers_in(alloc, given)?;
+        let both = integers_in::<i32>(alloc, given)?;
         pairs_of(alloc, &both)
     }
 }
 
 // Both numbers of each pair.
 #[tactic(auto, using(crate::proofs::Pairs::both_push))]
-fn both_of(alloc: Global, pairs: &[(i32, i32)]) -> Result<Vec<i32>, AllocError>
+fn both_of<T: Copy>(alloc: Global, pairs: &[(T, T)]) -> Result<Vec<T>, AllocError>
     ensures { IfOk result (λ both. both.items ≡ both_numbers pairs.now) }
 {
     let mut both = Vec::new(alloc);
@@ -223,8 +223,8 @@ fn both_of(alloc: Global, pairs: &[(i32, i32)]) -> Result<Vec<i32>, AllocError>
 }
 
 // The pairs of these numbers.
-#[tactic(auto, using(crate::proofs::Pairs::both_push))]
-fn pairs_of(alloc: Global, both: &[i32]) -> Result<Vec<(i32, i32)>, IntegersError>
+#[tactic(auto, using(crate::proofs::Pairs::both_more))]
+fn pairs_of<T: Copy>(alloc: Global, both: &[T]) -> Result<Vec<(T, T)>, IntegersError>
     ensures { IfOk result (λ pairs. both_numbers pairs.items ≡ both.now) }
 {
     if both.len() % 2 == 1 {

@@ -3,4 +3,4 @@ use Rattle.mpx_program_rank.specs.Pairs.{both_numbers}
 use Rattle.mpx_program_rank.proofs.item.both_of.Given as goal
 
 abbrev pub invariant-loop-pair : goal.invariant-loop-pair
-invariant-loop-pair l = l.both.items ≡ both_numbers (take l.pair-index l.pairs)
+invariant-loop-pair g l = l.both.items ≡ both_numbers (take l.pair-index l.pairs)
