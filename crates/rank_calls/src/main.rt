@@ -1,18 +1,15 @@
-//! A trial of the handle.
+//! The program `rank_calls`: two ranks make calls of each sort, some of them of more than 4,096 items, and say what these gave.
 #![tactic(auto)]
 
 use mpx_job::{RankProgram, job, print_answers};
 use mpx_num::{Op, Ops};
-use mpx_program_rank::{CallError, Cause, Comm, Host, Rank, Tested};
+use mpx_program_rank::{CallError, Comm, Host, Rank, Tested};
 use mpx_ranks::RanksError;
 use std::process::ExitCode;
 
-#[derive(Drop)]
-struct Trial {
-    wrong: u8,
-}
+struct RankCalls;
 
-impl RankProgram for Trial {
+impl RankProgram for RankCalls {
     type Answer = String;
     type Error = CallError;
 
@@ -24,31 +21,27 @@ impl RankProgram for Trial {
         let swapped: Vec<u8> = rank.alltoall(world, 1, &[1u8, 2])?;
         let best: Vec<(i32, i32)> = rank.allreduce(world, Op::Maxloc, &[(5, 1), (2, 3)])?;
         let half = rank.split_by(world, mine % 2, 0)?;
-        let (polled, pieces) = polled(rank, world, mine)?;
+        let polled = polled(rank, world, mine)?;
         let pending = rank.iallgather(world, &[mine])?;
         let later = rank.wait(pending)?;
         let sum = rank.allreduce_one(world, Op::Sum, mine)?;
         let cast = rank.bcast_one(world, 1, mine)?;
         let long = long(rank)?;
-        mistakes(rank, world, self.wrong)?;
         let place = (half.rank(), half.size());
-        Ok(format!(in rank.alloc; "{total:?} {all:?} {swapped:?} {best:?} {place:?} {polled:?} {later:?} {sum} {cast} {long:?} {}", pieces > 0)?)
-    }
-
-    fn turns(&self) -> u64 {
-        200
+        Ok(format!(in rank.alloc; "{total:?} {all:?} {swapped:?} {best:?} {place:?} {polled:?} {later:?} {sum} {cast} {long:?}")?)
     }
 }
 
-fn polled<H: Host>(rank: &mut Rank<'_, H>, world: &Comm, mine: i64) -> Result<(Vec<i64>, usize), CallError> {
+// The product of all numbers, by tests: each makes a turn.
+fn polled<H: Host>(rank: &mut Rank<'_, H>, world: &Comm, mine: i64) -> Result<Vec<i64>, CallError> {
     let mut pending = rank.iallreduce(world, Op::Prod, &[mine])?;
-    for pieces in 0..1000 {
+    for _ in 0..1_000_000 {
         match rank.test(pending)? {
-            Tested::Done(list) => return Ok((list, pieces)),
+            Tested::Done(list) => return Ok(list),
             Tested::NotYet(again) | Tested::LetGo(again) => pending = again,
         }
     }
-    Ok((Vec::new(rank.alloc), 1000))
+    Ok(Vec::new(rank.alloc))
 }
 
 // Calls of more than 4,096 items.
@@ -76,47 +69,8 @@ fn long<H: Host>(rank: &mut Rank<'_, H>) -> Result<Vec<bool>, CallError> {
     Ok(right)
 }
 
-fn mistakes<H: Host>(rank: &mut Rank<'_, H>, world: &Comm, wrong: u8) -> Result<(), CallError> {
-    let number = rank.number();
-    if wrong == 1 && number == 1 {
-        let list: Vec<i32> = rank.reduce(world, 9, Op::Sum, &[1])?;
-        drop(list);
-    }
-    if wrong == 2 {
-        let list: Vec<i32> = rank.allreduce(world, Op::Sum, if number == 1 { &[1, 2] } else { &[1] })?;
-        drop(list);
-    }
-    if wrong == 3 {
-        let list: Vec<i32> = rank.bcast(world, 0, 2, &[1, 2])?;
-        drop(list);
-    }
-    if wrong == 4 && number == 0 {
-        rank.barrier(world)?;
-    }
-    if wrong == 5 && number == 1 {
-        let list: Vec<u8> = rank.alltoall(world, 2, &[1])?;
-        drop(list);
-    }
-    if wrong == 6 {
-        let list = vec![in rank.alloc; 1u8; if number == 1 { 5_000 } else { 6_000 }]?;
-        let list = rank.allreduce(world, Op::Sum, &list)?;
-        drop(list);
-    }
-    if wrong == 7 && number == 1 {
-        return Err(CallError::bare(Cause::NotOne(7)));
-    }
-    let list: Vec<i32> = rank.allgather(world, &[1])?;
-    drop(list);
-    Ok(())
-}
-
 fn main(rt: HostRuntime) -> Result<ExitCode, RanksError> {
     let ops = Ops::none(rt.alloc());
-    let mut code = ExitCode::SUCCESS;
-    for wrong in 0..8 {
-        let _printed = println!(rt; "trial {wrong}");
-        let answers = job(&rt, rt.alloc(), 2, &Trial { wrong }, &ops)?;
-        code = print_answers(&rt, &answers);
-    }
-    Ok(code)
+    let answers = job(&rt, rt.alloc(), 2, &RankCalls, &ops)?;
+    Ok(print_answers(&rt, &answers))
 }
