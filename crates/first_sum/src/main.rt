@@ -11,6 +11,7 @@ struct FirstSum;
 
 impl RankProgram for FirstSum {
     type Answer = String;
+
     type Error = CallError;
 
     fn run<H: Host>(&self, rank: &mut Rank<'_, H>) -> Result<String, CallError> {

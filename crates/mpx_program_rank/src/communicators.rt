@@ -42,12 +42,19 @@ impl<'a, H: Host> Rank<'a, H> {
     {
         let made = Made::new("split", comm, 0);
         let ops = Ops::none(self.alloc);
-        let answer = self.desk.split(self.alloc, comm, colour, key, self.turns, &ops);
+        let answer = self
+            .desk
+            .split(self.alloc, comm, colour, key, self.turns, &ops);
         self.comm_given(made, answer)
     }
 
     /// [`Rank::split`] where every rank gives a colour: the new communicator.
-    pub fn split_by<C: Integer>(&mut self, comm: &Comm, colour: C, key: C) -> Result<Comm, CallError>
+    pub fn split_by<C: Integer>(
+        &mut self,
+        comm: &Comm,
+        colour: C,
+        key: C,
+    ) -> Result<Comm, CallError>
         ensures gives { Gives (H.goes_by self.old.desk.now.host []) H.node H.turned H.turn_refused comm.now.name (line.split (Some (C.value colour)) (C.value key)) self.old.turns IsNewComm result self.old.desk.now self.new.desk.now }
         ensures same { self.new.desk.ghost_name ≡ self.old.desk.ghost_name }
         ensures kept { (self.new.world ≡ self.old.world) × (self.new.turns ≡ self.old.turns) }
@@ -55,7 +62,9 @@ impl<'a, H: Host> Rank<'a, H> {
         let made = Made::new("split", comm, 0);
         let (colour, key) = (Some(colour.number()), key.number());
         let ops = Ops::none(self.alloc);
-        let answer = self.desk.split(self.alloc, comm, colour, key, self.turns, &ops);
+        let answer = self
+            .desk
+            .split(self.alloc, comm, colour, key, self.turns, &ops);
         self.new_comm(made, answer)
     }
 
@@ -98,7 +107,9 @@ impl<'a, H: Host> Rank<'a, H> {
         let made = Made::new("dist_graph", comm, 0);
         let edges = self.list(made, edges)?;
         let ops = Ops::none(self.alloc);
-        let answer = self.desk.dist_graph(self.alloc, comm, weighted, edges, self.turns, &ops);
+        let answer = self
+            .desk
+            .dist_graph(self.alloc, comm, weighted, edges, self.turns, &ops);
         self.new_comm(made, answer)
     }
 
@@ -118,17 +129,20 @@ impl<'a, H: Host> Rank<'a, H> {
         let sources = self.list(made, sources)?;
         let destinations = self.list(made, destinations)?;
         let ops = Ops::none(self.alloc);
-        let answer = self.desk.dist_graph_adjacent(self.alloc, comm, weighted, sources, destinations, self.turns, &ops);
+        let answer = self.desk.dist_graph_adjacent(
+            self.alloc,
+            comm,
+            weighted,
+            sources,
+            destinations,
+            self.turns,
+            &ops,
+        );
         self.new_comm(made, answer)
     }
 
     /// `MPI_COMM_CREATE_GROUP`: the new communicator of these ranks, in this order. Only they call it, with the same tag.
-    pub fn create_group(
-        &mut self,
-        comm: &Comm,
-        tag: u16,
-        ranks: &[u8],
-    ) -> Result<Comm, CallError>
+    pub fn create_group(&mut self, comm: &Comm, tag: u16, ranks: &[u8]) -> Result<Comm, CallError>
         ensures gives { GivesGathered (H.goes_by self.old.desk.now.host []) H.node H.turned H.turn_refused comm.now.name (pos tag) (map pos ranks.now) self.old.turns IsNewComm result self.old.desk.now self.new.desk.now }
         ensures same { self.new.desk.ghost_name ≡ self.old.desk.ghost_name }
         ensures kept { (self.new.world ≡ self.old.world) × (self.new.turns ≡ self.old.turns) }
@@ -137,9 +151,9 @@ impl<'a, H: Host> Rank<'a, H> {
         let ranks = self.ranks(made, ranks)?;
         let tag = i128::from(tag);
         let ops = Ops::none(self.alloc);
-        let answer =
-            self.desk
-                .create_group(self.alloc, comm, tag, ranks, self.turns, &ops);
+        let answer = self
+            .desk
+            .create_group(self.alloc, comm, tag, ranks, self.turns, &ops);
         self.new_comm(made, answer)
     }
 

@@ -28,7 +28,11 @@ impl<'a, H: Host> Rank<'a, H> {
     }
 
     // [`Rank::allgather`] in one call.
-    pub(crate) fn one_allgather<T: Item>(&mut self, comm: &Comm, items: &[T]) -> Result<Vec<T>, CallError>
+    pub(crate) fn one_allgather<T: Item>(
+        &mut self,
+        comm: &Comm,
+        items: &[T],
+    ) -> Result<Vec<T>, CallError>
         ensures gives { Gives (H.goes_by self.old.desk.now.host []) H.node H.turned H.turn_refused comm.now.name (line.allgather Blocking T.ty (T.numbers items.now)) self.old.turns (IsRead T.numbers) result self.old.desk.now self.new.desk.now }
         ensures same { self.new.desk.ghost_name ≡ self.old.desk.ghost_name }
         ensures kept { (self.new.world ≡ self.old.world) × (self.new.turns ≡ self.old.turns) }
@@ -36,7 +40,9 @@ impl<'a, H: Host> Rank<'a, H> {
         let made = Made::new("allgather", comm, items.len());
         let given = self.given(made, items)?;
         let ops = Ops::none(self.alloc);
-        let answer = self.desk.allgather(self.alloc, comm, T::item_type(), given, self.turns, &ops);
+        let answer = self
+            .desk
+            .allgather(self.alloc, comm, T::item_type(), given, self.turns, &ops);
         self.listed(made, answer)
     }
 
@@ -49,7 +55,9 @@ impl<'a, H: Host> Rank<'a, H> {
         let made = Made::new("iallgather", comm, items.len());
         let given = self.given(made, items)?;
         let ops = Ops::none(self.alloc);
-        let answer = self.desk.iallgather(self.alloc, comm, T::item_type(), given, &ops);
+        let answer = self
+            .desk
+            .iallgather(self.alloc, comm, T::item_type(), given, &ops);
         self.pending(made, answer)
     }
 
@@ -68,8 +76,15 @@ impl<'a, H: Host> Rank<'a, H> {
         let counts = self.counts(made, counts)?;
         let given = self.given(made, items)?;
         let ops = Ops::none(self.alloc);
-        let answer =
-            self.desk.allgatherv(self.alloc, comm, T::item_type(), counts, given, self.turns, &ops);
+        let answer = self.desk.allgatherv(
+            self.alloc,
+            comm,
+            T::item_type(),
+            counts,
+            given,
+            self.turns,
+            &ops,
+        );
         self.listed(made, answer)
     }
 
@@ -88,7 +103,9 @@ impl<'a, H: Host> Rank<'a, H> {
         let counts = self.counts(made, counts)?;
         let given = self.given(made, items)?;
         let ops = Ops::none(self.alloc);
-        let answer = self.desk.iallgatherv(self.alloc, comm, T::item_type(), counts, given, &ops);
+        let answer = self
+            .desk
+            .iallgatherv(self.alloc, comm, T::item_type(), counts, given, &ops);
         self.pending(made, answer)
     }
 
@@ -124,7 +141,13 @@ impl<'a, H: Host> Rank<'a, H> {
         let given = self.given(made, items)?;
         let ops = Ops::none(self.alloc);
         let answer = self.desk.alltoall(
-            self.alloc, comm, T::item_type(), count as i128, given, self.turns, &ops,
+            self.alloc,
+            comm,
+            T::item_type(),
+            count as i128,
+            given,
+            self.turns,
+            &ops,
         );
         self.listed(made, answer)
     }
@@ -143,8 +166,14 @@ impl<'a, H: Host> Rank<'a, H> {
         let made = Made::new("ialltoall", comm, items.len()).blocks(count);
         let given = self.given(made, items)?;
         let ops = Ops::none(self.alloc);
-        let answer =
-            self.desk.ialltoall(self.alloc, comm, T::item_type(), count as i128, given, &ops);
+        let answer = self.desk.ialltoall(
+            self.alloc,
+            comm,
+            T::item_type(),
+            count as i128,
+            given,
+            &ops,
+        );
         self.pending(made, answer)
     }
 
@@ -166,7 +195,14 @@ impl<'a, H: Host> Rank<'a, H> {
         let given = self.given(made, items)?;
         let ops = Ops::none(self.alloc);
         let answer = self.desk.alltoallv(
-            self.alloc, comm, T::item_type(), sent, taken, given, self.turns, &ops,
+            self.alloc,
+            comm,
+            T::item_type(),
+            sent,
+            taken,
+            given,
+            self.turns,
+            &ops,
         );
         self.listed(made, answer)
     }
@@ -188,8 +224,9 @@ impl<'a, H: Host> Rank<'a, H> {
         let taken = self.counts(made, taken)?;
         let given = self.given(made, items)?;
         let ops = Ops::none(self.alloc);
-        let answer =
-            self.desk.ialltoallv(self.alloc, comm, T::item_type(), sent, taken, given, &ops);
+        let answer = self
+            .desk
+            .ialltoallv(self.alloc, comm, T::item_type(), sent, taken, given, &ops);
         self.pending(made, answer)
     }
 }

@@ -136,7 +136,11 @@ impl<'a, H: Host> Rank<'a, H> {
         let mut list = Vec::new(self.alloc);
         for first in (0..count).step_by(MOST_ITEMS) {
             let each = MOST_ITEMS.min(count.saturating_sub(first));
-            let block = if is_root { items_from(items, first, each) } else { &[] };
+            let block = if is_root {
+                items_from(items, first, each)
+            } else {
+                &[]
+            };
             let part = self.one_bcast(comm, root, each, block)?;
             list.extend_from_slice(&part)?;
         }

@@ -10,7 +10,7 @@ use crate::pending::Pending;
 use crate::rank::Rank;
 use crate::reading::Made;
 use mpx_comm::{Comm, Host};
-use mpx_num::{Ops};
+use mpx_num::Ops;
 
 /// Each call is the one of [`Desk`](crate::Desk) with its name; what members give and get is told there.
 impl<'a, H: Host> Rank<'a, H> {
@@ -29,7 +29,13 @@ impl<'a, H: Host> Rank<'a, H> {
         let given = self.given(made, items)?;
         let ops = Ops::none(self.alloc);
         let answer = self.desk.neighbor_allgather(
-            self.alloc, comm, T::item_type(), count as i128, given, self.turns, &ops,
+            self.alloc,
+            comm,
+            T::item_type(),
+            count as i128,
+            given,
+            self.turns,
+            &ops,
         );
         self.listed(made, answer)
     }
@@ -49,7 +55,12 @@ impl<'a, H: Host> Rank<'a, H> {
         let given = self.given(made, items)?;
         let ops = Ops::none(self.alloc);
         let answer = self.desk.ineighbor_allgather(
-            self.alloc, comm, T::item_type(), count as i128, given, &ops,
+            self.alloc,
+            comm,
+            T::item_type(),
+            count as i128,
+            given,
+            &ops,
         );
         self.pending(made, answer)
     }
@@ -70,7 +81,13 @@ impl<'a, H: Host> Rank<'a, H> {
         let given = self.given(made, items)?;
         let ops = Ops::none(self.alloc);
         let answer = self.desk.neighbor_allgatherv(
-            self.alloc, comm, T::item_type(), counts, given, self.turns, &ops,
+            self.alloc,
+            comm,
+            T::item_type(),
+            counts,
+            given,
+            self.turns,
+            &ops,
         );
         self.listed(made, answer)
     }
@@ -90,8 +107,9 @@ impl<'a, H: Host> Rank<'a, H> {
         let counts = self.counts(made, counts)?;
         let given = self.given(made, items)?;
         let ops = Ops::none(self.alloc);
-        let answer =
-            self.desk.ineighbor_allgatherv(self.alloc, comm, T::item_type(), counts, given, &ops);
+        let answer = self
+            .desk
+            .ineighbor_allgatherv(self.alloc, comm, T::item_type(), counts, given, &ops);
         self.pending(made, answer)
     }
 
@@ -111,7 +129,14 @@ impl<'a, H: Host> Rank<'a, H> {
         let given = self.given(made, items)?;
         let ops = Ops::none(self.alloc);
         let answer = self.desk.neighbor_alltoall(
-            self.alloc, comm, T::item_type(), sent as i128, taken as i128, given, self.turns, &ops,
+            self.alloc,
+            comm,
+            T::item_type(),
+            sent as i128,
+            taken as i128,
+            given,
+            self.turns,
+            &ops,
         );
         self.listed(made, answer)
     }
@@ -132,7 +157,13 @@ impl<'a, H: Host> Rank<'a, H> {
         let given = self.given(made, items)?;
         let ops = Ops::none(self.alloc);
         let answer = self.desk.ineighbor_alltoall(
-            self.alloc, comm, T::item_type(), sent as i128, taken as i128, given, &ops,
+            self.alloc,
+            comm,
+            T::item_type(),
+            sent as i128,
+            taken as i128,
+            given,
+            &ops,
         );
         self.pending(made, answer)
     }
@@ -155,7 +186,14 @@ impl<'a, H: Host> Rank<'a, H> {
         let given = self.given(made, items)?;
         let ops = Ops::none(self.alloc);
         let answer = self.desk.neighbor_alltoallv(
-            self.alloc, comm, T::item_type(), sent, taken, given, self.turns, &ops,
+            self.alloc,
+            comm,
+            T::item_type(),
+            sent,
+            taken,
+            given,
+            self.turns,
+            &ops,
         );
         self.listed(made, answer)
     }
@@ -177,9 +215,9 @@ impl<'a, H: Host> Rank<'a, H> {
         let taken = self.counts(made, taken)?;
         let given = self.given(made, items)?;
         let ops = Ops::none(self.alloc);
-        let answer = self.desk.ineighbor_alltoallv(
-            self.alloc, comm, T::item_type(), sent, taken, given, &ops,
-        );
+        let answer = self
+            .desk
+            .ineighbor_alltoallv(self.alloc, comm, T::item_type(), sent, taken, given, &ops);
         self.pending(made, answer)
     }
 }

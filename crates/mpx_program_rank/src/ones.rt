@@ -14,12 +14,7 @@ use mpx_num::Op;
 /// Each is the call of its name with a list of one item, and answers the one item that the call gives.
 impl<'a, H: Host> Rank<'a, H> {
     /// [`Rank::allreduce`] of one item.
-    pub fn allreduce_one<T: Item>(
-        &mut self,
-        comm: &Comm,
-        op: Op,
-        item: T,
-    ) -> Result<T, CallError>
+    pub fn allreduce_one<T: Item>(&mut self, comm: &Comm, op: Op, item: T) -> Result<T, CallError>
         ensures gives { Gives (H.goes_by self.old.desk.now.host []) H.node H.turned H.turn_refused comm.now.name (line.allreduce Blocking op T.ty (T.numbers (item ∷ []))) self.old.turns (IsOne T.numbers) result self.old.desk.now self.new.desk.now }
         ensures same { self.new.desk.ghost_name ≡ self.old.desk.ghost_name }
         ensures kept { (self.new.world ≡ self.old.world) × (self.new.turns ≡ self.old.turns) }
@@ -39,12 +34,7 @@ impl<'a, H: Host> Rank<'a, H> {
     }
 
     /// [`Rank::bcast`] of one item: every rank gives one, and gets the root's.
-    pub fn bcast_one<T: Item>(
-        &mut self,
-        comm: &Comm,
-        root: u8,
-        item: T,
-    ) -> Result<T, CallError>
+    pub fn bcast_one<T: Item>(&mut self, comm: &Comm, root: u8, item: T) -> Result<T, CallError>
         ensures gives { Gives (H.goes_by self.old.desk.now.host []) H.node H.turned H.turn_refused comm.now.name (line.bcast Blocking (pos root) T.ty (pos 1) (T.numbers (own_item comm.now.rank root item))) self.old.turns (IsOne T.numbers) result self.old.desk.now self.new.desk.now }
         ensures same { self.new.desk.ghost_name ≡ self.old.desk.ghost_name }
         ensures kept { (self.new.world ≡ self.old.world) × (self.new.turns ≡ self.old.turns) }
@@ -56,12 +46,7 @@ impl<'a, H: Host> Rank<'a, H> {
     }
 
     // The one item of a list.
-    fn only<T: Item>(
-        &self,
-        name: &'static str,
-        comm: &Comm,
-        list: Vec<T>,
-    ) -> Result<T, CallError>
+    fn only<T: Item>(&self, name: &'static str, comm: &Comm, list: Vec<T>) -> Result<T, CallError>
         ensures one { IfOk result (λ item. list.items ≡ item ∷ []) }
         ensures none { IfErr result (λ e. IsNotOne list.items e.cause) }
     {

@@ -88,7 +88,9 @@ impl<'c> Made<'c> {
                 given: self.counts,
                 size,
             },
-            PostError::TooManyItems if self.items > MOST_ITEMS => Detail::TooMany { given: self.items },
+            PostError::TooManyItems if self.items > MOST_ITEMS => Detail::TooMany {
+                given: self.items,
+            },
             PostError::ItemsLength => match self.taken {
                 Some(taken) => Detail::Items {
                     given: self.items,

@@ -48,7 +48,14 @@ impl<'a, H: Host> Rank<'a, H> {
         let given = self.given(made, items)?;
         let ops = Ops::none(self.alloc);
         let answer = self.desk.reduce(
-            self.alloc, comm, i128::from(root), op, T::item_type(), given, self.turns, &ops,
+            self.alloc,
+            comm,
+            i128::from(root),
+            op,
+            T::item_type(),
+            given,
+            self.turns,
+            &ops,
         );
         self.listed(made, answer)
     }
@@ -68,8 +75,15 @@ impl<'a, H: Host> Rank<'a, H> {
         let made = Made::new("ireduce", comm, items.len()).rooted(i128::from(root));
         let given = self.given(made, items)?;
         let ops = Ops::none(self.alloc);
-        let answer =
-            self.desk.ireduce(self.alloc, comm, i128::from(root), op, T::item_type(), given, &ops);
+        let answer = self.desk.ireduce(
+            self.alloc,
+            comm,
+            i128::from(root),
+            op,
+            T::item_type(),
+            given,
+            &ops,
+        );
         self.pending(made, answer)
     }
 
@@ -104,8 +118,15 @@ impl<'a, H: Host> Rank<'a, H> {
         let made = Made::new("allreduce", comm, items.len());
         let given = self.given(made, items)?;
         let ops = Ops::none(self.alloc);
-        let answer =
-            self.desk.allreduce(self.alloc, comm, op, T::item_type(), given, self.turns, &ops);
+        let answer = self.desk.allreduce(
+            self.alloc,
+            comm,
+            op,
+            T::item_type(),
+            given,
+            self.turns,
+            &ops,
+        );
         self.listed(made, answer)
     }
 
@@ -123,7 +144,9 @@ impl<'a, H: Host> Rank<'a, H> {
         let made = Made::new("iallreduce", comm, items.len());
         let given = self.given(made, items)?;
         let ops = Ops::none(self.alloc);
-        let answer = self.desk.iallreduce(self.alloc, comm, op, T::item_type(), given, &ops);
+        let answer = self
+            .desk
+            .iallreduce(self.alloc, comm, op, T::item_type(), given, &ops);
         self.pending(made, answer)
     }
 
@@ -143,7 +166,14 @@ impl<'a, H: Host> Rank<'a, H> {
         let given = self.given(made, items)?;
         let ops = Ops::none(self.alloc);
         let answer = self.desk.reduce_scatter_block(
-            self.alloc, comm, op, T::item_type(), count as i128, given, self.turns, &ops,
+            self.alloc,
+            comm,
+            op,
+            T::item_type(),
+            count as i128,
+            given,
+            self.turns,
+            &ops,
         );
         self.listed(made, answer)
     }
@@ -164,7 +194,13 @@ impl<'a, H: Host> Rank<'a, H> {
         let given = self.given(made, items)?;
         let ops = Ops::none(self.alloc);
         let answer = self.desk.ireduce_scatter_block(
-            self.alloc, comm, op, T::item_type(), count as i128, given, &ops,
+            self.alloc,
+            comm,
+            op,
+            T::item_type(),
+            count as i128,
+            given,
+            &ops,
         );
         self.pending(made, answer)
     }
@@ -186,7 +222,14 @@ impl<'a, H: Host> Rank<'a, H> {
         let given = self.given(made, items)?;
         let ops = Ops::none(self.alloc);
         let answer = self.desk.reduce_scatter(
-            self.alloc, comm, op, T::item_type(), counts, given, self.turns, &ops,
+            self.alloc,
+            comm,
+            op,
+            T::item_type(),
+            counts,
+            given,
+            self.turns,
+            &ops,
         );
         self.listed(made, answer)
     }
@@ -207,8 +250,9 @@ impl<'a, H: Host> Rank<'a, H> {
         let counts = self.counts(made, counts)?;
         let given = self.given(made, items)?;
         let ops = Ops::none(self.alloc);
-        let answer =
-            self.desk.ireduce_scatter(self.alloc, comm, op, T::item_type(), counts, given, &ops);
+        let answer = self
+            .desk
+            .ireduce_scatter(self.alloc, comm, op, T::item_type(), counts, given, &ops);
         self.pending(made, answer)
     }
 
@@ -238,7 +282,15 @@ impl<'a, H: Host> Rank<'a, H> {
         let made = Made::new("scan", comm, items.len());
         let given = self.given(made, items)?;
         let ops = Ops::none(self.alloc);
-        let answer = self.desk.scan(self.alloc, comm, op, T::item_type(), given, self.turns, &ops);
+        let answer = self.desk.scan(
+            self.alloc,
+            comm,
+            op,
+            T::item_type(),
+            given,
+            self.turns,
+            &ops,
+        );
         self.listed(made, answer)
     }
 
@@ -256,7 +308,9 @@ impl<'a, H: Host> Rank<'a, H> {
         let made = Made::new("iscan", comm, items.len());
         let given = self.given(made, items)?;
         let ops = Ops::none(self.alloc);
-        let answer = self.desk.iscan(self.alloc, comm, op, T::item_type(), given, &ops);
+        let answer = self
+            .desk
+            .iscan(self.alloc, comm, op, T::item_type(), given, &ops);
         self.pending(made, answer)
     }
 
@@ -286,8 +340,15 @@ impl<'a, H: Host> Rank<'a, H> {
         let made = Made::new("exscan", comm, items.len());
         let given = self.given(made, items)?;
         let ops = Ops::none(self.alloc);
-        let answer =
-            self.desk.exscan(self.alloc, comm, op, T::item_type(), given, self.turns, &ops);
+        let answer = self.desk.exscan(
+            self.alloc,
+            comm,
+            op,
+            T::item_type(),
+            given,
+            self.turns,
+            &ops,
+        );
         self.listed(made, answer)
     }
 
@@ -305,7 +366,9 @@ impl<'a, H: Host> Rank<'a, H> {
         let made = Made::new("iexscan", comm, items.len());
         let given = self.given(made, items)?;
         let ops = Ops::none(self.alloc);
-        let answer = self.desk.iexscan(self.alloc, comm, op, T::item_type(), given, &ops);
+        let answer = self
+            .desk
+            .iexscan(self.alloc, comm, op, T::item_type(), given, &ops);
         self.pending(made, answer)
     }
 }

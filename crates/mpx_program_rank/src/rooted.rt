@@ -69,7 +69,9 @@ impl<'a, H: Host> Rank<'a, H> {
         ensures same { self.new.desk.ghost_name ≡ self.old.desk.ghost_name }
         ensures kept { (self.new.world ≡ self.old.world) × (self.new.turns ≡ self.old.turns) }
     {
-        let made = Made::new("bcast", comm, items.len()).rooted(i128::from(root)).sent(count);
+        let made = Made::new("bcast", comm, items.len())
+            .rooted(i128::from(root))
+            .sent(count);
         let given = self.given(made, items)?;
         let ops = Ops::none(self.alloc);
         let answer = self.desk.bcast(
@@ -97,11 +99,19 @@ impl<'a, H: Host> Rank<'a, H> {
         ensures same { self.new.desk.ghost_name ≡ self.old.desk.ghost_name }
         ensures kept { (self.new.world ≡ self.old.world) × (self.new.turns ≡ self.old.turns) }
     {
-        let made = Made::new("ibcast", comm, items.len()).rooted(i128::from(root)).sent(count);
+        let made = Made::new("ibcast", comm, items.len())
+            .rooted(i128::from(root))
+            .sent(count);
         let given = self.given(made, items)?;
         let ops = Ops::none(self.alloc);
         let answer = self.desk.ibcast(
-            self.alloc, comm, i128::from(root), T::item_type(), count as i128, given, &ops,
+            self.alloc,
+            comm,
+            i128::from(root),
+            T::item_type(),
+            count as i128,
+            given,
+            &ops,
         );
         self.pending(made, answer)
     }
@@ -138,7 +148,13 @@ impl<'a, H: Host> Rank<'a, H> {
         let given = self.given(made, items)?;
         let ops = Ops::none(self.alloc);
         let answer = self.desk.gather(
-            self.alloc, comm, i128::from(root), T::item_type(), given, self.turns, &ops,
+            self.alloc,
+            comm,
+            i128::from(root),
+            T::item_type(),
+            given,
+            self.turns,
+            &ops,
         );
         self.listed(made, answer)
     }
@@ -157,8 +173,14 @@ impl<'a, H: Host> Rank<'a, H> {
         let made = Made::new("igather", comm, items.len()).rooted(i128::from(root));
         let given = self.given(made, items)?;
         let ops = Ops::none(self.alloc);
-        let answer =
-            self.desk.igather(self.alloc, comm, i128::from(root), T::item_type(), given, &ops);
+        let answer = self.desk.igather(
+            self.alloc,
+            comm,
+            i128::from(root),
+            T::item_type(),
+            given,
+            &ops,
+        );
         self.pending(made, answer)
     }
 
@@ -174,12 +196,21 @@ impl<'a, H: Host> Rank<'a, H> {
         ensures same { self.new.desk.ghost_name ≡ self.old.desk.ghost_name }
         ensures kept { (self.new.world ≡ self.old.world) × (self.new.turns ≡ self.old.turns) }
     {
-        let made = Made::new("gatherv", comm, items.len()).rooted(i128::from(root)).counted(counts.len());
+        let made = Made::new("gatherv", comm, items.len())
+            .rooted(i128::from(root))
+            .counted(counts.len());
         let counts = self.counts(made, counts)?;
         let given = self.given(made, items)?;
         let ops = Ops::none(self.alloc);
         let answer = self.desk.gatherv(
-            self.alloc, comm, i128::from(root), T::item_type(), counts, given, self.turns, &ops,
+            self.alloc,
+            comm,
+            i128::from(root),
+            T::item_type(),
+            counts,
+            given,
+            self.turns,
+            &ops,
         );
         self.listed(made, answer)
     }
@@ -196,12 +227,20 @@ impl<'a, H: Host> Rank<'a, H> {
         ensures same { self.new.desk.ghost_name ≡ self.old.desk.ghost_name }
         ensures kept { (self.new.world ≡ self.old.world) × (self.new.turns ≡ self.old.turns) }
     {
-        let made = Made::new("igatherv", comm, items.len()).rooted(i128::from(root)).counted(counts.len());
+        let made = Made::new("igatherv", comm, items.len())
+            .rooted(i128::from(root))
+            .counted(counts.len());
         let counts = self.counts(made, counts)?;
         let given = self.given(made, items)?;
         let ops = Ops::none(self.alloc);
         let answer = self.desk.igatherv(
-            self.alloc, comm, i128::from(root), T::item_type(), counts, given, &ops,
+            self.alloc,
+            comm,
+            i128::from(root),
+            T::item_type(),
+            counts,
+            given,
+            &ops,
         );
         self.pending(made, answer)
     }
@@ -236,7 +275,9 @@ impl<'a, H: Host> Rank<'a, H> {
         ensures same { self.new.desk.ghost_name ≡ self.old.desk.ghost_name }
         ensures kept { (self.new.world ≡ self.old.world) × (self.new.turns ≡ self.old.turns) }
     {
-        let made = Made::new("scatter", comm, items.len()).rooted(i128::from(root)).scattered(count);
+        let made = Made::new("scatter", comm, items.len())
+            .rooted(i128::from(root))
+            .scattered(count);
         let given = self.given(made, items)?;
         let ops = Ops::none(self.alloc);
         let answer = self.desk.scatter(
@@ -264,11 +305,19 @@ impl<'a, H: Host> Rank<'a, H> {
         ensures same { self.new.desk.ghost_name ≡ self.old.desk.ghost_name }
         ensures kept { (self.new.world ≡ self.old.world) × (self.new.turns ≡ self.old.turns) }
     {
-        let made = Made::new("iscatter", comm, items.len()).rooted(i128::from(root)).scattered(count);
+        let made = Made::new("iscatter", comm, items.len())
+            .rooted(i128::from(root))
+            .scattered(count);
         let given = self.given(made, items)?;
         let ops = Ops::none(self.alloc);
         let answer = self.desk.iscatter(
-            self.alloc, comm, i128::from(root), T::item_type(), count as i128, given, &ops,
+            self.alloc,
+            comm,
+            i128::from(root),
+            T::item_type(),
+            count as i128,
+            given,
+            &ops,
         );
         self.pending(made, answer)
     }
@@ -286,7 +335,9 @@ impl<'a, H: Host> Rank<'a, H> {
         ensures same { self.new.desk.ghost_name ≡ self.old.desk.ghost_name }
         ensures kept { (self.new.world ≡ self.old.world) × (self.new.turns ≡ self.old.turns) }
     {
-        let made = Made::new("scatterv", comm, items.len()).rooted(i128::from(root)).counted(counts.len());
+        let made = Made::new("scatterv", comm, items.len())
+            .rooted(i128::from(root))
+            .counted(counts.len());
         let counts = self.counts(made, counts)?;
         let given = self.given(made, items)?;
         let ops = Ops::none(self.alloc);
@@ -317,12 +368,21 @@ impl<'a, H: Host> Rank<'a, H> {
         ensures same { self.new.desk.ghost_name ≡ self.old.desk.ghost_name }
         ensures kept { (self.new.world ≡ self.old.world) × (self.new.turns ≡ self.old.turns) }
     {
-        let made = Made::new("iscatterv", comm, items.len()).rooted(i128::from(root)).counted(counts.len());
+        let made = Made::new("iscatterv", comm, items.len())
+            .rooted(i128::from(root))
+            .counted(counts.len());
         let counts = self.counts(made, counts)?;
         let given = self.given(made, items)?;
         let ops = Ops::none(self.alloc);
         let answer = self.desk.iscatterv(
-            self.alloc, comm, i128::from(root), T::item_type(), counts, count as i128, given, &ops,
+            self.alloc,
+            comm,
+            i128::from(root),
+            T::item_type(),
+            counts,
+            count as i128,
+            given,
+            &ops,
         );
         self.pending(made, answer)
     }

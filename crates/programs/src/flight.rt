@@ -11,6 +11,7 @@ pub struct Flight;
 
 impl RankProgram for Flight {
     type Answer = String;
+
     type Error = Why;
 
     fn run<H: Host>(&self, rank: &mut Rank<'_, H>) -> Result<String, Why> {

@@ -12,6 +12,7 @@ pub struct Paths;
 
 impl RankProgram for Paths {
     type Answer = String;
+
     type Error = Why;
 
     fn run<H: Host>(&self, rank: &mut Rank<'_, H>) -> Result<String, Why> {

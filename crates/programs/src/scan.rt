@@ -9,6 +9,7 @@ pub struct Scan;
 
 impl RankProgram for Scan {
     type Answer = String;
+
     type Error = Why;
 
     fn run<H: Host>(&self, rank: &mut Rank<'_, H>) -> Result<String, Why> {

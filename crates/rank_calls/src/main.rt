@@ -11,6 +11,7 @@ struct RankCalls;
 
 impl RankProgram for RankCalls {
     type Answer = String;
+
     type Error = CallError;
 
     fn run<H: Host>(&self, rank: &mut Rank<'_, H>) -> Result<String, CallError> {
@@ -28,7 +29,9 @@ impl RankProgram for RankCalls {
         let cast = rank.bcast_one(world, 1, mine)?;
         let long = long(rank)?;
         let place = (half.rank(), half.size());
-        Ok(format!(in rank.alloc; "{total:?} {all:?} {swapped:?} {best:?} {place:?} {polled:?} {later:?} {sum} {cast} {long:?}")?)
+        Ok(format!(in rank.alloc;
+            "{total:?} {all:?} {swapped:?} {best:?} {place:?} {polled:?} {later:?} {sum} {cast} {long:?}"
+        )?)
     }
 }
 
@@ -53,14 +56,29 @@ fn long<H: Host>(rank: &mut Rank<'_, H>) -> Result<Vec<bool>, CallError> {
     }
     let mut right = Vec::new(rank.alloc);
     let sum = rank.allreduce(world, Op::Sum, &list)?;
-    right.push(sum.len() == 10_000 && sum.get(9_999) == Some(&19_999) && sum.get(4_096) == Some(&8_193))?;
+    right.push(
+        sum.len() == 10_000 && sum.get(9_999) == Some(&19_999) && sum.get(4_096) == Some(&8_193),
+    )?;
     let most = rank.reduce(world, 1, Op::Max, &list)?;
-    right.push(most.len() == 10_000 * rank.number() as usize && (n == 0 || most.get(9_000) == Some(&9_001)))?;
+    right.push(
+        most.len() == 10_000 * rank.number() as usize
+            && (n == 0 || most.get(9_000) == Some(&9_001)),
+    )?;
     let all = rank.allgather(world, &list)?;
-    right.push(all.len() == 20_000 && all.get(9_999) == Some(&9_999) && all.get(14_096) == Some(&4_097))?;
+    right.push(
+        all.len() == 20_000 && all.get(9_999) == Some(&9_999) && all.get(14_096) == Some(&4_097),
+    )?;
     let got = rank.alltoall(world, 5_000, &list)?;
-    right.push(got.len() == 10_000 && got.get(4_999) == Some(&(4_999 + 5_000 * n)) && got.get(5_000) == Some(&(5_000 * n + 1)))?;
-    let mine: &[u32] = if n == 1 { list.get(..9_000).unwrap_or(&[]) } else { &[] };
+    right.push(
+        got.len() == 10_000
+            && got.get(4_999) == Some(&(4_999 + 5_000 * n))
+            && got.get(5_000) == Some(&(5_000 * n + 1)),
+    )?;
+    let mine: &[u32] = if n == 1 {
+        list.get(..9_000).unwrap_or(&[])
+    } else {
+        &[]
+    };
     let cast = rank.bcast(world, 1, 9_000, mine)?;
     right.push(cast.len() == 9_000 && cast.get(8_999) == Some(&9_000))?;
     let mine: &[u32] = if n == 0 { &list } else { &[] };
