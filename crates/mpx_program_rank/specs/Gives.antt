@@ -111,17 +111,15 @@ GivesGathered ops node turned refused parent tag ranks turns is_read result old 
 abbrev pub TurnsOnce : {H : Type 0} {g : _} → (turned : H → ℕ → H → Type 0) → (refused : H → TurnError → H → Type 0) → Result (Unit {0}) TurnError → (old new : Desk H g) → Type 0
 TurnsOnce turned refused result old new = MakesTurns turned refused 1 result old.host new.host × (new.requests.keys ≡ old.requests.keys)
 
--- a call of the desk that doesn't block is posted, and a turn takes it on its way; or it is refused, or not made
-abbrev pub Starts : {H : Type 0} {g : _} {A : Type 0} → List Operation → (node : H → NodeView) → (turned : H → ℕ → H → Type 0) → (refused : H → TurnError → H → Type 0) → Name → Draft → (request_of : A → Request) → Result A CallError → (old new : Desk H g) → Type 0
-Starts {H} {g} ops node turned refused name draft request_of (Ok pending) old new =
-    (between : Desk H g) × (made : Result (Unit {0}) TurnError) × DeskAsks ops node name draft (Ok (request_of pending)) old between
-    × turned old.host 0 between.host × TurnsOnce turned refused made between new
-Starts {H} {g} {A} ops node turned refused name draft request_of (Err e) old new =
-    IsNotMade {A = A} (Err e) old new ⊎ ((refusal : PostError) × DeskAsks ops node name draft (Err refusal) old new × turned old.host 0 new.host × (desk_error e.cause ≡ Some (C.Refused refusal)))
-
 -- what is answered where the desk has posted so: the request, after one turn; or the refusal
 abbrev pub IsStarted : {H : Type 0} {g : _} {A : Type 0} → (turned : H → ℕ → H → Type 0) → (refused : H → TurnError → H → Type 0) → (request_of : A → Request) → Result Request PostError → Result A CallError → (old new : Desk H g) → Type 0
 IsStarted turned refused request_of (Ok request) (Ok pending) old new = (request_of pending ≡ request) × ((made : Result (Unit {0}) TurnError) × TurnsOnce turned refused made old new)
 IsStarted turned refused request_of (Ok request) (Err e) old new = ⊥
 IsStarted turned refused request_of (Err refusal) (Ok pending) old new = ⊥
 IsStarted turned refused request_of (Err refusal) (Err e) old new = (new ≡ old) × (desk_error e.cause ≡ Some (C.Refused refusal))
+
+-- a call of the desk that doesn't block is posted, or refused, and this is answered; or it isn't made
+abbrev pub Starts : {H : Type 0} {g : _} {A : Type 0} → List Operation → (node : H → NodeView) → (turned : H → ℕ → H → Type 0) → (refused : H → TurnError → H → Type 0) → Name → Draft → (request_of : A → Request) → Result A CallError → (old new : Desk H g) → Type 0
+Starts {H} {g} ops node turned refused name draft request_of result old new =
+    IsNotMade result old new ⊎ ((posted : Result Request PostError) × (between : Desk H g) × DeskAsks ops node name draft posted old between
+    × turned old.host 0 between.host × IsStarted turned refused request_of posted result between new)

@@ -1,5 +1,5 @@
 -- Calls of more items than one call takes.
-use Rattle.std.specs.Prelude.{◌≡◌, ℕ, zero, suc, ℤ, pos, ◌/◌, ◌==◌, ◌≤◌, ◌++◌, ◌⊎◌, if◌then◌else◌, List, [], ◌∷◌, length, map, Result, Ok, Err, Vec}
+use Rattle.std.specs.Prelude.{◌≡◌, ℕ, zero, suc, ℤ, pos, ◌/◌, ◌==◌, ◌≤◌, ◌++◌, ◌⊎◌, if◌then◌else◌, List, [], ◌∷◌, length, map, Result, Ok, Err, IsOk, Vec}
 use Rattle.std.specs.List.{All}
 use Rattle.std.specs.declared.alloc.Global.{Global}
 use Rattle.mpx_kind.specs.declared.kinds.Mode.TheVariants.{Blocking}
@@ -24,7 +24,7 @@ block_of size = if size == 0 then 4096 else 4096 / size
 -- before long calls all ranks say that they give so many items
 abbrev pub HaveAgreed : {H : Type 0} {g : _} → (ops_of : H → List Operation) → (node : H → NodeView) → (turned : H → ℕ → H → Type 0) → (refused : H → TurnError → H → Type 0) → Name → (count turns : ℕ) → (old new : Desk H g) → Type 0
 HaveAgreed ops_of node turned refused name count turns old new =
-    (counts : Vec ℕ Global) × Gives (ops_of old.host) node turned refused name (allgather Blocking U64 (pos count ∷ [])) turns (IsRead (map pos)) (Ok counts) old new
+    (counts : Result (Vec ℕ Global) CallError) × Gives (ops_of old.host) node turned refused name (allgather Blocking U64 (pos count ∷ [])) turns (IsRead (map pos)) counts old new × IsOk counts
 
 -- these items are given by so many calls, one part each, and this is what the calls gave, one behind the other
 abbrev pub InParts : {H : Type 0} {g : _} {T : Type 0} → (ops_of : H → List Operation) → (node : H → NodeView) → (turned : H → ℕ → H → Type 0) → (refused : H → TurnError → H → Type 0) → Name → (draft_of : List T → Draft) → (numbers : List T → List ℤ) → (turns calls : ℕ) → (items list : List T) → (old new : Desk H g) → Type 0
