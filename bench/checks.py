@@ -1,7 +1,7 @@
 #!/usr/bin/env python3
 """Runs the checks of the repository that need no proof and no MPI, side by side, and counts them. `.ci/run` runs the gate first, and then these.
 
-    bench/checks.py                    all checks: some 13 minutes of one processor, of which a third builds three programs unproved
+    bench/checks.py                    all checks: some 15 minutes of one processor, of which a third builds three programs and the library unproved
     bench/checks.py --only NAME..      these, and what builds the programs for them
     bench/checks.py --list             each check with its command, the tools that it needs, and its time limit
     bench/checks.py --gate [COMMAND]   the gate first: bench/gate.py, or this command in its place
@@ -54,6 +54,7 @@ CHROMIUM = "chromium|chromium-browser|google-chrome|google-chrome-stable"
 CHECKS = [
     Check("bench/look", "bench/look all", minutes=15),
     Check("bench/starve", "bench/starve --trials", ("cc",), minutes=20),
+    Check("library/test", "library/test", ("gcc",), minutes=15),
     Check("record/test", "record/test", ("gcc",), LOOK),
     Check("record/planted", "record/planted", (), LOOK),
     Check("bench/waits.py", "bench/waits.py out/look/gossipmpi 100", (), LOOK),

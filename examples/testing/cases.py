@@ -103,7 +103,8 @@ def main():
     for path, text in ((words.junit, as_junit), (words.json, lambda run: json.dumps(run, indent=1) + '\n')):
         if path: written = put(path, text(run)) and written
     try: print('%s: %s' % (run['script'], run['meaning']), flush=True)
-    except OSError:
+    except OSError as why:
+        print('cases.py: the standard output: %s' % (why.strerror or str(why)).lower(), file=sys.stderr)
         os.dup2(os.open(os.devnull, os.O_WRONLY), 1)
         written = False
     return run['status'] if written else 5

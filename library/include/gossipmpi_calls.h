@@ -5,7 +5,7 @@
 /* Where send and receive types differ, or an operation isn't one of scripts, nothing is checked. */
 static inline void gossipmpi_same(struct gossipmpi_call *call, MPI_Datatype one, MPI_Datatype other)
 {
-    if (one != other) call->part.bad = "send and receive types that differ";
+    if (one != other && !call->part.bad) call->part.bad = "send and receive types that differ";
 }
 static inline const char *gossipmpi_op(struct gossipmpi_call *call, MPI_Op op)
 {
@@ -21,11 +21,11 @@ static inline int gossipmpi_total(const int *counts, int ranks)
 }
 static inline void gossipmpi_give_all(struct gossipmpi_call *call, const void *items, const int *counts, const int *places, int ranks)
 {
-    for (int i = 0; i < ranks; i++) gossipmpi_give(call, items, (size_t)places[i], counts[i]);
+    for (int i = 0; !call->part.bad && i < ranks; i++) gossipmpi_give(call, items, (size_t)places[i], counts[i]);
 }
 static inline void gossipmpi_take_all(struct gossipmpi_call *call, const void *items, const int *counts, const int *places, int ranks)
 {
-    for (int i = 0; i < ranks; i++) gossipmpi_take(call, items, (size_t)places[i], counts[i]);
+    for (int i = 0; !call->part.bad && i < ranks; i++) gossipmpi_take(call, items, (size_t)places[i], counts[i]);
 }
 
 static inline int gossipmpi_barrier(MPI_Comm comm)
@@ -196,8 +196,9 @@ static inline void gossipmpi_graph(struct gossipmpi_call *call, int *sources, in
     MPI_Topo_test(call->comm, &topology);
     if (topology != MPI_DIST_GRAPH) { call->part.bad = "neighbours that aren't of a distributed graph"; return; }
     MPI_Dist_graph_neighbors_count(call->comm, sources, destinations, &weighted);
-    int *all = (int *)malloc(((size_t)*sources + (size_t)*destinations + 1) * 4 * sizeof(int)), *to = all + *sources, *weights = to + *destinations;
+    int *all = (int *)malloc(((size_t)*sources + (size_t)*destinations + 1) * 4 * sizeof(int));
     if (!all) { call->part.bad = "out of memory"; return; }
+    int *to = all + *sources, *weights = to + *destinations;
     MPI_Dist_graph_neighbors(call->comm, *sources, all, weights, *destinations, to, weights + *sources);
     gossipmpi_say(&call->part, "dist_graph_adjacent world");
     gossipmpi_list(&call->part, all, *sources);

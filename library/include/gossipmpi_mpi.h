@@ -7,7 +7,7 @@
  * MPI_ANY_TAG may be open on the communicator.
  *
  * Unchecked are more than 64 ranks, more than 4,096 items a rank, scripts of more than 1,048,576 bytes, types that aren't integers, operations of the program's own,
- * send and receive types that differ, MPI_IN_PLACE but in reductions, and neighbours in other graphs than MPI_Dist_graph_create_adjacent and
+ * send and receive types that differ, MPI_IN_PLACE but in reductions, intercommunicators, and neighbours in other graphs than MPI_Dist_graph_create_adjacent and
  * MPI_Dist_graph_create make. Link -lgossipmpi. Nothing here is proved but gossipmpi_eval. */
 #ifndef GOSSIPMPI_MPI_H
 #define GOSSIPMPI_MPI_H
@@ -31,7 +31,7 @@ struct gossipmpi_text { char *bytes; size_t length, room; const char *bad; };
 /* A call at this rank: its communicator and type, its part as statements, and the items that this rank got, one after the other. */
 struct gossipmpi_call {
     MPI_Comm comm;
-    int rank, ranks;
+    int rank, ranks, is_inter;
     const char *word;       /* the type in scripts */
     size_t numbers, size;   /* of an item: how many numbers it has, and how many bytes each has */
     struct gossipmpi_text part;
@@ -100,10 +100,12 @@ static inline struct gossipmpi_call gossipmpi_begin(MPI_Comm comm, MPI_Datatype 
     struct gossipmpi_call call;
     memset(&call, 0, sizeof call);
     call.comm = comm;
+    MPI_Comm_test_inter(comm, &call.is_inter);
     MPI_Comm_rank(comm, &call.rank);
     MPI_Comm_size(comm, &call.ranks);
     call.word = gossipmpi_type_word(type);
     if (!call.word) { call.part.bad = "a type that isn't one of scripts"; call.word = "i32"; }
+    if (call.is_inter) call.part.bad = "an intercommunicator";
     call.numbers = call.word[0] == '2' ? 2 : 1;
     call.size = call.word[0] == '2' ? sizeof(int) : (size_t)atoi(call.word + 1) / 8;
     return call;
@@ -120,9 +122,10 @@ static inline void gossipmpi_give(struct gossipmpi_call *call, const void *items
     }
 }
 
-/* Adds items that this rank got. */
+/* Adds items that this rank got. Where the call can't be written as a script, their size isn't known, and none is read. */
 static inline void gossipmpi_take(struct gossipmpi_call *call, const void *items, size_t from, int count)
 {
+    if (call->part.bad) return;
     size_t width = call->numbers * call->size, more = count > 0 ? (size_t)count : 0;
     char *got = (char *)realloc(call->got, (call->awaited + more) * width + 1);
     if (!got) { call->part.bad = "out of memory"; return; }
@@ -135,10 +138,10 @@ static inline void gossipmpi_take(struct gossipmpi_call *call, const void *items
 static inline void gossipmpi_list(struct gossipmpi_text *text, const int *numbers, int count)
 {
     gossipmpi_say(text, count ? " " : " -");
-    for (int i = 0; i < count; i++) gossipmpi_say(text, i ? ",%d" : "%d", numbers[i]);
+    for (int i = 0; !text->bad && i < count; i++) gossipmpi_say(text, i ? ",%d" : "%d", numbers[i]);
 }
 
-/* Appends the part of a rank: each statement behind the rank. */
+/* Appends the part of a rank: each statement after the rank. */
 static inline void gossipmpi_add_part(struct gossipmpi_text *script, int rank, const char *part, size_t length)
 {
     for (size_t at = 0; at < length;) {
@@ -149,7 +152,7 @@ static inline void gossipmpi_add_part(struct gossipmpi_text *script, int rank, c
     }
 }
 
-/* Gives this rank's part to another, and takes one into the script. Where memory for it runs out, the other is told, and sends nothing. */
+/* Gives this rank's part to another, and takes one into the script. Where memory for it runs out, the other learns of it, and sends nothing. */
 static inline void gossipmpi_exchange(struct gossipmpi_call *call, int mine, int to, int from, struct gossipmpi_text *script)
 {
     int length = -1, ready, is_awaited = 0;
@@ -173,7 +176,7 @@ static inline struct gossipmpi_text gossipmpi_gathered(struct gossipmpi_call *ca
     gossipmpi_say(&script, "ranks %d\n", call->ranks);
     if (mine < 0) script.bad = call->part.bad ? call->part.bad : "more than a script may have";
     else gossipmpi_add_part(&script, call->rank, call->part.bytes, call->part.length);
-    for (int step = 1; step < call->ranks; step++) {
+    for (int step = 1; step < call->ranks && !call->is_inter; step++) {
         int to = (call->rank + step) % call->ranks, from = (call->rank - step + call->ranks) % call->ranks;
         gossipmpi_exchange(call, mine, to, from, &script);
     }
@@ -202,7 +205,7 @@ static inline void gossipmpi_name(const struct gossipmpi_call *call, char *name,
 }
 
 /* Compares what this rank got with its line. */
-static inline int gossipmpi_compare(const struct gossipmpi_call *call, char *line)
+static inline int gossipmpi_compare(const struct gossipmpi_call *call, const char *line)
 {
     char name[48], number[24];
     size_t total = call->awaited * call->numbers, at = 0;
@@ -213,12 +216,15 @@ static inline int gossipmpi_compare(const struct gossipmpi_call *call, char *lin
         return GOSSIPMPI_DIFFERS;
     }
     if (!strcmp(line, "ok") || !strcmp(line, "none") || !strcmp(line, "empty")) return GOSSIPMPI_RIGHT;
-    for (char *word = strtok(line, " "); word; word = strtok(NULL, " "), at++) {
+    for (const char *word = line; *word; at++) {
+        int length = (int)strcspn(word, " ");
         if (at < total) gossipmpi_number(call, call->got, at, number, sizeof number); else snprintf(number, sizeof number, "nothing");
-        if (strcmp(word, number)) {
-            fprintf(stderr, "gossipmpi: rank %d: %s: item %zu of %zu: this MPI gave %s, the standard gives %s\n", call->rank, name, at / call->numbers, call->awaited, number, word);
+        if (strncmp(word, number, (size_t)length) || number[length]) {
+            fprintf(stderr, "gossipmpi: rank %d: %s: item %zu of %zu: this MPI gave %s, the standard gives %.*s\n", call->rank, name, at / call->numbers, call->awaited, number,
+                    length, word);
             return GOSSIPMPI_DIFFERS;
         }
+        word += length + (word[length] == ' ');
     }
     return GOSSIPMPI_RIGHT;
 }

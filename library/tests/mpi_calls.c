@@ -64,12 +64,28 @@ static void neighbours(int *send, int *recv)
 static void beyond(int *recv)
 {
     double given = rank, got;
+    char *is_first = calloc(1, 1), *is_one = calloc(1, 1);      /* of one byte each: a checker of memory sees any access past it */
     int *many = calloc(5000, sizeof *many), *sums = calloc(5000, sizeof *sums);
     tell("a double", gossipmpi_allreduce(&given, &got, 1, MPI_DOUBLE, MPI_SUM, MPI_COMM_WORLD));
+    tell("a bool", gossipmpi_allreduce(is_first, is_one, 1, MPI_C_BOOL, MPI_LOR, MPI_COMM_WORLD));
     tell("in place", gossipmpi_allgather(MPI_IN_PLACE, 0, MPI_DATATYPE_NULL, recv, 1, MPI_INT, MPI_COMM_WORLD));
     tell("5000 items", gossipmpi_allreduce(many, sums, 5000, MPI_INT, MPI_SUM, MPI_COMM_WORLD));
     free(many);
     free(sums);
+    free(is_first);
+    free(is_one);
+}
+
+/* Rank 0 on one side, the others on the other. */
+static void between(void)
+{
+    MPI_Comm side, bridge;
+    int sum;
+    MPI_Comm_split(MPI_COMM_WORLD, rank != 0, rank, &side);
+    MPI_Intercomm_create(side, 0, MPI_COMM_WORLD, rank ? 0 : 1, 2, &bridge);
+    tell("between two groups", gossipmpi_allreduce(&rank, &sum, 1, MPI_INT, MPI_SUM, bridge));
+    MPI_Comm_free(&bridge);
+    MPI_Comm_free(&side);
 }
 
 int main(int argc, char **argv)
@@ -83,6 +99,7 @@ int main(int argc, char **argv)
     reductions(send, recv);
     neighbours(send, recv);
     beyond(recv);
+    between();
     MPI_Finalize();
     return 0;
 }

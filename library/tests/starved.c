@@ -11,8 +11,9 @@ extern void *__libc_malloc(size_t);
 extern void *__libc_realloc(void *, size_t);
 extern void __libc_free(void *);
 
+enum { EACH = 300 };
 static int counts;                  /* whether a call is at work */
-static long allocations, refused;   /* so many were asked for; the one that is refused */
+static long allocations, refused;   /* how many were asked for; the one that is refused */
 static long open_blocks;
 
 static int refuses(void) { return counts && ++allocations == refused; }
@@ -40,12 +41,12 @@ void free(void *block)
 typedef uint8_t call(const uint8_t *, size_t, uint8_t *, size_t, size_t *);
 static uint8_t out[1 << 22];
 
-/* How many allocations of a call were refused; -1 where one that is refused isn't answered so. Of a script of more than 1,000 bytes not each is tried: the
- * quadratic time of that would be minutes. */
+/* How many allocations of a call were refused; -1 where one that is refused isn't answered so. The first EACH are refused in turn, the later ones in steps that grow:
+ * the quadratic time of all would be minutes. */
 static long tried(call *f, const uint8_t *script, size_t length, const char *name)
 {
     long tries = 0;
-    for (refused = 1;; refused += length <= 1000 ? 1 : 1 + refused / 50) {
+    for (refused = 1;; refused += refused <= EACH ? 1 : refused / 20) {
         size_t needed = 77;
         out[0] = '#';
         allocations = open_blocks = 0;

@@ -41,7 +41,10 @@ class Buffer:
         types = [it for it in rest if _is_type(it)]
         self.word = self._named(types[-1]) if types else _word_of(view)
         self.width = 2 if self.word == "2int" else 1
-        self.bytes = view.cast("B") if view.nbytes else memoryview(b"")
+        if not view.contiguous:
+            raise NotOfScripts("items with gaps between them")
+        # (in their order in memory, as an MPI sees them: of an array of Fortran's order that is a copy)
+        self.bytes = memoryview(b"") if not view.nbytes else view.cast("B") if view.c_contiguous else memoryview(view.tobytes("A"))
         size = self.width * self.numbers.itemsize
         self.count, self.is_counted = len(self.bytes) // size, False
         self.counts, self.places = self._blocks([it for it in rest if not _is_type(it) and it is not None])

@@ -6,7 +6,8 @@
     comm.Allreduce(mine, total, op=MPI.MAX)      # raises Differs where this MPI gives something else
 
 The calls with a capital letter are checked. Each rank sends its part to each other by `sendrecv`, so no collective checks a collective. What no script can have,
-as floats, MPI.IN_PLACE but in reductions, or more than 64 ranks, is made and warned of (`Unchecked`). All else is handed on to the communicator."""
+as floats, MPI.IN_PLACE but in reductions, intercommunicators, or more than 64 ranks, is made and warned of (`Unchecked`). All else, as Iallreduce, is handed on to
+the communicator."""
 import warnings
 from typing import Any, List, Optional, Sequence
 
@@ -64,14 +65,14 @@ class Checked:
         """`part`: this rank's statements, or None where there is none, for this reason. `got`: the numbers that this rank got."""
         parts, rank = self._parts(part), self.comm.Get_rank()
         if any(it is None for it in parts):
-            return warnings.warn("%s at rank %d: %s" % (call, rank, why or "another rank's part isn't one of scripts"), Unchecked, stacklevel=3)
+            return self._unchecked(call, why or "another rank's part isn't one of scripts")
         script = "ranks %d\n" % len(parts) + "".join("%d: %s\n" % (at, line) for at, it in enumerate(parts) for line in (it or "").splitlines())
         try:
             line = eval(script).lines[rank][-1]
         except ScriptError as error:
-            return warnings.warn("%s at rank %d: %s" % (call, rank, error), Unchecked, stacklevel=3)
+            return self._unchecked(call, str(error))
         if line == "refused TooManyItems":
-            return warnings.warn("%s at rank %d: more than 4096 items" % (call, rank), Unchecked, stacklevel=3)
+            return self._unchecked(call, "more than 4096 items")
         if line.startswith(("refused ", "fault ")):
             raise Differs(call, rank, None, None, line)
         if line in ("ok", "none", "empty"):
@@ -81,8 +82,14 @@ class Checked:
                 raise Differs(call, rank, at, got[at] if at < len(got) else "nothing", expected)
         return None
 
+    def _unchecked(self, call: str, why: str) -> None:
+        warnings.warn("%s at rank %d: %s" % (call, self.comm.Get_rank(), why), Unchecked, stacklevel=5)
+
     def _held(self, call: str, part_of: Any, made: Any, got_of: Any) -> Any:
         """Makes a call and checks it. `part_of` says its part before it is made, `got_of` reads what it gave."""
+        if self.comm.Is_inter():
+            made()
+            return self._unchecked(call, "an intercommunicator")
         part, why = None, ""
         try:
             part = part_of()

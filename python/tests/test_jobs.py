@@ -96,6 +96,14 @@ class Buffers(unittest.TestCase):
         self.assertEqual(Buffer([own, [1, 2]]).of_blocks(2), [0, 1, 2])
         self.assertEqual(Buffer(own).of_blocks(3), list(range(6)))
 
+    def test_order_in_memory(self):
+        self.assertRaises(NotOfScripts, Buffer, memoryview(array.array("i", range(6)))[::2])
+        try:
+            import numpy
+        except ImportError:
+            self.skipTest("there is no numpy")
+        self.assertEqual(Buffer(numpy.array([[1, 2], [3, 4]], "i4", order="F")).items(4), [1, 3, 2, 4])
+
 
 try:
     from gossipmpi.pytest_plugin import differences

@@ -55,6 +55,19 @@ Blocks typed_blocks(const void *base, int number, Numbers lengths, Numbers place
 
 static int is_dense(const Facts *facts) { return facts->size == facts->true_extent && facts->extent == facts->true_extent; }
 
+static MPI_Aint extent_without_gaps(const Block *block)
+{
+    if (block->is_own) return block->gapless;
+    const Facts *facts = facts_of(block->type);
+    return facts && is_dense(facts) && !facts->true_lower ? facts->extent : 0;
+}
+
+static int is_named(const Block *block)
+{
+    const Facts *facts = facts_of(block->type);
+    return facts && facts->is_named;
+}
+
 void drop_blocks(Blocks *blocks)
 {
     for (int i = 0; i < blocks->number; i++) {
@@ -81,18 +94,18 @@ void keep_types(Blocks *blocks)
 long items_in(const Blocks *blocks, Type as)
 {
     long items = 0;
-    for (int i = 0; i < blocks->number; i++) items += blocks->list[i].length * (as == RAW ? size_of(blocks->list[i].type) : 1);
+    for (int i = 0; i < blocks->number; i++) if (blocks->list[i].length > 0) items += blocks->list[i].length * items_each(blocks->list[i].type, as);
     return items;
 }
 
 /* Whether no block lies where nothing can: at a null buffer, but for types that have whole addresses. */
-int can_read(const Blocks *blocks, Type as)
+int can_read(const Blocks *blocks)
 {
     for (int i = 0; i < blocks->number; i++) {
         const Block *block = &blocks->list[i];
         const Facts *facts = block->length > 0 ? facts_of(block->type) : 0;
         if (!facts || !facts->size) continue;
-        uintptr_t first = (uintptr_t)blocks->base + block->place + (as == RAW ? facts->true_lower : 0);
+        uintptr_t first = (uintptr_t)blocks->base + block->place + facts->true_lower;
         if (first < LEAST_ADDRESS) return 0;
     }
     return 1;
@@ -123,15 +136,6 @@ static int pack(const char *from, long length, MPI_Datatype type, unsigned char 
     *bytes = room_for(room);
     int error = from ? PMPI_Pack(from, length, type, *bytes, room, &used, own_communicator()) : pack_from_bottom(length, type, *bytes, room, &used);
     return error ? -1 : used;
-}
-
-static int put_packed(const char *from, long length, MPI_Datatype type)
-{
-    unsigned char *bytes;
-    int number = pack(from, length, type, &bytes);
-    for (int i = 0; i < number; i++) put_unsigned(bytes[i]);
-    free(bytes);
-    return number >= 0;
 }
 
 /* ---- numbers ---- */
@@ -170,61 +174,112 @@ static void put_composed(const char *from, long length, Type as)
             put_field(from + i * composed[as].size + composed[as].fields[field].place, composed[as].fields[field].size);
 }
 
-static int put_block(const char *from, long length, Type as, MPI_Datatype type)
+/* Items that lie one after the other. */
+static void put_dense(const char *from, long length, Type as)
 {
     switch (as) {
     case I8: EACH(int8_t, put_number);
     case I16: EACH(int16_t, put_number);
-    case I32: EACH(int32_t, put_number);
+    case I32: case LOGICAL: EACH(int32_t, put_number);
     case I64: EACH(int64_t, put_number);
-    case U8: EACH(uint8_t, put_unsigned);
+    case U8: case RAW: EACH(uint8_t, put_unsigned);
     case U16: EACH(uint16_t, put_unsigned);
     case F32: case U32: EACH(uint32_t, put_unsigned);
     case F64: case U64: EACH(uint64_t, put_unsigned);
     case PAIR: length *= 2; EACH(int32_t, put_number);
-    case RAW: return put_packed(from, length, type);
     default: put_composed(from, length, as); break;
     }
-    return 1;
+}
+
+/* Binary in a record of blocks, else as text. */
+static void put_bytes_as(const char *from, size_t size, long length, Type as)
+{
+    if (!is_binary) put_dense(from, length, as);
+    else memcpy(add_room(raw_bytes(), size), from, size);
+}
+
+static int put_block(const Blocks *blocks, const Block *block, Type as)
+{
+    const char *from = blocks->base + block->place;
+    long length = block->length * items_each(block->type, as);
+    MPI_Aint extent = as != RAW && is_named(block) ? extent_of(block->type) : extent_without_gaps(block);
+    unsigned char *bytes;
+    if (extent) { put_bytes_as(from, block->length * extent, length, as); return 1; }
+    int number = pack(from, block->length, block->type, &bytes);
+    if (number >= 0) put_bytes_as((char *)bytes, number, length, as);
+    free(bytes);
+    return number >= 0;
 }
 
 int put_items(const Blocks *blocks, Type as)
 {
-    for (int i = 0; i < blocks->number; i++) {
-        const Block *block = &blocks->list[i];
-        if (block->length > 0 && !put_block(blocks->base + block->place, block->length, as, block->type)) return 0;
-    }
+    size_t before = raw_bytes()->length;
+    for (int i = 0; i < blocks->number; i++)
+        if (blocks->list[i].length > 0 && !put_block(blocks, &blocks->list[i], as)) return 0;
+    put_raw(type_letter(as), before);
     return 1;
 }
 
 /* ---- whether buffers change ---- */
 
-static uint64_t hash_bytes(uint64_t hash, const unsigned char *bytes, long number)
+/* The bytes of each float in a type. */
+static int width_of_floats(Type as)
 {
-    for (long i = 0; i < number; i++) hash = (hash ^ bytes[i]) * 1099511628211u;
+    if (as == F32 || as == C64 || as == TWO_F32) return 4;
+    return as == F64 || as == C128 || as == TWO_F64 ? 8 : 0;
+}
+
+/* Of a NaN, or of two halves that may be one, the same word as of any other. */
+static uint64_t with_one_nan(uint64_t word, int width)
+{
+    uint64_t low = UINT32_MAX, sign = 1u << 31, infinity = 0x7f800000;
+    if (width == 8) return (word & INT64_MAX) > 0x7ff0000000000000 ? UINT64_MAX : word;
+    if ((word & (low ^ sign)) > infinity) word |= low;
+    return (word >> 32 & (low ^ sign)) > infinity ? word | low << 32 : word;
+}
+
+/* By words of eight bytes in their order, the last one filled with zeros; merge/digests.py has the same. */
+static uint64_t hash_bytes(uint64_t hash, const unsigned char *bytes, long number, Type as)
+{
+    int width = width_of_floats(as);
+    for (long i = 0; i < number; i += 8) {
+        uint64_t word = 0;
+        memcpy(&word, bytes + i, number - i < 8 ? number - i : 8);
+        if (width) word = with_one_nan(word, width);
+        hash = (hash ^ word) * 1099511628211u;
+        hash ^= hash >> 32;
+    }
     return hash;
 }
 
-static MPI_Aint extent_without_gaps(const Block *block)
+/* RAW: of the bytes as they are; else all NaNs are one. */
+static uint64_t hash_of_block(uint64_t hash, const Blocks *blocks, const Block *block, Type as)
 {
-    if (block->is_own) return block->gapless;
-    const Facts *facts = facts_of(block->type);
-    return facts && is_dense(facts) && !facts->true_lower ? facts->extent : 0;
+    const char *from = blocks->base + block->place;
+    MPI_Aint extent = extent_without_gaps(block);
+    unsigned char *bytes;
+    if (block->length <= 0) return hash;
+    if (extent) return hash_bytes(hash, (const unsigned char *)from, block->length * extent, as);
+    int number = pack(from, block->length, block->type, &bytes);
+    hash = hash_bytes(hash, bytes, number, as);
+    free(bytes);
+    return hash;
 }
+
+enum { SEED = 1469598103 };
 
 uint64_t hash_of(const Blocks *blocks)
 {
-    uint64_t hash = 14695981039346656037u;
-    for (int i = 0; i < blocks->number; i++) {
-        const Block *block = &blocks->list[i];
-        const char *from = blocks->base + block->place;
-        if (block->length <= 0) continue;
-        MPI_Aint extent = extent_without_gaps(block);
-        if (extent) { hash = hash_bytes(hash, (const unsigned char *)from, block->length * extent); continue; }
-        unsigned char *bytes;
-        int number = pack(from, block->length, block->type, &bytes);
-        hash = hash_bytes(hash, bytes, number);
-        free(bytes);
-    }
+    uint64_t hash = SEED;
+    for (int i = 0; i < blocks->number; i++) hash = hash_of_block(hash, blocks, &blocks->list[i], RAW);
     return hash;
+}
+
+void put_hashes(const Blocks *blocks, Type as)
+{
+    put_text(blocks->number ? " " : " -");
+    for (int i = 0; i < blocks->number; i++) {
+        if (i) put_text(",");
+        put_digits(hash_of_block(SEED, blocks, &blocks->list[i], as) >> 1);
+    }
 }

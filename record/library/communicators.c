@@ -74,7 +74,8 @@ Communicator *add_communicator(MPI_Comm handle, const char *name)
     snprintf(new->name, sizeof new->name, "%s", name);
     PMPI_Comm_size(handle, &new->size);
     PMPI_Comm_rank(handle, &new->rank);
-    PMPI_Topo_test(handle, &new->topology);
+    find_groups(new);
+    if (!new->remote) PMPI_Topo_test(handle, &new->topology);
     new->has_neighbours = new->topology != MPI_UNDEFINED;
     if (new->topology == MPI_DIST_GRAPH) find_graph(new);
     else if (new->topology == MPI_CART) find_grid(new);

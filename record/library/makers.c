@@ -5,19 +5,26 @@
 #include <string.h>
 
 #define OPEN(...) __VA_ARGS__
-typedef struct { int id; Communicator *parent; char name[16]; } Making;
 
-static Making begin_making(MPI_Comm parent, const char *tag, const char *kind, void *site)
+Making new_making(MPI_Comm parent)
 {
     static int made;
     Making making;
     memset(&making, 0, sizeof making);
     making.parent = find_communicator(parent);
     making.id = next_id();
+    snprintf(making.name, sizeof making.name, "c%d", ++made);
+    return making;
+}
+
+/* Of an intercommunicator only what is merged, and copies, are known. */
+static Making begin_making(MPI_Comm parent, const char *tag, const char *kind, void *site)
+{
+    Making making = new_making(parent);
+    if (making.parent && making.parent->remote && strcmp(kind, "dup")) making.parent = 0;
     begin_line(making.parent ? tag : "unknown", making.id, site);
     put_word(kind);
     put_word(making.parent ? making.parent->name : why_unknown(parent));
-    snprintf(making.name, sizeof making.name, "c%d", ++made);
     return making;
 }
 
@@ -30,7 +37,7 @@ static Making begin_statement(MPI_Comm parent, const char *kind, void *site)
     return begin_making(parent, "call", kind, site);
 }
 
-static void end_statement(const Making *making)
+void end_statement(const Making *making)
 {
     if (!making->id) return;
     if (making->parent) { put_text(" ->"); put_word(making->name); }
@@ -46,7 +53,16 @@ static int is_reordered(const Making *making, MPI_Comm given)
     return relation != MPI_CONGRUENT;
 }
 
-static Communicator *end_making(const Making *making, int error, MPI_Comm given, int reorder)
+/* Of an intercommunicator both groups, and how many ranks the first one has. */
+static void put_new(const Communicator *new)
+{
+    put_word("comm"); put_number(new->size + new->remote); put_number(new->before + new->rank);
+    if (!new->remote) return;
+    end_line();
+    put_text("inter"); put_word(new->name); put_number(new->before ? new->before : new->size);
+}
+
+Communicator *end_making(const Making *making, int error, MPI_Comm given, int reorder)
 {
     Communicator *new = 0;
     if (!making->id) return 0;
@@ -60,7 +76,7 @@ static Communicator *end_making(const Making *making, int error, MPI_Comm given,
     else if (is_new) put_word("reordered");
     else {
         new = add_communicator(given, making->name);
-        put_word("comm"); put_number(new->size); put_number(new->rank);
+        put_new(new);
     }
     end_line();
     unlock_record();

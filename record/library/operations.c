@@ -74,7 +74,7 @@ void note_operation(int id, MPI_Op handle)
 {
     Operation *operation = find_operation(handle);
     if (!operation) return;
-    put_text("own"); put_number(id); put_number(operation->id); end_line();
+    begin_plain("own", id); put_number(operation->id); end_line();
 }
 
 /* ---- contributions ---- */
@@ -237,7 +237,7 @@ static void put_fold(int id, const Arguments *a, const Communicator *communicato
     Items folded = room_for_items(1, all->length, all->type);
     copy_items(&folded, all, ranks - 1);
     for (int i = ranks - 2; i >= 0; i--) apply(operation, all, i, &folded);
-    if (ranks == all->ranks && is_bracketed(operation, all, &folded, as)) { put_text("slip"); put_number(id); put_text(" bracketed"); end_line(); }
+    if (ranks == all->ranks && is_bracketed(operation, all, &folded, as)) { begin_plain("slip", id); put_text(" bracketed"); end_line(); }
     if (a->kind == REDUCE_SCATTER_BLOCK) { length = a->receive_count; first = rank * length; }
     if (a->kind == REDUCE_SCATTER) {
         length = number_at(a->receive_counts, rank);
@@ -254,7 +254,7 @@ static void fold_all(int id, const Arguments *a, const Communicator *communicato
 {
     lock_record();
     int pair = operation->commutes ? unordered_pair(operation, all, as) : -1;
-    if (pair >= 0) { put_text("slip"); put_number(id); put_text(" unordered"); put_number(pair); put_number(pair + 1); end_line(); }
+    if (pair >= 0) { begin_plain("slip", id); put_text(" unordered"); put_number(pair); put_number(pair + 1); end_line(); }
     put_fold(id, a, communicator, operation, all, as);
     unlock_record();
 }

@@ -29,7 +29,7 @@ void find_sides(const Arguments *a, int is_root, Parts *parts)
 
 /* ---- counts, in items, or of what has no name here in bytes ---- */
 
-static long scaled(long count, Type as, MPI_Datatype type) { return as == RAW ? count * size_of(type) : count; }
+static long scaled(long count, Type as, MPI_Datatype type) { return count * items_each(type, as); }
 
 static Counts one_count(long count, Type as, MPI_Datatype type)
 {
@@ -174,17 +174,24 @@ static void find_neighbourhood(const Arguments *a, const Communicator *communica
     if (a->kind >= NEIGHBOR_ALLTOALL) leave_borders(&parts->in, given, communicator->to);
 }
 
+static void find_bcast(const Arguments *a, const Communicator *communicator, Type as, Parts *parts)
+{
+    int is_across = communicator->remote != 0, is_beside = is_across && a->root == MPI_PROC_NULL;
+    int is_root = is_across ? a->root == MPI_ROOT : a->root == communicator->rank;
+    if (is_beside) parts->awaited = (Counts){calloc(1, sizeof(long)), 1};
+    else parts->awaited = one_count(a->receive_count, as, a->receive_type);
+    if (is_root) parts->in = received(a, a->receive_count, 0);
+    parts->only_reads = is_root;
+    if (is_beside || (is_across && is_root)) parts->fixed = "ok";
+    else parts->out = received(a, a->receive_count, 0);
+}
+
 void find_parts(const Arguments *a, const Communicator *communicator, Type as, Parts *parts)
 {
-    int size = communicator->size, rank = communicator->rank;
+    int size = communicator->remote ? communicator->remote : communicator->size, rank = communicator->rank;
     switch (a->kind) {
     case BARRIER: parts->fixed = "ok"; break;
-    case BCAST:
-        parts->awaited = one_count(a->receive_count, as, a->receive_type);
-        if (a->root == rank) parts->in = received(a, a->receive_count, 0);
-        parts->only_reads = a->root == rank;
-        parts->out = received(a, a->receive_count, 0);
-        break;
+    case BCAST: find_bcast(a, communicator, as, parts); break;
     case GATHER: case GATHERV: find_gather(a, size, rank, as, parts); break;
     case SCATTER: case SCATTERV: find_scatter(a, size, rank, as, parts); break;
     case ALLGATHER: case ALLGATHERV: find_allgather(a, size, rank, as, parts); break;

@@ -1,4 +1,4 @@
-/* What the recorder's files share. ../README.md says how it is used, written.c what stands in a record. */
+/* What the recorder's files share. ../README.md says how it is used, opening.c what is in a record. */
 #ifndef RECORD_H
 #define RECORD_H
 #define _GNU_SOURCE
@@ -16,14 +16,23 @@
 #define SITE __builtin_extract_return_addr(__builtin_return_address(0))
 void *next_function(const char *name);
 
-/* ---- written.c: the file ---- */
+/* ---- opening.c: settings, and the run as a whole ---- */
 enum { MEMBERS = 64 };                  /* what gossipmpi has at most */
 extern __thread int inside;             /* of an MPI that calls itself by its public names */
-extern long most_items;
+extern long most_items, one_in;         /* RECORD_ITEMS, RECORD_SAMPLE */
 extern int notes_messages;
 extern int folds_operations;            /* 2 where they are sums */
 long number_asked(int rank, const char *name, long most, long without, const char *wanted);      /* of the environment */
+void number_run(void);
+void end_record(void);
+void lock_record(void);
+void unlock_record(void);
+MPI_Comm own_communicator(void);        /* of this rank alone, whose errors come back */
+
+/* ---- lines.c ---- */
+typedef struct { char *at; size_t length, room; } Bytes;
 void *room_for(size_t size);
+char *add_room(Bytes *bytes, size_t number);            /* at its end */
 void put_text(const char *text);
 void put_digits(int64_t number);
 void put_word(const char *word);        /* these four: a blank first */
@@ -36,17 +45,26 @@ void begin_plain(const char *tag, int id);
 void end_line(void);
 void cut_line(void);                    /* back to the line's beginning */
 size_t line_length(void);
+const char *open_line(size_t *length);  /* what there is of the line that is made */
+Bytes *raw_bytes(void);                 /* numbers that follow the line */
+void put_raw(char letter, size_t before);
 int next_id(void);
-int is_recording(void);                 /* opens the file where it isn't open yet */
-void number_run(void);
-void end_record(void);
+void end_group_of(int id);
+
+/* ---- file.c ---- */
+typedef struct { uint64_t start, block; int is_whole; } Group;          /* the lines of one call */
+extern int is_binary;
+extern volatile long unwritten;         /* calls that the file's time doesn't tell */
+int has_zlib(void);
+int is_folder_taken(const char *path);
+int open_file(const char *path, long run, int is_text);
+int is_recording(void);
+void begin_group(Group *group, int is_next);
+void end_group(Group *group);
+void write_line(const char *text, size_t length, const char *raw, size_t more);
 void close_record(void);                /* after a last line: nothing more is written */
 void write_last(const char *line, size_t size);         /* also within a signal: all whole lines, and this one */
-void touch_record(void);              /* a sign that calls were made which the file's time doesn't tell */
-extern volatile long unwritten;         /* such calls */
-void lock_record(void);
-void unlock_record(void);
-MPI_Comm own_communicator(void);        /* of this rank alone, whose errors come back */
+void touch_record(void);
 
 /* ---- ends.c, signals.c, watch.c ---- */
 void watch_errors(void);
@@ -70,8 +88,9 @@ int is_in_fortran_layer(void *site);
 typedef enum {
     I8, I16, I32, I64, U8, U16, U32, U64, PAIR,                                 /* those of scripts */
     F32, F64, F80, C64, C128,                                                   /* by their bits */
-    F32_INT, F64_INT, F80_INT, I64_INT, I16_INT, TWO_F32, TWO_F64,
-    RAW                                                                         /* what has no name here: bytes */
+    F32_INT, F64_INT, F80_INT, I64_INT, I16_INT, TWO_F32, TWO_F64, LOGICAL,
+    RAW,                                                                        /* what has no name here: bytes */
+    NO_TYPE
 } Type;
 typedef struct Facts {                  /* of a type that is valid */
     MPI_Datatype handle;
@@ -79,6 +98,7 @@ typedef struct Facts {                  /* of a type that is valid */
     MPI_Aint extent, true_lower, true_extent;
     int is_named, families;
     Type moves, folds;                  /* as what it is moved, and reduced */
+    long each;                          /* how many items one of it has, as what it is moved */
     char *signature;                    /* its basic types, `3.f64+i32`; `?` where they aren't known */
     struct Facts *next;
 } Facts;
@@ -89,7 +109,9 @@ const char *type_word(Type type);
 Type moved_as(MPI_Datatype type);                       /* RAW where it has no name here: moved as bytes */
 const char *fold_word(MPI_Op operation);                /* `user` of a program's own */
 Type folded_as(MPI_Datatype type, MPI_Op operation);
+char type_letter(Type type);            /* of its binary form */
 long size_of(MPI_Datatype type);
+long items_each(MPI_Datatype type, Type as);            /* bytes as RAW */
 MPI_Aint extent_of(MPI_Datatype type);
 
 /* ---- signature.c ---- */
@@ -103,6 +125,8 @@ typedef struct Communicator {
     int size, rank, has_neighbours, sources, destinations;
     int *from, *to;                     /* the neighbours; MPI_PROC_NULL at a border */
     int topology;                       /* MPI_DIST_GRAPH, MPI_CART, MPI_GRAPH or MPI_UNDEFINED */
+    int remote;                         /* of an intercommunicator the ranks of the other group; `size` has those of its own */
+    int before;                         /* the ranks before its own group's, where both are one communicator */
     int has_channel;
     MPI_Comm channel;                   /* the recorder's own, of the same ranks */
     struct Communicator *next;
@@ -113,6 +137,12 @@ const char *why_unknown(MPI_Comm handle);
 void drop_communicator(MPI_Comm handle);
 void forget_freed(MPI_Comm handle);
 void forget_all_freed(void);
+
+/* ---- makers.c: calls that make communicators ---- */
+typedef struct { int id; Communicator *parent; char name[16]; } Making;
+Making new_making(MPI_Comm parent);
+void end_statement(const Making *making);       /* `-> NAME`; the record is no longer locked */
+Communicator *end_making(const Making *making, int error, MPI_Comm given, int reorder);
 
 /* ---- buffers.c: what lies in buffers ---- */
 typedef struct { const void *values; size_t width; } Numbers;   /* `int`, or wider ones of the large-count forms */
@@ -132,9 +162,10 @@ Blocks typed_blocks(const void *base, int number, Numbers lengths, Numbers place
 void drop_blocks(Blocks *blocks);
 void keep_types(Blocks *blocks);        /* the program may free its types */
 long items_in(const Blocks *blocks, Type as);
-int can_read(const Blocks *blocks, Type as);
+int can_read(const Blocks *blocks);
 int put_items(const Blocks *blocks, Type as);           /* 0 where MPI_Pack refuses */
 uint64_t hash_of(const Blocks *blocks);
+void put_hashes(const Blocks *blocks, Type as);         /* of each block; of floats all NaNs are one, but as RAW */
 
 /* ---- overlaps.c ---- */
 int do_overlap(const Blocks *some, const Blocks *others);
@@ -183,6 +214,11 @@ void drop_parts(Parts *parts);
 int blocks_told(const Arguments *arguments, const Communicator *communicator, int is_sent);
 Block block_told(const Arguments *arguments, int is_sent, int place);
 
+/* ---- intercommunicators.c ---- */
+void find_groups(Communicator *new);
+const char *reason_across(const Arguments *arguments, const Communicator *communicator, int is_own_operation);
+int root_across(const Arguments *arguments, const Communicator *communicator);
+
 /* ---- calls.c: a call and its result ---- */
 typedef struct Call {
     int id, request;                    /* 0 where nothing is recorded; where it blocks */
@@ -190,6 +226,10 @@ typedef struct Call {
     const char *fixed;
     Blocks in, out;
     uint64_t hash;                      /* of what a nonblocking call sends */
+    long total;                         /* the items of a reduction of which the first are kept, else 0 */
+    Blocks whole;                       /* of such an allreduce all that comes out */
+    int digested;                       /* where hashes are kept in the place of numbers, the ranks that the communicator has */
+    Kind kind;
     int only_reads, is_unsure;          /* unsure: another open call has its handle, and a wait may have been for that one */
     MPI_Comm *made;                     /* of MPI_Comm_idup */
     char made_name[16];

@@ -5,7 +5,9 @@
 
 enum { ARITHMETIC = 1, LOGIC = 2, BITS = 4, LOCATION = 8, BUCKETS = 256 };
 static const char *const type_words[] = {"i8", "i16", "i32", "i64", "u8", "u16", "u32", "u64", "2int", "f32", "f64", "f80", "c64", "c128",
-    "f32_int", "f64_int", "f80_int", "i64_int", "i16_int", "2f32", "2f64", "bytes"};
+    "f32_int", "f64_int", "f80_int", "i64_int", "i16_int", "2f32", "2f64", "logical", "bytes"};
+/* By Python's struct, where one letter is an item's whole form; merge/files.py has the others. */
+static const char letters[] = "bhiqBHIQiIQxIQfdlnsIQiB";
 typedef struct { MPI_Datatype type; const char *basic; Type moves, folds; int families; } Named;
 static Named named[96];
 static int number_named;
@@ -39,16 +41,16 @@ static void add_integer(MPI_Datatype type, Type least, int families)
 static void add_real(MPI_Datatype type)
 {
     int size = plain_size(type);
-    if (size == 4) add_type(type, "f32", RAW, F32, ARITHMETIC);
-    else if (size == 8) add_type(type, "f64", RAW, F64, ARITHMETIC);
+    if (size == 4) add_type(type, "f32", F32, F32, ARITHMETIC);
+    else if (size == 8) add_type(type, "f64", F64, F64, ARITHMETIC);
     else if (size == 16) add_type(type, "f128", RAW, RAW, 0);
 }
 
 static void add_complex(MPI_Datatype type)
 {
     int size = plain_size(type);
-    if (size == 8) add_type(type, "c64", RAW, C64, ARITHMETIC);
-    else if (size == 16) add_type(type, "c128", RAW, C128, ARITHMETIC);
+    if (size == 8) add_type(type, "c64", C64, C64, ARITHMETIC);
+    else if (size == 16) add_type(type, "c128", C128, C128, ARITHMETIC);
     else if (size == 32) add_type(type, "c160", RAW, RAW, 0);
 }
 
@@ -86,24 +88,24 @@ void fill_types(void)
     for (size_t i = 0; i < sizeof reals / sizeof *reals; i++) add_real(reals[i]);
     for (size_t i = 0; i < sizeof complexes / sizeof *complexes; i++) add_complex(complexes[i]);
 #if defined __x86_64__ || defined __i386__
-    add_type(MPI_LONG_DOUBLE, "f80", RAW, F80, ARITHMETIC);
-    add_type(MPI_LONG_DOUBLE_INT, "f80+i32", RAW, F80_INT, LOCATION);
+    add_type(MPI_LONG_DOUBLE, "f80", F80, F80, ARITHMETIC);
+    add_type(MPI_LONG_DOUBLE_INT, "f80+i32", F80_INT, F80_INT, LOCATION);
 #endif
     add_type(MPI_BYTE, "byte", RAW, U8, BITS);
     add_type(MPI_PACKED, "packed", RAW, RAW, 0);
     add_type(MPI_CHAR, "char", RAW, RAW, 0);
     add_type(MPI_CHARACTER, "char", RAW, RAW, 0);
     add_type(MPI_WCHAR, "wchar", RAW, RAW, 0);
-    add_type(MPI_LOGICAL, "logical", RAW, RAW, 0);
+    add_type(MPI_LOGICAL, "logical", plain_size(MPI_LOGICAL) == 4 ? LOGICAL : RAW, plain_size(MPI_LOGICAL) == 4 ? LOGICAL : RAW, LOGIC);
     add_type(MPI_C_BOOL, "bool", RAW, plain_size(MPI_C_BOOL) == 1 ? U8 : RAW, plain_size(MPI_C_BOOL) == 1 ? LOGIC : 0);
     add_type(MPI_2INT, "i32+i32", PAIR, PAIR, LOCATION);
     add_type(MPI_2INTEGER, "i32+i32", PAIR, PAIR, LOCATION);
-    add_type(MPI_FLOAT_INT, "f32+i32", RAW, F32_INT, LOCATION);
-    add_type(MPI_DOUBLE_INT, "f64+i32", RAW, F64_INT, LOCATION);
-    add_type(MPI_LONG_INT, "i64+i32", RAW, I64_INT, LOCATION);
-    add_type(MPI_SHORT_INT, "i16+i32", RAW, I16_INT, LOCATION);
-    add_type(MPI_2REAL, "f32+f32", RAW, TWO_F32, LOCATION);
-    add_type(MPI_2DOUBLE_PRECISION, "f64+f64", RAW, TWO_F64, LOCATION);
+    add_type(MPI_FLOAT_INT, "f32+i32", F32_INT, F32_INT, LOCATION);
+    add_type(MPI_DOUBLE_INT, "f64+i32", F64_INT, F64_INT, LOCATION);
+    add_type(MPI_LONG_INT, "i64+i32", I64_INT, I64_INT, LOCATION);
+    add_type(MPI_SHORT_INT, "i16+i32", I16_INT, I16_INT, LOCATION);
+    add_type(MPI_2REAL, "f32+f32", TWO_F32, TWO_F32, LOCATION);
+    add_type(MPI_2DOUBLE_PRECISION, "f64+f64", TWO_F64, TWO_F64, LOCATION);
     fill_operations();
 }
 
@@ -127,12 +129,26 @@ static Facts **bucket_of(MPI_Datatype type)
     return &buckets[(bits ^ bits >> 8 ^ bits >> 20) % BUCKETS];
 }
 
+/* A type whose basic types are all one is moved as that. */
+static void find_moves(Facts *facts)
+{
+    char *word = 0;
+    long number = strtol(facts->signature, &word, 10);
+    if (*word == '.') word++;
+    else { number = 1; word = facts->signature; }
+    for (Type at = I8; at < RAW; at++) {
+        if (at == PAIR || (at >= F32_INT && at < LOGICAL) || strcmp(type_words[at], word)) continue;
+        facts->moves = at;
+        facts->each = number;
+    }
+}
+
 static Facts *add_facts(MPI_Datatype type)
 {
     int size = 0, integers, addresses, types, combiner = 0;
     MPI_Aint lower;
     Guard guard;
-    Facts facts = {.handle = type, .moves = RAW, .folds = RAW};
+    Facts facts = {.handle = type, .moves = RAW, .folds = RAW, .each = 1};
     begin_guard(&guard);
     int is_wrong = type == MPI_DATATYPE_NULL || PMPI_Type_size(type, &size) || PMPI_Type_get_extent(type, &lower, &facts.extent)
         || PMPI_Type_get_true_extent(type, &facts.true_lower, &facts.true_extent);
@@ -145,6 +161,7 @@ static Facts *add_facts(MPI_Datatype type)
     if (is_wrong) return 0;
     const Named *name = find_named(type);
     if (name) { facts.moves = name->moves; facts.folds = name->folds; facts.families = name->families; }
+    else find_moves(&facts);
     Facts *kept = room_for(sizeof *kept), **bucket = bucket_of(type);
     *kept = facts;
     kept->next = *bucket;
@@ -182,6 +199,7 @@ int MPI_Type_free(MPI_Datatype *type)
 ALSO(Type_free)
 
 const char *type_word(Type type) { return type_words[type]; }
+char type_letter(Type type) { return letters[type]; }
 
 Type moved_as(MPI_Datatype type)
 {
@@ -216,6 +234,13 @@ long size_of(MPI_Datatype type)
 {
     const Facts *facts = facts_of(type);
     return facts ? facts->size : 0;
+}
+
+long items_each(MPI_Datatype type, Type as)
+{
+    const Facts *facts = facts_of(type);
+    if (!facts) return as != RAW;
+    return as == RAW ? facts->size : facts->each;
 }
 
 MPI_Aint extent_of(MPI_Datatype type)

@@ -38,7 +38,7 @@ static uint64_t state_of_files(void)
     for (int rank = 0; rank < all_ranks; rank++) {
         char path[4096];
         struct stat file;
-        snprintf(path, sizeof path, "%s/rank.%d", folder, rank);
+        snprintf(path, sizeof path, "%s/rank.%d%s", folder, rank, is_binary ? ".open" : "");
         if (!stat(path, &file)) state = (state + file.st_size * 31 + file.st_mtim.tv_sec * 1000003 + file.st_mtim.tv_nsec) * 1099511628211u;
     }
     return state;

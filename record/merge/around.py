@@ -25,7 +25,26 @@ def lines(record, calls, key):
     for words, ranks in list(groups.items())[:SHOWN]: found.append('    %s: %s' % (ranks_of(ranks), ', '.join(words) or 'no more calls'))
     if len(groups) > SHOWN: found.append('    .. and others')
     left = left_out(record, calls, key)
-    return found + (['    (%s)' % left] if left else [])
+    return found + (['    (%s)' % left] if left else []) + ['  ' + line for line in counts(record, calls, communicator)]
+
+
+def counts(record, calls, communicator):
+    """Of each line of the program that ranks have passed after fewer calls than the others made there, or more: a loop with a step less."""
+    at = collections.OrderedDict()
+    for (one, _), row in calls.rows.items():
+        if one != communicator: continue
+        for rank, part in row.items(): at.setdefault((part.kind, record.place_of(part)), collections.Counter())[rank] += 1
+    members, found = calls.members[communicator], []
+    for (_, place), made in at.items():
+        usual, how_many = collections.Counter(made.values()).most_common(1)[0]
+        odd = sorted(rank for rank in made if made[rank] != usual)
+        if set(made) != members or not odd or how_many <= len(odd) or not all(has_passed(record, rank, place) for rank in odd): continue
+        for number in sorted({made[rank] for rank in odd}):
+            found.append('  %s made %d call%s at %s, the others %d' % (ranks_of(rank for rank in odd if made[rank] == number), number, 's' * (number > 1), place, usual))
+    return found[:SHOWN]
+
+
+def has_passed(record, rank, place): return record.ended[rank] == 'end' or record.place_of(record.parts[rank][-1]) != place
 
 
 def parts_of(calls, communicator, rank, first, end):

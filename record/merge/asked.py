@@ -5,7 +5,7 @@ import argparse, collections, re
 # own error, or a gap in the record.
 KINDS = collections.OrderedDict((
     ('own', ('operations of the program\'s own', 'an operation of the program\'s own')),
-    ('floats', ('floats that aren\'t judged', 'a NaN among its numbers|infinite operands|a reduction of |(sum|prod|max|min|maxloc|minloc) of ')),
+    ('floats', ('floats that aren\'t judged', 'a NaN among its numbers|infinite operands|a reduction of |(sum|prod|max|min|maxloc|minloc) of |the standard leaves')),
     ('files', ('files', 'files aren\'t recorded')),
     ('windows', ('windows', 'windows aren\'t recorded')),
     ('partitioned', ('partitioned messages', 'partitioned messages aren\'t recorded')),
@@ -15,9 +15,10 @@ KINDS = collections.OrderedDict((
     ('communicators', ('too large or too deep, on another order of ranks, or made by a call that is left out',
                        'more than 64 members|more than eight steps|its ranks are in another order|its communicator is left out')),
     ('graphs', ('edges with one end, neighbours that stand twice', 'its grid or graph has an edge|a neighbour that stands twice')),
+    ('sampled', ('calls that RECORD_SAMPLE leaves out: accepted always', 'not kept \\(RECORD_SAMPLE')),
     ('idup', ('an idup for which ranks wait later than others call on', 'others wait for it in scripts')),
 ))
-NO_KIND = 'of no kind'
+NO_KIND, SAMPLED = 'of no kind', 'sampled'
 # What MPI forbids, and the recorder sees: each is the program's error unless it is accepted.
 IN_USE_KIND, OVERLAPS, UNCOMPLETED, ROOTS, FREED, UNFREED = FORBIDDEN_NAMES = ('in_use', 'overlaps', 'uncompleted', 'roots', 'freed', 'unfreed')
 FORBIDDEN = collections.OrderedDict(zip(FORBIDDEN_NAMES, (
@@ -35,7 +36,7 @@ class Asked(collections.namedtuple('Asked', 'is_strict least kinds has_values', 
     """`least`: so many in a hundred, or None; `kinds`: which may be left out."""
     __slots__ = ()
 
-    def accepts(self, title): return kind_of(title) in self.kinds
+    def accepts(self, title): return kind_of(title) in (*self.kinds, SAMPLED)
 
 
 def read_least(word):

@@ -7,7 +7,8 @@ import collections, re
 from .parts import MAKERS, MESSAGES, WAITS
 
 WORLD = ()
-UNNAMED = dict(unknown='on a communicator that the record has no name for', null='on MPI_COMM_NULL', inter='on an intercommunicator')
+UNNAMED = dict(unknown='on a communicator that the record has no name for', null='on MPI_COMM_NULL', inter='on an intercommunicator',
+               groups='on two groups, and it has no result')
 LOST = 'on a communicator whose making has no result'
 UNSEEN = dict(psend='partitioned messages', precv='partitioned messages', session='sessions', file='files', win='windows', intercomm='intercommunicators')
 
@@ -17,13 +18,13 @@ class Calls:
     rank's request, `waits` the waits for it; `unnamed` counts the calls on communicators that have no name here, with the reason, and `unseen`
     among them those of kinds that aren't recorded;
     `refused` has the parts that this MPI refused for their arguments, which are no calls then, `behind_free` those on a communicator that the rank
-    had freed; `known` each rank's communicators by its names."""
+    had freed; `known` each rank's communicators by its names; `across` of an intercommunicator how many ranks its first group has."""
 
     def __init__(self, record):
         self.record, self.rows, self.requests = record, collections.OrderedDict(), {}
         self.waits = collections.defaultdict(list)
         self.members, self.order = collections.defaultdict(set), collections.defaultdict(dict)
-        self.maker, self.names, self.unnamed, self.unseen = {}, {WORLD: 'world'}, collections.Counter(), collections.Counter()
+        self.across, self.maker, self.names, self.unnamed, self.unseen = {}, {}, {WORLD: 'world'}, collections.Counter(), collections.Counter()
         self.children, self.refused, self.known, self.behind_free = collections.defaultdict(list), [], [], []
         for rank, parts in enumerate(record.parts): self.take_rank(rank, parts)
         self.name_communicators()
@@ -77,6 +78,7 @@ class Calls:
         known[part.name] = child
         self.members[child].add(rank)
         self.order[child][int(made[1])] = rank
+        if (rank, part.name) in self.record.groups: self.across[child] = self.record.groups[rank, part.name]
         if child not in self.maker: self.children[part.key].append(child)
         self.maker.setdefault(child, part.key)
         self.names.setdefault(child, part.name)

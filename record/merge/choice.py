@@ -1,32 +1,32 @@
 """Which calls go into scripts, and in which form. A call that is left out is so at all ranks, and what stands on communicators that it makes."""
-import collections, re, struct, sys
+import collections
 
-from . import folds, grids, own, types
+from . import across, blocks, digests, folds, grids, own, types
 from .asked import ROOTS
+from .moved import make_one_type
 from .parts import AS_BYTES, FOLDS, MAKERS, WIDTH
 from .slips import Slips, ranks_of, root_of
 
-ITEMS, EDGES, RANKS, DEPTH = 4096, 512, 64, 8           # gossipmpi's limits
+EDGES, RANKS, DEPTH = 512, 64, 8           # gossipmpi's limits
 REASONS = dict(kind='scripts have no such call', root='its root is out of range', topology='its communicator has no neighbours',
                operation=own.LEFT, in_place='MPI_IN_PLACE at a rank that isn\'t the root', type='a type that is none', items='more items than RECORD_ITEMS',
-               members='more than 64 members', count='a negative count', buffer='a buffer that can\'t be read')      # by the recorder's words
-# What may be cut into blocks of items, and whether what goes in, and what comes out, has a block for each rank.
-CUT = dict(bcast=(0, 0), reduce=(0, 0), allreduce=(0, 0), scan=(0, 0), exscan=(0, 0), gather=(0, 1), allgather=(0, 1), scatter=(1, 0),
-           alltoall=(1, 1), reduce_scatter_block=(1, 0))
-
+               members='more than 64 members', count='a negative count', buffer='a buffer that can\'t be read',      # by the recorder's words
+               inter='on an intercommunicator, where only barrier, bcast, allgather and allreduce are checked')
 
 class Choice:
     """`taken` has the keys of the calls for scripts; `blocks` those that are cut, with their length; `bounded` and `left` count the others by
     what is said of them, and `held` has the keys of the first, of whose numbers so many are `unjudged`. `reports` has calls of which something
     is told already: key, title, and parts with more lines; `faults` has the keys of those that can't be right whatever the MPI does; `amounts` those
     of which two ranks' don't fit, with the words for it; `folded` counts those that were held against the program's own operation;
-    `left_calls` has the keys of those that `left` counts."""
+    `left_calls` has the keys of those that `left` counts; `digested` counts those that are held by hashes, `shortened` those of which the record has
+    the first items; `across` those that are held between the groups of an intercommunicator."""
 
     def __init__(self, record, calls, without_idup=False):
         self.record, self.calls, self.gone, self.without_idup, self.slips = record, calls, set(), without_idup, Slips(record, calls)
         self.taken, self.blocks, self.left, self.reports, self.faults, self.crossed = set(), {}, collections.Counter(), [], set(), set()
         self.bounded, self.held, self.unjudged, self.amounts, self.folded = collections.Counter(), set(), 0, {}, collections.Counter()
         self.left_calls = collections.defaultdict(set)
+        self.digested, self.shortened, self.across = collections.Counter(), collections.Counter(), collections.Counter()
         for key in sorted(calls.rows, key=lambda key: (len(key[0]), key[1])):
             reason = self.reason_for(key, calls.rows[key])
             if key in self.faults and reason: self.gone.update(calls.made_by(key))
@@ -64,24 +64,53 @@ class Choice:
 
     def reason_for(self, key, row):
         communicator, part = key[0], next(iter(row.values()))
-        self.cross_grid(key, row)
-        self.compare_types(key, row)
-        self.compare_own_amounts(key, row)
+        is_across = communicator in self.calls.across and across.is_between(row)
+        if not is_across:
+            self.cross_grid(key, row)
+            self.compare_types(key, row)
+            self.compare_own_amounts(key, row)
         if any(communicator[:length] in self.gone for length in range(1, len(communicator) + 1)): return 'its communicator is left out'
         base = self.base_of(communicator)
         if base is None:
             if part.kind in MAKERS: self.count_left(key, part.name_of_kind() + ': more than 64 members')
             return None if part.kind in MAKERS else 'more than 64 members'
+        if is_across: return self.reason_across(key, row)
         if any(other.tag != 'call' for other in row.values()): return self.reason_recorded(key, row)
         if any(other.result == 'reordered' for other in row.values()): return 'its ranks are in another order'
         if len(communicator) - len(base) + (part.kind in MAKERS) > DEPTH: return 'more than eight steps from the world'
         return self.reason_of_kind(key, row)
+
+    def reason_across(self, key, row):
+        """Between the groups of an intercommunicator."""
+        name, left = across.difference(row), next((part for part in row.values() if part.tag != 'call'), None)
+        if name:
+            self.tell_fault(key, 'doesn\'t fit together: its parts differ in the ' + name)
+            return 'its parts don\'t fit together'
+        if left: return 'not finished' if left.tag == 'begun' else REASONS.get(left.words[-1], left.words[-1])
+        order = self.calls.order[key[0]]
+        if not set(row) == self.calls.members[key[0]] == set(order.values()): return 'on an intercommunicator, to which not all ranks came'
+        found = across.Across(self.calls, row, order, self.calls.across[key[0]])
+        if found.fault: self.tell_fault(key, 'doesn\'t fit together: ' + found.fault)
+        if found.fault or found.left: return found.fault or found.left
+        if found.found: self.tell_results(key, 'differs, between the groups of an intercommunicator', found.found)
+        self.held.add(key)
+        self.across[self.calls.kind_of(key)] += 1
+        return None
+
+    def compare_merged(self, key, row):
+        """In which order MPI_Intercomm_merge put the groups."""
+        wanted, error = across.merged_order(row)
+        if error: self.tell(key, 'is the program\'s error: ' + error)
+        wrong = [row[rank] for rank in sorted(row) if wanted and row[rank].lists[1] != wanted]
+        if wrong: self.tell_results(key, 'differs', [(part, ['    this MPI merged the ranks as %s, the standard as %s' % (part.lists[1], wanted)]) for part in wrong])
 
     def reason_of_kind(self, key, row):
         kinds, part = {part.kind for part in row.values()}, row[min(row)]
         if len(kinds) > 1 and any(kind in AS_BYTES for kind in kinds):
             self.tell_fault(key, 'doesn\'t fit together: its parts differ in the kind')
             return 'its parts differ in the kind'
+        self.compare_totals(key, row)
+        self.compare_merged(key, row)
         if 'idup' in kinds and self.without_idup: return 'others wait for it in scripts, which have no such call'
         if kinds & set(FOLDS) and not folds.is_plain(row):
             reason = self.reason_of_fold(key, row)
@@ -100,7 +129,9 @@ class Choice:
 
     def compare_types(self, key, row):
         """Parts whose basic types don't match; of those that are no part of a script also their amounts."""
-        if all(part.sent is None for part in row.values()): return
+        named = {part.type for part in row.values() if part.type}
+        is_fold = row[min(row)].kind in FOLDS
+        if all(part.sent is None for part in row.values()) and (is_fold or len(named) < 2 or named <= set(WIDTH) - {'2int'}): return
         found = self.mismatch(key)
         if found is None: return
         is_left = any(part.tag != 'call' for part in row.values())
@@ -145,6 +176,10 @@ class Choice:
         reason = part.words[-1]
         for other in row.values():
             if other.tag == 'left' and other.words[-1] == 'root': self.slips.group(other, root_of(other, len(self.calls.members[key[0]])), ROOTS)
+        if reason == 'items': return self.hold_digests(key, row)
+        if reason == 'sample':
+            is_whole = all(other.tag == 'left' for other in row.values())
+            return 'not kept (RECORD_SAMPLE=%d)' % self.record.sample if is_whole else 'kept at some ranks only (RECORD_SAMPLE=%d)' % self.record.sample
         return 'a reduction of ' + part.type if reason == 'type' and part.type != '-' else REASONS.get(reason, reason)
 
     def find_misplaced(self, key, row):
@@ -176,8 +211,11 @@ class Choice:
             if part.operation in folds.EXACT: folds.take_exact(calls, row)
             else: folds.take_ranked(calls, row, '2int')
             return None
-        if part.type in folds.SUMS.get(part.operation, ()) and set(row) == calls.members[key[0]]: return self.hold(key, row, part)
-        return '%s of %s' % (part.operation, folds.basics_of(part))
+        if part.type == 'logical': return folds.take_logical(calls, row)
+        named = '%s of %s' % (part.operation, folds.basics_of(part))
+        if part.type not in folds.SUMS.get(part.operation, ()): return named + ', which neither scripts nor the tool\'s own arithmetic have'
+        if set(row) == calls.members[key[0]]: return self.hold(key, row, part)
+        return named + ', to which not all ranks came'
 
     def reason_of_own(self, key, row, part):
         """By an operation of the program's own: its fold, where the recorder made one."""
@@ -220,17 +258,35 @@ class Choice:
     # ---- lengths, graphs ----
 
     def reason_of_length(self, key, row):
-        parts, size = list(row.values()), len(self.calls.members[key[0]])
-        if max(part.greatest() for part in parts) <= ITEMS: return None
-        kind = parts[0].kind
-        if kind not in CUT or len({part.kind for part in parts}) > 1: return 'more than 4,096 items'
-        has_blocks, givers = CUT[kind][0], parts
-        if kind in ('bcast', 'scatter'): givers = [part for part in parts if part.items]        # the root
-        length = max((part.amount() for part in givers), default=0) // (size if has_blocks else 1)
-        counts = {words for part in parts for words in part.lists if kind not in ('gather', 'allgather')}
-        is_even = all(part.amount() == length * (size if has_blocks else 1) for part in givers) and counts <= {str(length)}
-        if not is_even or not length: return 'more than 4,096 items'
-        self.blocks[key] = length, ITEMS // size if has_blocks else ITEMS
+        """A call on more items than one of a script has is cut into blocks."""
+        if max(part.greatest() for part in row.values()) <= blocks.ITEMS: return None
+        if len({part.kind for part in row.values()}) > 1: return 'more than 4,096 items'
+        cut = blocks.plan(row, lambda part: folds.words_of(self.calls, part), len(self.calls.members[key[0]]))
+        if cut is None: return 'more than 4,096 items, of blocks that don\'t come out even'
+        self.blocks[key] = cut
+        return None
+
+    def compare_totals(self, key, row):
+        """Of a reduction of which the record has the first items only: how many there were, and a hash of the whole result."""
+        totals = {part.total for part in row.values()}
+        if totals == {None} or self.is_told(key): return
+        if len(totals) > 1: return self.tell_fault(key, 'doesn\'t fit together: its ranks give %s items' % ' or '.join(str(part.total or part.amount()) for part in row.values()))
+        self.shortened['%s of %s' % (self.calls.kind_of(key), row[min(row)].type)] += 1
+        hashes = {rank: part.digests['got'] for rank, part in row.items() if 'got' in part.digests}
+        other = next((rank for rank in sorted(hashes) if hashes[rank] != hashes[min(hashes)]), None)
+        if other is None or row[other].type not in digests.COMPARED: return
+        self.tell_results(key, 'has other results at other ranks, where MPI requires identical ones', [(row[rank], ['    (by a hash of all %d items)' % row[rank].total]) for rank in (min(hashes), other)])
+
+    def hold_digests(self, key, row):
+        """An exchange on more items than RECORD_ITEMS. None where hashes of both its sides are compared."""
+        if not any(part.digests for part in row.values()) or self.made_as(key[0]) in self.crossed or len({(part.kind, part.root) for part in row.values()}) > 1: return REASONS['items']
+        meeting = digests.Meeting(row, self.calls.order[key[0]], lambda: self.neighbours_of(key[0]), lambda part: folds.words_of(self.calls, part))
+        if not meeting.number: return REASONS['items']
+        told = {}
+        for one, to in meeting.found: told.setdefault(to, (row[to], []))[1].append('    what rank %d sends it has another hash than what it got' % one)
+        if told and not self.is_told(key): self.tell_results(key, 'differs, by hashes of what is sent and of what came', [told[rank] for rank in sorted(told)])
+        self.held.add(key)
+        self.digested[self.calls.kind_of(key)] += 1
         return None
 
     def made_as(self, communicator):
@@ -319,20 +375,3 @@ def given_at(calls, part):
     return part, ['    this MPI gave %s%s%s' % (' '.join(words[:8]), ' .. (%d numbers)' % len(words) if len(words) > 8 else '', bits)]
 
 
-def bytes_of(items, kind):
-    if kind == '2int': return [str(byte) for item in items for byte in struct.pack('=i', int(item))]
-    width = WIDTH[kind]
-    return [str(byte) for item in items for byte in (int(item) % (1 << 8 * width)).to_bytes(width, sys.byteorder)]
-
-
-def make_one_type(calls, row):
-    """Where some rank's type has no name here, all ranks' items of this call are bytes."""
-    if not any(part.type == 'bytes' for part in row.values()): return
-    for rank, part in row.items():
-        if part.type in WIDTH:
-            width, part.plain = WIDTH[part.type], part.told(8)
-            part.lists = [words if words == '-' else ','.join(str(int(count) * width) for count in words.split(',')) for words in part.lists]
-            part.items = ' '.join(bytes_of(part.items.split(), part.type))
-            for teller in calls.waits[rank, part.name] if part.nonblocking else [part]:
-                if re.fullmatch(r'-?\d+( -?\d+)*', teller.result or ''): teller.result = ' '.join(bytes_of(teller.result.split(), part.type))
-    for part in row.values(): part.type = part.type and 'u8'

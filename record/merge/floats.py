@@ -5,7 +5,7 @@ from fractions import Fraction
 
 FORMS = {'f32': ('f32',), 'f64': ('f64',), 'f80': ('f80',), 'c64': ('f32', 'f32'), 'c128': ('f64', 'f64'), 'f32_int': ('f32', 'int'),
          'f64_int': ('f64', 'int'), 'f80_int': ('f80', 'int'), 'i64_int': ('int', 'int'), 'i16_int': ('int', 'int'),
-         '2f32': ('f32', 'f32'), '2f64': ('f64', 'f64')}
+         '2f32': ('f32', 'f32'), '2f64': ('f64', 'f64'), 'logical': ('int',)}
 DIGITS = dict(f32=24, f64=53, f80=64)                   # of the significand
 LARGEST = dict(f32=(2 - Fraction(1, 1 << 23)) * (1 << 127), f64=(2 - Fraction(1, 1 << 52)) * (1 << 1023), f80=Fraction(1 << 16383))
 UNJUDGED = 'infinite operands, or numbers near the ends of their range'

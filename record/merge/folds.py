@@ -14,6 +14,11 @@ def is_plain(row): return all(part.type in WIDTH and part.operation != 'user' fo
 def tellers(calls, part): return calls.waits[part.rank, part.name] if part.nonblocking else [part]
 
 
+def words_of(calls, part):
+    """What this MPI told of its result, or None."""
+    return next((teller.result for teller in tellers(calls, part) if teller.result), None)
+
+
 def result_of(calls, part):
     """A list of numbers, or None where this MPI told none."""
     for teller in tellers(calls, part):
@@ -32,6 +37,9 @@ def difference_of_parts(row):
         if any(of(part) != of(first) for part in row.values()): return name
     if any(len(part.items) != len(first.items) and part.amount() != first.amount() for part in row.values()): return 'count'
     return None
+
+
+def has_result(calls, part): return any(teller.result and teller.result[0] in '-0123456789e' for teller in tellers(calls, part))
 
 
 def without_nan(numbers, type_word):
@@ -96,6 +104,14 @@ def take_exact(calls, row):
 
     def spelled(word): return floats.spell(int(word) if int(word) >= 0 else sign - int(word), form)
     take_as(calls, row, 'i32' if form == 'f32' else 'i64', lambda numbers, _: [floats.key_of(bits, form) for bits in numbers], spelled)
+
+
+def take_logical(calls, row):
+    """Fortran's LOGICAL where it is 0 or 1; other forms of true are a compiler's own."""
+    numbers = [number for part in row.values() for number in [int(word) for word in part.items.split()] + (result_of(calls, part) or [])]
+    if not set(numbers) <= {0, 1}: return 'a LOGICAL that is neither 0 nor 1'
+    take_as(calls, row, 'i32', lambda numbers, _: numbers, None)
+    return None
 
 
 def take_ranked(calls, row, type_word):

@@ -11,7 +11,7 @@ def as_json(outcome, told, status):
     return json.dumps(dict(
         status=status, mpi=outcome.record.mpi, ranks=outcome.record.size, calls=outcome.calls, checked=outcome.checked,
         held_to_bounds=outcome.held, results=outcome.comparison.compared, differences=differences,
-        waiting=outcome.waiting, ended_early=outcome.ended, ended_from_outside=outcome.is_outside, notes=outcome.notes, left_out=dict(outcome.left),
+        waiting=outcome.waiting, ended_early=outcome.ended, ended_from_outside=outcome.is_outside, notes=outcome.notes, troubles=outcome.record.troubles, left_out=dict(outcome.left),
         accepted={title: outcome.left[title] for title in sorted(outcome.accepted_titles)}, calls_accepted=outcome.accepted, strict=outcome.asked.is_strict,
         least=outcome.asked.least, accept=list(outcome.asked.kinds), values_checked=outcome.asked.has_values, summary=outcome.summary()), indent=1) + '\n'
 
@@ -30,11 +30,12 @@ def as_junit(outcome, told, status):
               for what, number in sorted(outcome.left.items())]
     if not outcome.asked.has_values: cases.append(case('values', 'skipped', 'values were not checked (--without-values)'))
     failures = sum('<failure' in line for line in cases)
-    is_green = status == 0 or failures
+    is_green = status == 0 or failures or outcome.record.troubles
     cases.append(case('how much was checked', *(() if is_green else ('failure', outcome.summary(), outcome.summary()))))
+    cases += [case('the record is read', 'error', trouble, trouble) for trouble in outcome.record.troubles]
     notes = ''.join('note: %s\n' % escape(note) for note in outcome.notes)
-    return '<?xml version="1.0" encoding="UTF-8"?>\n<testsuite name="record" tests="%d" failures="%d" skipped="%d">\n%s\n%s</testsuite>\n' % (
-        len(cases), sum('<failure' in line for line in cases), sum('<skipped' in line for line in cases), '\n'.join(cases),
+    return '<?xml version="1.0" encoding="UTF-8"?>\n<testsuite name="record" tests="%d" failures="%d" skipped="%d"%s>\n%s\n%s</testsuite>\n' % (
+        len(cases), sum('<failure' in line for line in cases), sum('<skipped' in line for line in cases), ' errors="%d"' % len(outcome.record.troubles) if outcome.record.troubles else '', '\n'.join(cases),
         '  <system-out>%s</system-out>\n' % notes if notes else '')
 
 

@@ -18,6 +18,9 @@ def counted(number, what):
     return '%d %s%s' % (number, what, '' if number == 1 else 's')
 
 
+def told(counted_calls): return ', '.join('%d %s' % (number, what) for what, number in counted_calls.most_common())
+
+
 class Outcome:
     """`calls`: all that were made, seen in full or not; `checked`: those of which a result was held against the standard's value;
     `bounded`: those whose results were held to bounds, by the tool's own arithmetic; `accepted`: those that were left out, as may be;
@@ -42,6 +45,7 @@ class Outcome:
         self.checked = len((comparison.checked | choice.faults) - choice.held - own)    # the making of MPI_COMM_SELF is the recorder's
         self.folded, self.unseen = choice.folded, sum(calls.unseen.values())
         self.bounded, self.held, self.unjudged = choice.bounded, len(choice.held), choice.unjudged
+        self.digested, self.shortened, self.across = choice.digested, choice.shortened, choice.across
         self.compared_parts = len((choice.taken | choice.held | choice.faults) - own) if not asked.has_values else 0
         self.accepted = self.count_accepted(calls, choice, comparison.checked | choice.faults | choice.held | own)
 
@@ -58,6 +62,7 @@ class Outcome:
         return len(keys - others) + sum(number for title, number in calls.unnamed.items() if title in self.accepted_titles)
 
     def status(self):
+        if self.record.troubles: return UNREADABLE
         if self.ended or self.is_outside: return ENDED
         if self.waiting: return WAITS
         if self.reports or self.refused or self.forbidden: return DIFFERENCES
@@ -84,7 +89,8 @@ class Outcome:
         if own: words.append(counted(len(own), 'call') + (' is' if len(own) == 1 else ' are') + ' the program\'s own error')
         if self.refused: words.append(counted(self.refused, 'call') + (' was' if self.refused == 1 else ' were') + ' refused')
         if self.behind_free and FREED not in self.asked.kinds: words.append(counted(self.behind_free, 'call') + ' after the free of a communicator')
-        if self.ended: words.append('the run was ended early')
+        if self.record.troubles: words.append('the record isn\'t whole')
+        elif self.ended: words.append('the run was ended early')
         elif self.is_outside: words.append('the run was ended from outside')
         elif self.waiting: words.append('ranks wait')
         if words: return '; '.join(words)
@@ -105,9 +111,10 @@ class Outcome:
 
     def more(self):
         """What was held to something else than the standard's value."""
-        folded = sum(self.folded.values())
-        bounds = '%d more held to bounds; ' % (self.held - folded) if self.held > folded else ''
-        return bounds + ('%d more by the program\'s own operation; ' % folded if folded else '')
+        folded, digested, across = (sum(counted.values()) for counted in (self.folded, self.digested, self.across))
+        bounded = self.held - folded - digested - across
+        bounds = '%d more held to bounds; ' % bounded if bounded else ''
+        return bounds + ('%d more between groups; ' % across if across else '') + ('%d more by hashes; ' % digested if digested else '') + ('%d more by the program\'s own operation; ' % folded if folded else '')
 
     def bounds(self):
         some = ['%d %s' % (number, what) for what, number in self.bounded.most_common(SHOWN_BOUNDS)]
@@ -120,14 +127,16 @@ class Outcome:
         lines = ['note: ' + note for note in notes[:SHOWN_NOTES]]
         if len(notes) > SHOWN_NOTES: lines.append('note: and %d more' % (len(notes) - SHOWN_NOTES))
         if self.bounded: lines.append('held to bounds, by the tool\'s own arithmetic: ' + self.bounds())
-        if self.folded: lines.append('held against the program\'s own operation, in the order of ranks: '
-                                     + ', '.join('%d %s' % (number, what) for what, number in self.folded.most_common()))
+        if self.folded: lines.append('held against the program\'s own operation, in the order of ranks: ' + told(self.folded))
+        if self.digested: lines.append('held by hashes of what was sent and what came, of more than %d items (RECORD_ITEMS): %s' % (record.most_items, told(self.digested)))
+        if self.across: lines.append('held between the groups of an intercommunicator, by the tool\'s own arithmetic: ' + told(self.across))
+        if self.shortened: lines.append('checked in part, of each the first %d items (RECORD_ITEMS): %s' % (record.most_items, told(self.shortened)))
         lines += ['left out%s: %d %s' % (', as accepted' * (what in self.accepted_titles), number, what) for what, number in sorted(self.left.items())]
         unended = [str(rank) for rank in range(record.size) if record.ended[rank] != 'end']
         if unended: lines.append('no MPI_Finalize at rank%s %s' % ('s' * (len(unended) > 1), ' '.join(unended)))
         if self.waiting and not self.ended and not self.is_outside and not self.comparison.has_waits:
             lines.append('the program waits isn\'t at hand: what is said of waiting ranks is from the record alone (bench/look waits builds it)')
-        return lines + self.shortfall() + [self.summary()]
+        return lines + self.shortfall() + ['record: ' + trouble for trouble in record.troubles] + [self.summary()]
 
     def shortfall(self):
         """Where fewer calls were checked than is asked: how many, and what --accept calls those that were left out."""

@@ -1,4 +1,4 @@
-"""Lines of a rank's record: its part of a call, a wait, or the end of the run. library/written.c says how they are spelled."""
+"""Lines of a rank's record: its part of a call, a wait, or the end of the run. library/opening.c says how they are spelled."""
 import re
 
 from . import floats
@@ -18,6 +18,7 @@ WIDTH['2int'] = 8
 # Types that scripts don't have, by their bits: how many numbers an item has.
 BITS = dict(f32=1, f64=1, f80=2, c64=2, c128=2, f32_int=2, f64_int=2, f80_int=3, i64_int=2, i16_int=2)
 BITS['2f32'] = BITS['2f64'] = 2
+BITS['logical'] = 1
 OPERATIONS = 'max min sum prod land lor lxor band bor bxor maxloc minloc user'.split()
 TAGS = ('call', 'begun', 'left', 'unknown', 'abort', 'unseen')
 SHAPES = dict(R=re.compile(r'-?\d+'), O=re.compile('|'.join(OPERATIONS)), L=re.compile(r'-|\d+(,\d+)*'), T=re.compile('|'.join([*WIDTH, *BITS, 'bytes'])))
@@ -33,20 +34,24 @@ class Unreadable(Exception):
 def amount_of(numbers): return numbers.count(' ') + 1 if numbers else 0
 
 
+def numbers_each(type_word): return 2 if type_word == '2int' else BITS.get(type_word, 1)
+
+
 class Part:
     """One rank's part of a call, or its wait for one. `items` are numbers with blanks between; `sent` and `awaited` what stands in a line
     `types`; `spelled`, where the script has other numbers than the program, gives the program's for one of the script's; `plain` is
     how it was told before its numbers became bytes; `named` what a report calls its communicator, where that is known; `own` the program's
     operation by which it goes, and `fold` what that gives in the order of ranks."""
     __slots__ = ('rank id tag thread place kind nonblocking communicator root operation type lists items name request'
-                 ' result key graph words sent awaited slips shown spelled position plain named own fold grid').split()
+                 ' result key graph words sent awaited slips shown spelled position plain named own fold grid digests total merged').split()
 
     def __init__(self, rank, ident, tag, place, kind, rest=''):
         self.rank, self.id, self.tag, self.place = rank, ident, tag, place
         self.communicator = self.root = self.operation = self.type = self.name = self.request = None
         self.result = self.key = self.graph = self.sent = self.awaited = self.shown = self.spelled = self.words = self.plain = self.named = None
         self.lists, self.items, self.nonblocking, self.thread, self.slips = [], '', False, 1, ()
-        self.own = self.fold = self.grid = None
+        self.own = self.fold = self.grid = self.total = self.merged = None
+        self.digests = {}
         self.kind = kind
         if kind.startswith('i') and kind[1:] in FIELDS: self.kind, self.nonblocking = kind[1:], True
         if tag == 'call': self.read_call(rest)
@@ -89,7 +94,7 @@ class Part:
         if self.items and not NUMBERS.fullmatch(self.items): raise ValueError('words of ' + self.kind)
         if self.items and not self.type or amount_of(self.items) % self.numbers_an_item(): raise ValueError('items of ' + self.kind)
 
-    def numbers_an_item(self): return 2 if self.type == '2int' else BITS.get(self.type, 1)
+    def numbers_an_item(self): return numbers_each(self.type)
 
     def amount(self):
         """How many items it gives."""

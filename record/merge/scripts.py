@@ -1,10 +1,9 @@
 """Scripts within gossipmpi's limits: each has the calls that make its communicators, and a piece of the others."""
-from .choice import CUT
+from . import blocks
 from .parts import Part
 
 STATEMENTS, BYTES = 65536, 1048576 - 64
 TOO_LONG = 'more bytes than a script has'
-COUNTED = ('bcast', 'scatter', 'alltoall', 'reduce_scatter_block')       # these have their count in the statement
 
 
 class Scripts:
@@ -93,7 +92,7 @@ class Cutter:
             pieces = self.blocks_in(key)
             for part in self.calls.rows[key].values():
                 statements += pieces * (2 if part.nonblocking else 1) + (3 if part.graph else 0)
-                size += len(part.items) + 100 + len(''.join(part.lists)) + (pieces - 1) * 90 + (pieces * 48 if part.nonblocking else 0)
+                size += len(part.items) + pieces * (100 + len(''.join(part.lists))) + (pieces * 48 if part.nonblocking else 0)
                 if part.graph: size += len(''.join(part.graph)) + 160
         return statements, size
 
@@ -164,23 +163,11 @@ class Script:
     def cut(self, part, result, communicator):
         """A call on many items as calls on blocks of items: statements, requests' names, and what this MPI gave."""
         length, step = self.choice.blocks[part.key]
-        numbers, given, width = part.items.split(), (result or '').split(), part.numbers_an_item()
-        has_numbers = len(given) > 1 or result is not None and result.lstrip('-').isdigit()
-        blocks_in, blocks_out = CUT[part.kind]
-        found = []
+        size, found = len(self.calls.members[part.key[0]]), []
         for number in self.have[part.key] or range(-(-length // step)):
-            start, end = number * step, min(length, number * step + step)
             piece = Part(part.rank, part.id, 'call', part.place, 'barrier', part.communicator)
             piece.kind, piece.root, piece.operation, piece.type, piece.nonblocking = part.kind, part.root, part.operation, part.type, part.nonblocking
-            piece.lists = [str(end - start)] if part.kind in COUNTED else []
-            piece.items = ' '.join(taken(numbers, start * width, end * width, length * width if blocks_in else None))
+            piece.lists, piece.items, block = blocks.piece_of(part, result, size, number * step, number * step + step)
             if part.nonblocking: piece.name = '%s_%d' % (part.name, number)
-            block = ' '.join(taken(given, start * width, end * width, length * width if blocks_out else None)) if has_numbers else result
             found.append((piece.text(communicator), piece.name, block))
         return found
-
-
-def taken(numbers, start, end, length):
-    """The numbers from start to end, of each block where there are blocks of that length."""
-    if length is None: return numbers[start:end]
-    return [number for first in range(0, len(numbers), length) for number in numbers[first + start:first + end]]

@@ -5,6 +5,7 @@ import collections
 
 from .asked import IN_USE_KIND, OVERLAPS, ROOTS, UNCOMPLETED, UNFREED
 from .folds import leaves_range
+from .parts import FOLDS
 
 SHOWN_PLACES = 4
 Slip = collections.namedtuple('Slip', 'kind title parts')           # what is forbidden, by a name of --accept
@@ -86,8 +87,12 @@ class Slips:
             if self.record.ended[rank] != 'end': continue
             done = {part.request for part in parts if part.kind == 'wait'}
             for part in parts:
-                if part.nonblocking and part.tag == 'call' and part.result is None and (part.request or part.name) not in done:
+                if part.nonblocking and (part.tag == 'call' and part.result is None and (part.request or part.name) not in done or self.is_open_digest(part, done)):
                     self.group(part, 'its request is never completed', UNCOMPLETED)
+
+    def is_open_digest(self, part, done):
+        """A call that is held by hashes. Older records have no waits for such calls."""
+        return self.record.has_digests and part.tag == 'left' and part.words[-1] == 'items' and part.kind not in FOLDS and 'q%d' % part.id not in done
 
     def unfreed(self):
         """Communicators that are never freed. Those that some ranks free and others don't are an error: MPI_Comm_free is a collective."""

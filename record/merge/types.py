@@ -2,7 +2,7 @@
 representation are one here. MPI_PACKED matches everything, MPI_BYTE itself alone."""
 import itertools
 
-from .parts import FOLDS
+from .parts import FOLDS, amount_of, numbers_each
 
 BASIC = {'2int': 'i32+i32', 'f32_int': 'f32+i32', 'f64_int': 'f64+i32', 'f80_int': 'f80+i32', 'i64_int': 'i64+i32', 'i16_int': 'i16+i32',
          '2f32': '2.f32', '2f64': '2.f64'}
@@ -51,20 +51,21 @@ def spelled(block): return '%d %s' % block
 
 
 def sides_of(part, size):
-    """What a rank sends and awaits, as lists of blocks: of the line `types`, or else of the statement."""
+    """What a rank sends and awaits, as lists of blocks: of the line `types`, or else of the statement, as the program has it."""
     if part.sent is not None: return blocks_of(part.sent), blocks_of(part.awaited)
     if part.tag != 'call' or part.type is None: return None, None
-    basics = BASIC.get(part.type, '?' if part.type == 'bytes' else part.type)
-    lists = [[(int(count), basics) for count in words.split(',') if count != '-'] for words in part.lists]
-    own = [(part.amount(), basics)]
+    named, counts, items = part.shown or (part.type, part.lists, part.items)
+    basics, amount = BASIC.get(named, '?' if named == 'bytes' else named), amount_of(items) // numbers_each(named)
+    lists = [[(int(count), basics) for count in words.split(',') if count != '-'] for words in counts]
+    own = [(amount, basics)]
     if part.kind == 'bcast': return None, lists[0]
     if part.kind in FOLDS: return own, own
     if part.kind in ('gather', 'allgather'): return own, own
     if part.kind in ('gatherv', 'allgatherv'): return own, lists[0] or None
-    if part.kind == 'scatter': return ([(part.amount() // size, basics)] if part.items else None), lists[0]
+    if part.kind == 'scatter': return ([(amount // size, basics)] if items else None), lists[0]
     if part.kind == 'scatterv': return lists[0] or None, lists[1]
     if part.kind == 'alltoall': return lists[0], lists[0]
-    if part.kind in ('alltoallv', 'neighbor_alltoallv', 'neighbor_alltoall'): return lists[0], lists[1]
+    if part.kind in ('alltoallv', 'alltoallw', 'neighbor_alltoallv', 'neighbor_alltoallw', 'neighbor_alltoall'): return lists[0], lists[1]
     if part.kind.startswith('neighbor_allgather'): return own, lists[0]
     return None, None
 

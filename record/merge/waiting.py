@@ -2,6 +2,7 @@
 left out, an endless test, a rank that ended."""
 import collections, re
 
+from .around import counts
 from .comparison import ADDRESS
 from .parts import MESSAGES, WAITS
 from .slips import ranks_of
@@ -38,12 +39,19 @@ class Waiting:
         self.record, self.calls, self.comparison = record, calls, comparison
         self.open = [self.open_part(parts) for parts in record.parts]
         self.causes = {rank: cause for rank, cause in ((rank, self.cause(rank)) for rank in range(record.size)) if cause}
+        if record.troubles: self.causes, self.is_outside, self.lines = {}, False, []; return        # where ranks were isn't known
         unended = [rank for rank in range(record.size) if record.ended[rank] != 'end']
         is_hang = 'hang' in record.ended or all(self.is_stuck(rank) for rank in unended)
         self.is_outside = bool(unended) and not self.causes and not is_hang
         self.lines = self.lines_of_end() if self.causes else self.lines_from_outside(unended) if self.is_outside else self.lines_of_waits()
         is_somewhere = self.lines and not record.has_messages and any(self.is_going_on(rank) and self.open[rank] is None for rank in range(record.size))
+        if self.lines and not self.causes and not self.is_outside: self.lines += self.counts()
         if is_somewhere: self.lines.append('with RECORD_MESSAGES=1 a record tells in which message a rank is')
+
+    def counts(self):
+        """Where ranks wait, which of them made fewer calls at a line than the others."""
+        communicators = dict.fromkeys(call.key[0] for rank in range(self.record.size) if self.open[rank] for call in self.asked(rank) if call.key)
+        return [line[2:] for communicator in communicators for line in counts(self.record, self.calls, communicator)]
 
     def is_going_on(self, rank): return self.record.ended[rank] in (None, 'signal', 'hang', 'exit') and rank not in self.causes
 

@@ -1,4 +1,4 @@
-/* calls that aren't recorded, each counted under its own name: on an intercommunicator, on what was made of it, partitioned messages */
+/* calls that are counted under their own names: partitioned messages; others between the groups of an intercommunicator, and on what is merged of it */
 #include <mpi.h>
 #define W MPI_COMM_WORLD
 int main(int argc, char **argv)

@@ -228,6 +228,16 @@ DEFINE(Comm_size, MPI_Comm comm, int *size) { (void)comm; *size = 1; return 0; }
 DEFINE(Comm_rank, MPI_Comm comm, int *rank) { (void)comm; *rank = 0; return 0; }
 DEFINE(Comm_compare, MPI_Comm one, MPI_Comm other, int *relation) { *relation = one == other ? MPI_IDENT : MPI_CONGRUENT; return 0; }
 DEFINE(Comm_group, MPI_Comm comm, MPI_Group *group) { (void)comm; *group = &all; return 0; }
+/* One rank has no intercommunicators. */
+DEFINE(Comm_remote_size, MPI_Comm comm, int *size) { (void)comm; *size = 0; return 1; }
+DEFINE(Comm_remote_group, MPI_Comm comm, MPI_Group *group) { (void)comm; *group = &stub_empty; return 1; }
+DEFINE(Intercomm_create, MPI_Comm own, int leader, MPI_Comm peer, int other, int tag, MPI_Comm *new)
+{
+    (void)own; (void)leader; (void)peer; (void)other; (void)tag;
+    *new = MPI_COMM_NULL;
+    return 1;
+}
+DEFINE(Intercomm_merge, MPI_Comm across, int high, MPI_Comm *new) { (void)across; (void)high; *new = MPI_COMM_NULL; return 1; }
 DEFINE(Comm_free, MPI_Comm *comm) { free(*comm); *comm = 0; return 0; }
 DEFINE(Comm_disconnect, MPI_Comm *comm) { return PMPI_Comm_free(comm); }
 DEFINE(Comm_dup, MPI_Comm comm, MPI_Comm *new) { make(new); **new = *comm; return 0; }
@@ -305,6 +315,8 @@ DEFINE(Init, int *argc, char ***argv) { (void)argc; (void)argv; return 0; }
 DEFINE(Init_thread, int *argc, char ***argv, int required, int *provided) { (void)argc; (void)argv; *provided = required; return 0; }
 DEFINE(Finalize, void) { return 0; }
 DEFINE(Abort, MPI_Comm comm, int code) { (void)comm; exit(code); }
+double MPI_Wtime(void) { return 0; }
+
 DEFINE(Get_version, int *version, int *part) { *version = 3; *part = 1; return 0; }
 DEFINE(Get_library_version, char *version, int *size) { strcpy(version, "stub of one rank"); *size = strlen(version); return 0; }
 DEFINE(Error_class, int error, int *class) { *class = error; return 0; }

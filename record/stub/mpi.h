@@ -42,6 +42,7 @@ typedef void MPI_Comm_errhandler_function(MPI_Comm *, int *, ...);
 #define MPI_DIST_GRAPH 3
 #define MPI_ANY_SOURCE (-1)
 #define MPI_PROC_NULL (-2)
+#define MPI_ROOT (-3)
 #define MPI_ANY_TAG (-1)
 #define MPI_CONGRUENT 1
 #define MPI_IDENT 0
@@ -188,6 +189,7 @@ BOTH(Finalize, void)
 BOTH(Abort, MPI_Comm, int)
 BOTH(Get_library_version, char *, int *)
 BOTH(Get_version, int *, int *)
+double MPI_Wtime(void);
 BOTH(Error_class, int, int *)
 BOTH(Error_string, int, char *, int *)
 BOTH(Errhandler_free, MPI_Errhandler *)
@@ -213,6 +215,10 @@ BOTH(Comm_size, MPI_Comm, int *)
 BOTH(Comm_rank, MPI_Comm, int *)
 BOTH(Comm_compare, MPI_Comm, MPI_Comm, int *)
 BOTH(Comm_group, MPI_Comm, MPI_Group *)
+BOTH(Comm_remote_size, MPI_Comm, int *)
+BOTH(Comm_remote_group, MPI_Comm, MPI_Group *)
+BOTH(Intercomm_create, MPI_Comm, int, MPI_Comm, int, int, MPI_Comm *)
+BOTH(Intercomm_merge, MPI_Comm, int, MPI_Comm *)
 BOTH(Comm_free, MPI_Comm *)
 BOTH(Comm_disconnect, MPI_Comm *)
 BOTH(Comm_dup, MPI_Comm, MPI_Comm *)

@@ -29,6 +29,8 @@ use Rattle.mpx_ranks.proofs.Values.{had_value}
 use Rattle.mpx_ranks.specs.Had.{GoesOn, HadBy, HadIn, goes_nowhere}
 use Rattle.mpx_ranks.specs.Members.{IsSeated, setup_of}
 use Rattle.mpx_ranks.specs.Ranks.{Answers, AreOfOneHistory, AreQuitters, Gives, HasAnswered, HasGivenUp, HasWorked, HaveRun, IsReady, world_at, world_in}
+use Rattle.std.specs.declared.sync.ledger.Ledger.{Ghosts as LedgerOf}
+use Rattle.mpx_ranks.specs.declared.crew.Job.{Ghosts as JobOf}
 use Rattle.mpx_ranks.specs.Works.{AreOfBus, AreWorks, IsWork, answer_of, port_of}
 
 -- LISTS
@@ -45,9 +47,9 @@ length_take (suc n) (x ∷ xs) l = ap suc (length_take n xs (omega (arith, l)))
 
 -- WHAT EACH HAS TO DO
 
-pub one_work_more : {K P R : Type 0} (program : P) (table : TableId) (ranks size : ℕ) (ports : List PortView) (works : List (Work K P R)) (port : PortView) (work : Work K P R)
+pub one_work_more : {K P R : Type 0} {job : JobOf K} {ledger : LedgerOf K} (program : P) (table : TableId) (ranks size : ℕ) (ports : List PortView) (works : List (Work K P R job ledger)) (port : PortView) (work : Work K P R job ledger)
     → AreWorks program table ranks size ports works → IsWork program table ranks size (length works) port work → AreWorks program table ranks size (ports ++ port ∷ []) (works ++ work ∷ [])
-one_work_more {K} {P} {R} program table ranks size ports works port work are is = record {
+one_work_more {K} {P} {R} {job} {ledger} program table ranks size ports works port work are is = record {
   count = length-append works (work ∷ []) ∙ ap (λ n. n + 1) are.count ∙ sym (length-append ports (port ∷ []));
   each = λ i p w e f. slice_get-push_cases (λ x k. slice_get (ports ++ port ∷ []) k ≡ Some p → IsWork program table ranks size k p x) works work i w f
       (λ old e'. slice_get-push_cases (λ q k. slice_get works k ≡ Some w → IsWork program table ranks size k q w) ports port i p e'
@@ -55,13 +57,13 @@ one_work_more {K} {P} {R} program table ranks size ports works port work are is 
       (λ same last g. let l = within_get works i w g in absurd (omega (arith, l, last, are.count))) old)
       (λ same last e'. slice_get-push_cases (λ q k. k ≡ length works → IsWork program table ranks size k q w) ports port i p e'
       (λ before now. let l = within_get ports i p before in absurd (omega (arith, l, now, are.count)))
-      (λ here _ now. subst (λ (z : ℕ × (PortView × Work K P R)). IsWork program table ranks size z.0 z.1.0 z.1.1) (λ k. (sym now k, (here k, same k))) is) last) e;
+      (λ here _ now. subst (λ (z : ℕ × (PortView × Work K P R job ledger)). IsWork program table ranks size z.0 z.1.0 z.1.1) (λ k. (sym now k, (here k, same k))) is) last) e;
 }
 
 -- so each can begin
-pub ready_at : {K P R A : Type 0} (gives : P → Gives A) (says : P → A → Type 0) (gave_up : ℕ → Type 0) (program : P) (operations : List Operation) (ranks size : ℕ) (table : TableId) (ports : List PortView) (works : List (Work K P R)) → ranks ≤ 64 → IsFleet (setup_of operations ranks size) table size ports → AreWorks program table ranks size ports works
+pub ready_at : {K P R A : Type 0} {job : JobOf K} {ledger : LedgerOf K} (gives : P → Gives A) (says : P → A → Type 0) (gave_up : ℕ → Type 0) (program : P) (operations : List Operation) (ranks size : ℕ) (table : TableId) (ports : List PortView) (works : List (Work K P R job ledger)) → ranks ≤ 64 → IsFleet (setup_of operations ranks size) table size ports → AreWorks program table ranks size ports works
     → AreQuitters (gives program) (says program) (setup_of operations ranks size) gave_up
-    → (i : ℕ) (t : Work K P R) → slice_get works i ≡ Some t
+    → (i : ℕ) (t : Work K P R job ledger) → slice_get works i ≡ Some t
     → (t.ranks ≤ 64) × IsReady operations t.ranks t.size t.me (table_of t.bus.now) t.port × AreQuitters (gives t.program.now) (says t.program.now) (setup_of operations t.ranks t.size) gave_up
 ready_at {K} {P} {R} {A} gives says gave_up program operations ranks size table ports works few fleet are quitters i t e =
     let l = within_get works i t e in
@@ -121,9 +123,9 @@ has_worked gives operations ranks size me table port b answer new sits gave =
 
 -- WHAT EACH PROCESS DID
 
-module _ {K P R A : Type 0} (gives : P → Gives A) (program : P) (operations : List Operation) (ranks size : ℕ) (table : TableId) (ports : List PortView) (works : List (Work K P R)) (worked : List (Worked A))
+module _ {K P R A : Type 0} {job : JobOf K} {ledger : LedgerOf K} (gives : P → Gives A) (program : P) (operations : List Operation) (ranks size : ℕ) (table : TableId) (ports : List PortView) (works : List (Work K P R job ledger)) (worked : List (Worked A))
     (fleet : IsFleet (setup_of operations ranks size) table size ports) (are : AreWorks program table ranks size ports works)
-    (all : AllGive (λ (t : Work K P R) (r : Worked A). HasWorked (gives t.program.now) t.port.setup.operations t.ranks t.size t.me (table_of t.bus.now) r.port r.answer) works worked) where
+    (all : AllGive (λ (t : Work K P R job ledger) (r : Worked A). HasWorked (gives t.program.now) t.port.setup.operations t.ranks t.size t.me (table_of t.bus.now) r.port r.answer) works worked) where
   abbrev setup : Setup
   setup = setup_of operations ranks size
 

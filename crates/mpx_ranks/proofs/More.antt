@@ -1,5 +1,5 @@
 -- What a port does in a call or a turn it does beside what it did.
-use Rattle.std.proofs.Common.{◌≡◌, ℕ, List, [], ◌∷◌, ◌++◌, Result, Ok, Err, refl, sym, ap, ◌∙◌, ⊎_elim}
+use Rattle.std.proofs.Common.{◌≡◌, ℕ, List, [], ◌∷◌, ◌++◌, Result, Ok, Err, refl, subst, sym, ap, ◌∙◌, ⊎_elim}
 use Rattle.std.specs.Prelude.{◌≢◌, IfErr, IfOk, OnErr, OnOk}
 use Rattle.std.proofs.lemmas.List.{append-nil}
 use Rattle.join_core.specs.declared.memory.OutOfMemory.{OutOfMemory}
@@ -15,7 +15,7 @@ use Rattle.mpx_name.specs.Name.{Name}
 use Rattle.mpx_node.specs.declared.node.Harvest.{Harvest}
 use Rattle.mpx_node.specs.declared.node.Harvest.TheVariants as H
 use Rattle.mpx_ranks.proofs.Quiet.{two}
-use Rattle.mpx_ranks.specs.Had.{DoesMore, GoesOn, does_nothing, does_then}
+use Rattle.mpx_ranks.specs.Had.{DoesMore, GoesOn, does_nothing, does_then, goes_nowhere}
 
 pub does_one : (a b : PortView) (act : Act) → b.journal ≡ a.journal ++ act ∷ [] → DoesMore a b
 does_one a b act e = record { more = act ∷ []; whole = e }
@@ -64,3 +64,7 @@ does_push limit (Err e) a b next err = does_nothing a b err
 pub goes_either : {T E : Type 0} (r : Result T E) (a b : PortView) (P : E → Type 0) → OnOk r (GoesOn a b) → IfErr r (λ e. GoesOn a b × P e) → GoesOn a b
 goes_either (Ok t) a b P ok err = ok
 goes_either (Err e) a b P ok err = err.0
+
+-- where nothing is done
+pub goes_still : (a b : PortView) → b ≡ a → GoesOn a b
+goes_still a b e = subst (GoesOn a) (sym e) (goes_nowhere a)

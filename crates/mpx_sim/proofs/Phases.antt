@@ -11,10 +11,10 @@ are-push : (P : Doing → Type 0) (ds : List Doing) (d : Doing) → AreAllSo P d
 are-push P [] d h k = (k, tt)
 are-push P (x ∷ ds) d h k = (h.0, are-push P ds d h.1 k)
 
-none_by : (P : Doing → Type 0) (ranks : ℕ) (s : System) → LeadsBy P ranks s s
+pub none_by : (P : Doing → Type 0) (ranks : ℕ) (s : System) → LeadsBy P ranks s s
 none_by P ranks s = record { doings = []; are = tt; may = tt; reached = refl }
 
-more_by : (P : Doing → Type 0) (ranks : ℕ) (from to : System) (d : Doing) → LeadsBy P ranks from to → P d → MayDo ranks to d → LeadsBy P ranks from (does to d)
+pub more_by : (P : Doing → Type 0) (ranks : ℕ) (from to : System) (d : Doing) → LeadsBy P ranks from to → P d → MayDo ranks to d → LeadsBy P ranks from (does to d)
 more_by P ranks from to d l is m = record {
   doings = l.doings ++ d ∷ [];
   are = are-push P l.doings d l.are is;
@@ -28,7 +28,7 @@ pub under_itself : (frames : List FrameView) → All (IsUnder frames) frames
 under_itself frames k d l = (k, slice_get-get_or frames k d l)
 
 -- one more is done
-pub since_on : (ranks size : ℕ) (begun : Moment) (phase : Phase) (frames : List FrameView) (s : System) → Since ranks size begun phase frames s → (d : Doing) → IsIn phase d → MayDo ranks s d → Since ranks size begun phase frames (does s d)
+abbrev pub since_on : (ranks size : ℕ) (begun : Moment) (phase : Phase) (frames : List FrameView) (s : System) → Since ranks size begun phase frames s → (d : Doing) → IsIn phase d → MayDo ranks s d → Since ranks size begun phase frames (does s d)
 since_on ranks size begun Alone frames s h d is m = (more_by IsOwn ranks begun.system s d h.0 is m, h.1)
 since_on ranks size begun Saying frames s h d is m = (record { alone = h.0.alone; own = h.0.own; left = h.0.left; says = more_by IsSaid ranks h.0.alone s d h.0.says is m }, h.1)
 since_on ranks size begun (Coming turn t) frames s h d is m = (record { sent = h.0.sent; going = h.0.going; comes = more_by IsTaken ranks h.0.sent.system s d h.0.comes is m; mixed = h.0.mixed }, h.1)
@@ -40,7 +40,7 @@ begins ranks size m = (none_by IsOwn ranks m.system, refl)
 pub says_now : (ranks size : ℕ) (begun : Moment) (frames : List FrameView) (s : System) → Since ranks size begun Alone frames s → IsLeft ranks s.ranks → Since ranks size begun Saying frames s
 says_now ranks size begun frames s h left = (record { alone = s; own = h.0; left = left; says = none_by IsSaid ranks s }, h.1)
 
-pub comes_now : (ranks size turn : ℕ) (begun sent : Moment) → HasSent ranks size turn begun sent → Since ranks size begun (Coming turn (drawn_for sent.frames sent.schedule)) sent.frames sent.system
+abbrev pub comes_now : (ranks size turn : ℕ) (begun sent : Moment) → HasSent ranks size turn begun sent → Since ranks size begun (Coming turn (drawn_for sent.frames sent.schedule)) sent.frames sent.system
 comes_now ranks size turn begun sent h = (record { sent = sent; going = h; comes = none_by IsTaken ranks sent.system; mixed = refl }, IsPermutation-refl sent.frames)
 
 -- a turn more

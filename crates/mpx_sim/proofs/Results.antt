@@ -93,7 +93,8 @@ module _ (ops : List Operation) (script : ScriptView) (relays : ℕ) (begun : Mo
       no_move ops script.ranks run.system p l v.0 (run.each p v.0 v.1) told hand (lack p v.0 l v.1)
 
   pub is_over : (loss : ℕ) → RestsBy loss script.ranks processes → IsOver ops script relays loss (nodes_of processes) transcripts waiting
-  is_over loss (inl finished) = record { run = is_run; over = inl (which_none (λ p. is_waiting_at (slice_get processes p)) script.ranks finished) }
+  unfolding is_run
+  is_over loss (inl done) = record { run = is_run; over = inl (which_none (λ p. is_waiting_at (slice_get processes p)) script.ranks done) }
   is_over loss (inr (inl rest)) = record { run = is_run; over = inr (inl rest.0, all_wait rest.1) }
   is_over loss (inr (inr lost)) = record { run = is_run; over = inr (inr lost.0, all_wait lost.1) }
 

@@ -19,7 +19,7 @@ use Rattle.mpx_world.proofs.Lists.{itself, slice_get-push_cases}
 use Rattle.mpx_sim.specs.declared.frame_under_way.FrameUnderWay.{FrameUnderWay}
 use Rattle.mpx_sim.specs.declared.process.Process.{Process}
 use Rattle.mpx_sim.specs.Draws.{ScheduleView}
-use Rattle.mpx_sim.specs.Running.{HasCome, HaveCome, HaveGrown, IsUnderWay, Keeps, Moves, ProcessView}
+use Rattle.mpx_sim.specs.Running.{HasCome, HaveCome, HaveGrown, HaveSent, IsUnderWay, Keeps, Moves, ProcessView}
 use Rattle.mpx_sim.specs.Shown.{frame_of, part_of, process_of}
 use Rattle.mpx_sim.specs.SideBySide.{AllGoOn, AllMake, AreMade, AreReady, GoesOn, IsReady, Makes, all_taken, comes, taken, to_send, took}
 use Rattle.mpx_sim.specs.Senders.{SenderView, then_by}

@@ -163,7 +163,8 @@ impl<'a> Process<'a> {
     {
         let ahead = self.notes.ahead.take();
         if let Some(last) = &self.notes.last {
-            return one_frame(alloc, last);
+            let again = one_frame(alloc, last)?;
+            return Ok(again);
         }
         let list = new_list(alloc, &mut self.carrier.node, ahead, &mut self.notes.spare)?;
         let last = kept_of(alloc, list.as_slice(), keeps)?;

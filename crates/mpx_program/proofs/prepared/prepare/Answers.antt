@@ -1,5 +1,4 @@
-use Rattle.std.proofs.Common.{◌∙◌, [], IfOk, subst}
-use Rattle.mpx_explain.specs.RefusedLines.{AreRefusalsTold}
+use Rattle.std.proofs.Common.{◌∙◌}
 use Rattle.mpx_program.proofs.Answering.{fails_text, fails_unread, no_refusal}
 use Rattle.mpx_program.proofs.prepared.prepare.Goals as goal
 
@@ -13,7 +12,7 @@ pub returns-in-Err-with_script-clause-told : goal.returns-in-Err-with_script-cla
 returns-in-Err-with_script-clause-told g c = λ refusal is. (
   c.in-Ok.text.items,
   c.in-Ok.ensures.input,
-  λ on. subst (λ xs. IfOk c.in-Err-with_script.failed.more (λ lines. AreRefusalsTold _ xs [] lines.items)) c.deref.ensures.value (c.in-Err-with_script.ensures.told refusal is on),
+  λ on. let told = c.in-Err-with_script.ensures.told refusal is on in rw c.deref.ensures.value at told,
 )
 
 pub returns-in-Err-clause-told : goal.returns-in-Err-clause-told

@@ -1,8 +1,8 @@
-use Rattle.std.proofs.Common.{Ok, inr, refl, subst}
+use Rattle.std.proofs.Common.{Ok, Some, inr, refl, subst}
 use Rattle.mpx_bus.specs.Ports.{node_in}
 use Rattle.mpx_name.specs.Name.{Name}
 use Rattle.mpx_node.specs.Nodes.{NodeView}
-use Rattle.mpx_node.specs.Settling.{HasDropped}
+use Rattle.mpx_node.specs.Settling.{HasDropped, IsToDrop}
 use Rattle.mpx_node.specs.Shown.{node_of}
 use Rattle.mpx_ranks.proofs.Due.{prunes_err}
 use Rattle.mpx_ranks.proofs.Quiet.{heard_none}
@@ -35,3 +35,7 @@ pub returns-in_err-name-clause-prunes : goal.returns-in_err-name-clause-prunes
 returns-in_err-name-clause-prunes c =
     prunes_err c.from_residual.result c.args.port.now c.from_residual.ensures.0
     (subst (λ (n : NodeView). (name : Name) × ¬ (HasDropped name n)) c.node.ensures.node (subst (λ r. FindsOne r (node_of c.node.result.now)) c.in_err-name.was c.first_to_drop.ensures))
+
+pub prune_on-requires : goal.prune_on-requires
+prune_on-requires c =
+    subst (λ (n : NodeView). IsToDrop c.in-Some.name n (Some c.in-Some.number)) c.node.ensures.node (subst (λ o. FindsOne (Ok o) (node_of c.node.result.now)) c.in-Some.is c.in_ok-name.ensures)

@@ -5,10 +5,10 @@ use Rattle.mpx_ranks.proofs.Quiet.{heard_prune}
 use Rattle.mpx_ranks.proofs.gossip.prune_on.Goals as goal
 
 pub returns-clause-more : goal.returns-clause-more
-returns-clause-more c = does_or_not c.prune-_pruned.result c.args.port.now c.prune-_pruned.new.self (A.Pruned c.args.name.now c.args.number) c.prune-_pruned.ensures.ok c.prune-_pruned.ensures.err
+returns-clause-more c = does_or_not c.prune-pruned.result c.args.port.now c.prune-pruned.new.self (A.Pruned c.args.name.now c.args.number) c.prune-pruned.ensures.ok c.prune-pruned.ensures.err
 
 pub returns-clause-heard : goal.returns-clause-heard
-returns-clause-heard c = heard_prune c.prune-_pruned.result c.args.name.now c.args.number c.args.port.now c.prune-_pruned.new.self c.prune-_pruned.ensures.port.same c.prune-_pruned.ensures.ok c.prune-_pruned.ensures.err
+returns-clause-heard c = heard_prune c.prune-pruned.result c.args.name.now c.args.number c.args.port.now c.prune-pruned.new.self c.prune-pruned.ensures.port.same c.prune-pruned.ensures.ok c.prune-pruned.ensures.err
 
 pub returns-clause-drops : goal.returns-clause-drops
-returns-clause-drops c = drops_one c.prune-_pruned.result c.args.name.now c.args.number c.args.port.now c.prune-_pruned.new.self c.prune-_pruned.ensures.port.same c.prune-_pruned.ensures.still.1 c.requires c.prune-_pruned.ensures.answer c.prune-_pruned.ensures.ok
+returns-clause-drops c = drops_one c.prune-pruned.result c.args.name.now c.args.number c.args.port.now c.prune-pruned.new.self c.prune-pruned.ensures.port.same c.prune-pruned.ensures.still.1 c.requires c.prune-pruned.ensures.answer c.prune-pruned.ensures.ok

@@ -8,7 +8,7 @@ use Rattle.mpx_node.specs.Shown.{node_of}
 use Rattle.mpx_rank.specs.Shown.{rank_of}
 use Rattle.mpx_post.proofs.Lists.{element, set_has, written}
 use Rattle.mpx_sim.specs.Running.{HaveGrown, IsUnderWay, ProcessView}
-use Rattle.mpx_sim.specs.Shown.{call_of, frame_of, part_of, process_of}
+use Rattle.mpx_sim.specs.Shown.{call_of, frame_of, part_of, process_of, sender_of}
 use Rattle.mpx_sim.proofs.Running.{run_takes}
 use Rattle.mpx_sim.proofs.SideBySide.{grown_at, grown_itself, ready_set}
 use Rattle.mpx_sim.specs.Turns.{Coming}
@@ -21,7 +21,7 @@ returns-clause-run g c ops script ranks size begun t frames i got run =
     let old = get_or xs p c.index-processes-frame.result in
     subst (λ (rs : List ProcessView). IsUnderWay ops script ranks size begun (Coming c.args.turn t) rs frames) (written process_of xs p c.receive.new.self)
     (subst (λ (v : ProcessView). IsUnderWay ops script ranks size begun (Coming c.args.turn t) (set (map process_of xs) p v) frames) (sym c.in_ok-receive.ensures.took)
-    (run_takes ops script ranks size begun (Coming c.args.turn t) (map process_of xs) frames run (λ q place. tt) p (rank_of call_of old.rank) (node_of old.carrier.node) i (frame_of c.args.frame.now) (element process_of xs p c.index-processes-frame.result (omega arith)) got))
+    (run_takes ops script ranks size begun (Coming c.args.turn t) (map process_of xs) frames run (λ q place. tt) p (rank_of call_of old.rank) (sender_of old.sender) (node_of old.carrier.node) i (frame_of c.args.frame.now) (element process_of xs p c.index-processes-frame.result (omega arith)) got))
 
 pub returns-clause-grown : goal.returns-clause-grown
 returns-clause-grown g c =

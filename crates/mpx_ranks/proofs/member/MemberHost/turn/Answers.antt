@@ -1,6 +1,8 @@
-use Rattle.std.proofs.Common.{rules}
-use Rattle.mpx_ranks.specs.Had.{goes_nowhere}
+use Rattle.std.proofs.Common.{◌≡◌, rules}
+use Rattle.mpx_ranks.proofs.More.{goes_still}
 use Rattle.mpx_ranks.proofs.member.MemberHost.turn.Goals as goal
 
-pub returns-then-is_some-clause-refused : goal.returns-then-is_some-clause-refused
-returns-then-is_some-clause-refused g c = (goes_nowhere c.args.self.now.port, search rules)
+pub returns-in-Some-clause-refused : goal.returns-in-Some-clause-refused
+returns-in-Some-clause-refused g c =
+    let same : c.if-is_none.self.port ≡ c.args.self.now.port = search rules in
+    (goes_still c.args.self.now.port c.if-is_none.self.port same, search rules)
