@@ -2,10 +2,9 @@
 //!
 //! Before these calls the ranks say how many items they give, by an `allgather`. Where the numbers differ, each rank gets the fault that one call
 //! would give, and none goes on by itself. A rank whose items fit into one call makes that call, which then meets the `allgather`: a fault too.
-ghost use Rattle.std.specs.Prelude.{◌≡◌, [], OnOk, pos};
-ghost use Rattle.mpx_kind.specs.declared.kinds.Mode.TheVariants.{Blocking};
-ghost use Rattle.mpx_comm.specs.Lines as line;
-ghost use Rattle.mpx_program_rank.specs.Lengths.{GivesInParts, HaveAgreed, block_of};
+ghost use Rattle.std.specs.Prelude.{◌≡◌, [], OnOk};
+ghost use Rattle.mpx_program_rank.specs.Gives.{Gives, IsRead};
+ghost use Rattle.mpx_program_rank.specs.Lengths.{GivesInParts, HaveAgreed, block_of, part_line};
 
 use crate::call_error::{CallError, Cause};
 use crate::item::Item;
@@ -16,6 +15,27 @@ use mpx_match::{Fault, FaultKind};
 use mpx_num::{MOST_ITEMS, Op};
 use mpx_post::PostError;
 use std::alloc::Global;
+
+/// A call that is made in parts, with what it is given besides items.
+#[derive(Clone, Copy)]
+pub(crate) enum Parted {
+    Reduce(u8, Op),
+    Allreduce(Op),
+    Scan(Op),
+    Exscan(Op),
+}
+
+impl Parted {
+    // Its name in MPI.
+    fn name(self) -> &'static str {
+        match self {
+            Parted::Reduce(_, _) => "reduce",
+            Parted::Allreduce(_) => "allreduce",
+            Parted::Scan(_) => "scan",
+            Parted::Exscan(_) => "exscan",
+        }
+    }
+}
 
 impl<'a, H: Host> Rank<'a, H> {
     /// How many items for each rank one call takes.
@@ -29,94 +49,46 @@ impl<'a, H: Host> Rank<'a, H> {
         MOST_ITEMS / size
     }
 
-    // Joins what the calls of all blocks give.
-    pub(crate) fn long_allreduce<T: Item>(
+    /// Joins what the calls of all blocks give.
+    pub(crate) fn in_parts<T: Item>(
         &mut self,
+        call: Parted,
         comm: &Comm,
-        op: Op,
         items: &[T],
     ) -> Result<Vec<T>, CallError>
-        ensures gives { GivesInParts (λ host. H.goes_by host []) H.node H.turned H.turn_refused comm.now.name (λ part. line.allreduce Blocking op T.ty (T.numbers part)) T.numbers self.old.turns items.now result self.old.desk.now self.new.desk.now }
+        ensures gives { GivesInParts (λ host. H.goes_by host []) H.node H.turned H.turn_refused comm.now.name (λ part. part_line call T.ty (T.numbers part)) T.numbers self.old.turns items.now result self.old.desk.now self.new.desk.now }
         ensures same { self.new.desk.ghost_name ≡ self.old.desk.ghost_name }
         ensures kept { (self.new.world ≡ self.old.world) × (self.new.turns ≡ self.old.turns) }
     {
-        self.agree("allreduce", comm, items.len())?;
+        self.agree(call.name(), comm, items.len())?;
         let mut list = Vec::new(self.alloc);
         let mut rest = items;
         while !rest.is_empty() {
             let (block, after) = rest.split_at(rest.len().min(MOST_ITEMS));
-            let part = self.one_allreduce(comm, op, block)?;
+            let part = self.one_part(call, comm, block)?;
             list.extend_from_slice(&part)?;
             rest = after;
         }
         Ok(list)
     }
 
-    pub(crate) fn long_reduce<T: Item>(
+    // The call of one block.
+    fn one_part<T: Item>(
         &mut self,
+        call: Parted,
         comm: &Comm,
-        root: u8,
-        op: Op,
         items: &[T],
     ) -> Result<Vec<T>, CallError>
-        ensures gives { GivesInParts (λ host. H.goes_by host []) H.node H.turned H.turn_refused comm.now.name (λ part. line.reduce Blocking (pos root) op T.ty (T.numbers part)) T.numbers self.old.turns items.now result self.old.desk.now self.new.desk.now }
+        ensures gives { Gives (H.goes_by self.old.desk.now.host []) H.node H.turned H.turn_refused comm.now.name (part_line call T.ty (T.numbers items.now)) self.old.turns (IsRead T.numbers) result self.old.desk.now self.new.desk.now }
         ensures same { self.new.desk.ghost_name ≡ self.old.desk.ghost_name }
         ensures kept { (self.new.world ≡ self.old.world) × (self.new.turns ≡ self.old.turns) }
     {
-        self.agree("reduce", comm, items.len())?;
-        let mut list = Vec::new(self.alloc);
-        let mut rest = items;
-        while !rest.is_empty() {
-            let (block, after) = rest.split_at(rest.len().min(MOST_ITEMS));
-            let part = self.one_reduce(comm, root, op, block)?;
-            list.extend_from_slice(&part)?;
-            rest = after;
+        match call {
+            Parted::Reduce(root, op) => self.one_reduce(comm, root, op, items),
+            Parted::Allreduce(op) => self.one_allreduce(comm, op, items),
+            Parted::Scan(op) => self.one_scan(comm, op, items),
+            Parted::Exscan(op) => self.one_exscan(comm, op, items),
         }
-        Ok(list)
-    }
-
-    pub(crate) fn long_scan<T: Item>(
-        &mut self,
-        comm: &Comm,
-        op: Op,
-        items: &[T],
-    ) -> Result<Vec<T>, CallError>
-        ensures gives { GivesInParts (λ host. H.goes_by host []) H.node H.turned H.turn_refused comm.now.name (λ part. line.scan Blocking op T.ty (T.numbers part)) T.numbers self.old.turns items.now result self.old.desk.now self.new.desk.now }
-        ensures same { self.new.desk.ghost_name ≡ self.old.desk.ghost_name }
-        ensures kept { (self.new.world ≡ self.old.world) × (self.new.turns ≡ self.old.turns) }
-    {
-        self.agree("scan", comm, items.len())?;
-        let mut list = Vec::new(self.alloc);
-        let mut rest = items;
-        while !rest.is_empty() {
-            let (block, after) = rest.split_at(rest.len().min(MOST_ITEMS));
-            let part = self.one_scan(comm, op, block)?;
-            list.extend_from_slice(&part)?;
-            rest = after;
-        }
-        Ok(list)
-    }
-
-    pub(crate) fn long_exscan<T: Item>(
-        &mut self,
-        comm: &Comm,
-        op: Op,
-        items: &[T],
-    ) -> Result<Vec<T>, CallError>
-        ensures gives { GivesInParts (λ host. H.goes_by host []) H.node H.turned H.turn_refused comm.now.name (λ part. line.exscan Blocking op T.ty (T.numbers part)) T.numbers self.old.turns items.now result self.old.desk.now self.new.desk.now }
-        ensures same { self.new.desk.ghost_name ≡ self.old.desk.ghost_name }
-        ensures kept { (self.new.world ≡ self.old.world) × (self.new.turns ≡ self.old.turns) }
-    {
-        self.agree("exscan", comm, items.len())?;
-        let mut list = Vec::new(self.alloc);
-        let mut rest = items;
-        while !rest.is_empty() {
-            let (block, after) = rest.split_at(rest.len().min(MOST_ITEMS));
-            let part = self.one_exscan(comm, op, block)?;
-            list.extend_from_slice(&part)?;
-            rest = after;
-        }
-        Ok(list)
     }
 
     pub(crate) fn long_bcast<T: Item>(
@@ -232,18 +204,18 @@ impl<'a, H: Host> Rank<'a, H> {
         ensures same { self.new.desk.ghost_name ≡ self.old.desk.ghost_name }
         ensures kept { (self.new.world ≡ self.old.world) × (self.new.turns ≡ self.old.turns) }
     {
-        let counts = self.one_allgather(comm, &[count as u64])?;
-        let mut rank: u8 = 0;
-        for &other in &counts {
-            if Some(&other) != counts.first() {
-                let what = FaultKind::Amount;
-                let cause = Cause::Fault(Fault { what, rank });
-                let made = Made::new(name, comm, count);
-                return Err(self.failed(made, self.last_call(comm), cause));
-            }
-            rank = rank.saturating_add(1);
+        match self.one_allgather(comm, &[count as u64]) {
+            Ok(counts) => match first_other(&counts) {
+                None => Ok(()),
+                Some(rank) => {
+                    let what = FaultKind::Amount;
+                    let cause = Cause::Fault(Fault { what, rank });
+                    let made = Made::new(name, comm, count);
+                    Err(self.failed(made, self.last_call(comm), cause))
+                }
+            },
+            Err(e) => Err(e),
         }
-        Ok(())
     }
 
     // That a call is given as many items as it takes.
@@ -253,6 +225,18 @@ impl<'a, H: Host> Rank<'a, H> {
         }
         Err(self.refused(made, PostError::ItemsLength))
     }
+}
+
+// The first rank that gives another number than rank 0, where one does.
+fn first_other(counts: &[u64]) -> Option<u8> {
+    let mut rank: u8 = 0;
+    for other in counts {
+        if Some(other) != counts.first() {
+            return Some(rank);
+        }
+        rank = rank.saturating_add(1);
+    }
+    None
 }
 
 // So many items from a place on, as far as there are.
