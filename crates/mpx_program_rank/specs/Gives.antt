@@ -42,6 +42,11 @@ desk_error NoComm = None
 desk_error NotKnown = None
 desk_error NoTopology = None
 
+-- the rank that gave up
+abbrev pub quitter_of : Cause → Option ℕ
+quitter_of (GaveUp request rank) = Some rank
+quitter_of cause = None
+
 -- why the numbers that a call gave are no list of items: it gave none but a fault, one is out of range, or memory was short
 abbrev pub IsUnread : Result (List ℤ) FaultView → Cause → Type 0
 IsUnread (Err fault) cause = cause ≡ Fault fault
@@ -54,20 +59,16 @@ IsRead numbers (Ok finished) (Err e) = IsUnread (numbers_given finished.outcome)
 IsRead numbers (Err why) (Ok list) = ⊥
 IsRead numbers (Err why) (Err e) = desk_error e.cause ≡ Some why
 
--- a list isn't of one item, and that is the cause
-abbrev pub IsNotOne : {T : Type 0} → List T → Cause → Type 0
-IsNotOne list cause = (length list ≢ 1) × (cause ≡ NotOne (length list))
+-- the one item of a list; or that it has another number of items; or why there is no list
+abbrev pub IsOnly : {T : Type 0} → Result (Vec T Global) CallError → Result T CallError → Type 0
+IsOnly (Ok list) (Ok item) = list.items ≡ item ∷ []
+IsOnly (Ok list) (Err e) = (length list.items ≢ 1) × (e.cause ≡ NotOne (length list.items))
+IsOnly (Err why) (Ok item) = ⊥
+IsOnly (Err why) (Err e) = e ≡ why
 
--- the one item of just the numbers that the call gave this rank; or why there is none
-abbrev pub IsOne : {T : Type 0} → (numbers : List T → List ℤ) → Result Finished DeskError → Result T CallError → Type 0
-IsOne numbers (Ok finished) (Ok item) = numbers_given finished.outcome ≡ Ok (numbers (item ∷ []))
-IsOne {T} numbers (Ok finished) (Err e) = IsUnread (numbers_given finished.outcome) e.cause ⊎ ((list : List T) × (numbers_given finished.outcome ≡ Ok (numbers list)) × IsNotOne list e.cause)
-IsOne numbers (Err why) (Ok item) = ⊥
-IsOne numbers (Err why) (Err e) = desk_error e.cause ≡ Some why
-
--- the item at the root, and none elsewhere
-abbrev pub own_item : {T : Type 0} → (rank root : ℕ) → T → List T
-own_item rank root item = if rank == root then item ∷ [] else []
+-- the items at the root, and none elsewhere
+abbrev pub root_items : {T : Type 0} → (rank root : ℕ) → List T → List T
+root_items rank root items = if rank == root then items else []
 
 -- the call is done, and no fault
 abbrev pub IsDone : Result Finished DeskError → Result (Unit {0}) CallError → Type 0
@@ -101,6 +102,11 @@ IsNotMade (Err e) old new = (new ≡ old) × (e.cause ≡ OutOfMemory)
 abbrev pub Gives : {H : Type 0} {g : _} {A : Type 0} → List Operation → (node : H → NodeView) → (turned : H → ℕ → H → Type 0) → (refused : H → TurnError → H → Type 0) → Name → Draft → (turns : ℕ) → (is_read : Result Finished DeskError → Result A CallError → Type 0) → Result A CallError → (old new : Desk H g) → Type 0
 Gives ops node turned refused name draft turns is_read result old new =
     IsNotMade result old new ⊎ ((answer : Result Finished DeskError) × DeskCalls ops node turned refused name draft turns answer old new × is_read answer result)
+
+-- the same where the list that the call gives is of one item, and that is answered
+abbrev pub GivesOne : {H : Type 0} {g : _} {T : Type 0} → List Operation → (node : H → NodeView) → (turned : H → ℕ → H → Type 0) → (refused : H → TurnError → H → Type 0) → Name → Draft → (turns : ℕ) → (numbers : List T → List ℤ) → Result T CallError → (old new : Desk H g) → Type 0
+GivesOne {H} {g} {T} ops node turned refused name draft turns numbers result old new =
+    (list : Result (Vec T Global) CallError) × Gives ops node turned refused name draft turns (IsRead numbers) list old new × IsOnly list result
 
 -- the same of `create_group`
 abbrev pub GivesGathered : {H : Type 0} {g : _} {A : Type 0} → List Operation → (node : H → NodeView) → (turned : H → ℕ → H → Type 0) → (refused : H → TurnError → H → Type 0) → (parent : Name) → (tag : ℤ) → (ranks : List ℤ) → (turns : ℕ) → (is_read : Result Finished DeskError → Result A CallError → Type 0) → Result A CallError → (old new : Desk H g) → Type 0

@@ -15,6 +15,7 @@ use Rattle.mpx_request.specs.declared.answers.WaitError.TheVariants as W
 use Rattle.mpx_request.specs.declared.request.Request.{Request}
 use Rattle.mpx_request.specs.Requests.{Tests, TestsAny, Waits}
 use Rattle.mpx_request.specs.Any.{WaitsAny}
+use Rattle.mpx_request.specs.Turns.{MakesTurns}
 use Rattle.mpx_comm.specs.declared.desk.Desk.{Desk}
 use Rattle.mpx_comm.specs.Given.{numbers_given}
 use Rattle.mpx_program_rank.specs.declared.call_error.CallError.{CallError}
@@ -45,6 +46,26 @@ abbrev pub WaitGives : {H : Type 0} {g : _} {A : Type 0} → (node : H → NodeV
 WaitGives node turned refused request turns is_read result old new =
     (answer : Result Finished (WaitError Request)) × Waits node turned refused request turns answer old.host new.host old.requests.keys new.requests.keys × is_read answer result
 
+-- what the desk's wait for any answered where a wait has this cause
+abbrev pub any_error : Cause → Option (WaitError (Unit {0}))
+any_error (StillWaiting None turns awaited) = Some (W.StillWaiting (tt {0}))
+any_error (NoMemory None) = Some (W.OutOfMemory (tt {0}))
+any_error (GaveUp None rank) = Some (W.GaveUp (tt {0}) rank)
+any_error (LetGo None) = Some (W.LetGo (tt {0}))
+any_error cause = None
+
+-- the call that is done, with its result; or none; or why
+abbrev pub IsAnyWaited : Result (Option (Request × Finished)) (WaitError (Unit {0})) → Result (Option Done) CallError → Type 0
+IsAnyWaited (Ok (Some (request, finished))) (Ok (Some done)) = (done.request ≡ request) × (done.finished ≡ finished)
+IsAnyWaited (Ok None) (Ok None) = Unit {0}
+IsAnyWaited (Err why) (Err e) = any_error e.cause ≡ Some why
+IsAnyWaited answer result = ⊥
+
+-- a wait of the desk for any, of which this is read
+abbrev pub WaitAnyGives : {H : Type 0} {g : _} → List Operation → (node : H → NodeView) → (turned : H → ℕ → H → Type 0) → (refused : H → TurnError → H → Type 0) → (turns : ℕ) → Result (Option Done) CallError → (old new : Desk H g) → Type 0
+WaitAnyGives ops node turned refused turns result old new =
+    (answer : Result (Option (Request × Finished)) (WaitError (Unit {0}))) × WaitsAny ops node turned refused turns answer old.host new.host old.requests.keys new.requests.keys × IsAnyWaited answer result
+
 -- TESTS
 
 -- why a turn was refused
@@ -52,6 +73,17 @@ abbrev pub turn_error : Cause → Option TurnError
 turn_error (NoMemory request) = Some U.OutOfMemory
 turn_error (GaveUp request rank) = Some (U.GaveUp rank)
 turn_error cause = None
+
+-- turns were made, or why not
+abbrev pub IsTurned : Result (Unit {0}) TurnError → Result (Unit {0}) CallError → Type 0
+IsTurned (Ok u) (Ok v) = Unit {0}
+IsTurned (Err why) (Err e) = turn_error e.cause ≡ Some why
+IsTurned turns result = ⊥
+
+-- so many turns of the desk, and nothing else
+abbrev pub TurnsGive : {H : Type 0} {g : _} → (turned : H → ℕ → H → Type 0) → (refused : H → TurnError → H → Type 0) → (turns : ℕ) → Result (Unit {0}) CallError → (old new : Desk H g) → Type 0
+TurnsGive turned refused turns result old new =
+    (made : Result (Unit {0}) TurnError) × MakesTurns turned refused turns made old.host new.host × (new.requests.keys ≡ old.requests.keys) × IsTurned made result
 
 -- what a test says, of the turn before it and of the desk's test. It says that the call isn't done only where the turn was made
 abbrev pub IsTested : {T P : Type 0} → (numbers : List T → List ℤ) → (request_of : P → Request) → Result (Unit {0}) TurnError → Result (Tested Finished Request) (AllocFailed Request) → Result (Tested (Vec T Global) P) CallError → Type 0

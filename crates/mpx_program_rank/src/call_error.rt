@@ -1,5 +1,7 @@
 //! Why a call of a rank gave nothing.
-ghost use Rattle.std.specs.Prelude.{◌≡◌};
+ghost use Rattle.std.specs.Prelude.{◌≡◌, IfSome, Some};
+ghost use Rattle.mpx_program_rank.specs.Gives.{quitter_of};
+ghost use Rattle.mpx_program_rank.specs.declared.call_error.Cause.TheVariants as C;
 
 use crate::called::{Awaited, Called, Detail, Place};
 use mpx_match::Fault;
@@ -81,7 +83,9 @@ impl CallError {
     }
 
     /// The fault, where the posts of the call don't fit together.
-    pub fn fault(&self) -> Option<Fault> {
+    pub fn fault(&self) -> Option<Fault>
+        ensures { IfSome result (λ fault. self.now.cause ≡ C.Fault fault) }
+    {
         match &self.cause {
             Cause::Fault(fault) => Some(*fault),
             _ => None,
@@ -89,7 +93,9 @@ impl CallError {
     }
 
     /// The rank that gave up, where one did.
-    pub fn quitter(&self) -> Option<u8> {
+    pub fn quitter(&self) -> Option<u8>
+        ensures { IfSome result (λ rank. quitter_of self.now.cause ≡ Some rank) }
+    {
         match &self.cause {
             Cause::GaveUp(_, rank) => Some(*rank),
             _ => None,

@@ -8,8 +8,8 @@ ghost use Rattle.mpx_program_rank.specs.declared.call_error.Cause.TheVariants.{O
 
 use crate::call_error::{CallError, Cause};
 use crate::rank::Rank;
-use crate::reading::{Made, fault_in};
-use mpx_comm::{CallError as DeskError, Comm, Host};
+use crate::reading::Made;
+use mpx_comm::{CallError as DeskError, Comm, Host, numbers_of};
 use mpx_node::Finished;
 use mpx_num::{Integer, Numbers, Ops};
 use mpx_post::{DraftedEdge, DraftedNeighbour};
@@ -186,10 +186,18 @@ impl<'a, H: Host> Rank<'a, H> {
     ) -> Result<Comm, CallError>
         ensures { IsNewComm answer result }
     {
-        match self.comm_given(made, answer) {
-            Ok(Some(comm)) => Ok(comm),
-            Ok(None) => Err(self.failed(made, self.last_call(made.comm), Cause::NoComm)),
-            Err(e) => Err(e),
+        match answer {
+            Ok(finished) => {
+                let comm = comm_in(self.alloc, &finished);
+                drop(finished);
+                let call = self.last_call(made.comm);
+                match comm {
+                    Ok(Some(comm)) => Ok(comm),
+                    Ok(None) => Err(self.failed(made, call, Cause::NoComm)),
+                    Err(cause) => Err(self.failed(made, call, cause)),
+                }
+            }
+            Err(why) => Err(self.error_of(made, why)),
         }
     }
 
@@ -221,11 +229,11 @@ fn comm_in(alloc: Global, finished: &Finished) -> Result<Option<Comm>, Cause>
     ensures comm { IfOk result (λ comm. comm ≡ comm_of finished.now.outcome) }
     ensures none { IfErr result (λ cause. IsUnread (numbers_given finished.now.outcome) cause) }
 {
-    if let Some(fault) = fault_in(finished) {
-        return Err(Cause::Fault(fault));
-    }
-    match Comm::of(alloc, finished) {
-        Ok(comm) => Ok(comm),
-        Err(_) => Err(Cause::OutOfMemory),
+    match numbers_of(finished) {
+        Ok(_) => match Comm::of(alloc, finished) {
+            Ok(comm) => Ok(comm),
+            Err(_) => Err(Cause::OutOfMemory),
+        },
+        Err(fault) => Err(Cause::Fault(fault)),
     }
 }

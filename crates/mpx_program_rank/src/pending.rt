@@ -1,8 +1,9 @@
 //! Requests of calls that don't block: each knows the type of its items.
 ghost use Rattle.std.specs.Prelude.{◌≡◌, [], IfErr, IfOk, Ok, Some};
 ghost use Rattle.mpx_comm.specs.Given.{numbers_given};
+ghost use Rattle.mpx_request.specs.Requests.{same_request};
 ghost use Rattle.mpx_program_rank.specs.Gives.{IsStarted, IsUnread};
-ghost use Rattle.mpx_program_rank.specs.Waiting.{AnyGives, IsTested, IsWaited, TestGives, WaitGives, turn_error, wait_error};
+ghost use Rattle.mpx_program_rank.specs.Waiting.{AnyGives, IsTested, IsWaited, TestGives, TurnsGive, WaitAnyGives, WaitGives, any_error, turn_error, wait_error};
 
 use crate::call_error::{CallError, Cause};
 use crate::called::{Awaited, Called};
@@ -34,12 +35,17 @@ pub struct Done {
 
 impl Done {
     /// Whether it is this call.
-    pub fn is<T: Item>(&self, pending: &Pending<T>) -> bool {
+    pub fn is<T: Item>(&self, pending: &Pending<T>) -> bool
+        ensures { result ≡ same_request self.now.request pending.now.request }
+    {
         self.request == pending.request
     }
 
     /// The items that it gave.
-    pub fn list<T: Item>(&self, alloc: Global) -> Result<Vec<T>, CallError> {
+    pub fn list<T: Item>(&self, alloc: Global) -> Result<Vec<T>, CallError>
+        ensures list { IfOk result (λ list. numbers_given self.now.finished.outcome ≡ Ok (T.numbers list.items)) }
+        ensures none { IfErr result (λ e. IsUnread (numbers_given self.now.finished.outcome) e.cause) }
+    {
         match list_in(alloc, &self.finished) {
             Ok(list) => Ok(list),
             Err(cause) => Err(CallError::bare(cause)),
@@ -121,7 +127,11 @@ impl<'a, H: Host> Rank<'a, H> {
     }
 
     /// Waits for the first open call in order of posting that is done (`MPI_WAITANY`), at most the rank's turns. None where none is open.
-    pub fn waitany(&mut self) -> Result<Option<Done>, CallError> {
+    pub fn waitany(&mut self) -> Result<Option<Done>, CallError>
+        ensures gives { WaitAnyGives (H.goes_by self.old.desk.now.host []) H.node H.turned H.turn_refused self.old.turns result self.old.desk.now self.new.desk.now }
+        ensures same { self.new.desk.ghost_name ≡ self.old.desk.ghost_name }
+        ensures kept { (self.new.world ≡ self.old.world) × (self.new.turns ≡ self.old.turns) }
+    {
         let ops = Ops::none(self.alloc);
         match self.desk.waitany(self.alloc, self.turns, &ops) {
             Ok(Some((request, finished))) => Ok(Some(Done { request, finished })),
@@ -131,7 +141,11 @@ impl<'a, H: Host> Rank<'a, H> {
     }
 
     /// Makes turns for the others, where this rank waits for nothing.
-    pub fn turn(&mut self, turns: u64) -> Result<(), CallError> {
+    pub fn turn(&mut self, turns: u64) -> Result<(), CallError>
+        ensures gives { TurnsGive H.turned H.turn_refused turns result self.old.desk.now self.new.desk.now }
+        ensures same { self.new.desk.ghost_name ≡ self.old.desk.ghost_name }
+        ensures kept { (self.new.world ≡ self.old.world) × (self.new.turns ≡ self.old.turns) }
+    {
         match self.desk.turn(self.alloc, turns) {
             Ok(()) => Ok(()),
             Err(why) => Err(CallError::bare(cause_of(why, None))),
@@ -186,7 +200,9 @@ impl<'a, H: Host> Rank<'a, H> {
     }
 
     // Why a wait for any ended without one.
-    fn waited_for_any(&self, why: WaitError<()>) -> Cause {
+    fn waited_for_any(&self, why: WaitError<()>) -> Cause
+        ensures { any_error result ≡ Some why }
+    {
         match why {
             WaitError::StillWaiting(()) => {
                 let awaited = Awaited {
@@ -213,8 +229,7 @@ fn cause_of(why: TurnError, request: Option<Request>) -> Cause
 
 // The items that a call gave.
 fn read<T: Item>(alloc: Global, called: Called, finished: Finished) -> Result<Vec<T>, CallError>
-    ensures list { IfOk result (λ list. numbers_given finished.outcome ≡ Ok (T.numbers list.items)) }
-    ensures none { IfErr result (λ e. IsUnread (numbers_given finished.outcome) e.cause) }
+    ensures { IsWaited T.numbers (Ok finished) result }
 {
     let list = list_in(alloc, &finished);
     drop(finished);
