@@ -20,7 +20,6 @@ use calls::Calls;
 use desks::sum_by_hand;
 use flight::Flight;
 use matrix_product::Product;
-use mpx_job::{RankProgram, job};
 use mpx_num::{Ops, OwnOp};
 use mpx_ranks::{Program, ranks};
 use nodes::sums_of_own_nodes;
@@ -57,23 +56,6 @@ where
     print_answers(out, name, answers)
 }
 
-// The same of a program by a rank's calls.
-fn print_rank_job<P, R: Threads + Wait + Sync, W: Write>(
-    rt: &R,
-    alloc: Global,
-    out: &mut W,
-    name: &str,
-    count: u8,
-    program: &P,
-    ops: &Ops,
-) -> Result<(), Why>
-where
-    P: RankProgram<Answer = String, Error = Why> + Sync,
-{
-    let answers = job(rt, alloc, count, program, ops)?;
-    print_answers(out, name, answers)
-}
-
 fn print_answers<W: Write>(
     out: &mut W,
     name: &str,
@@ -91,10 +73,10 @@ fn print_all<R: Threads + Wait + Sync, W: Write>(
     out: &mut W,
     ops: &Ops,
 ) -> Result<(), Why> {
-    print_rank_job(rt, alloc, out, "scan", 6, &Scan, ops)?;
-    print_rank_job(rt, alloc, out, "sort", 16, &Sort { each: 200 }, ops)?;
-    print_rank_job(rt, alloc, out, "paths", 8, &Paths, ops)?;
-    print_rank_job(rt, alloc, out, "flight", 3, &Flight, ops)?;
+    print_job(rt, alloc, out, "scan", 6, &Scan, ops)?;
+    print_job(rt, alloc, out, "sort", 16, &Sort { each: 200 }, ops)?;
+    print_job(rt, alloc, out, "paths", 8, &Paths, ops)?;
+    print_job(rt, alloc, out, "flight", 3, &Flight, ops)?;
     print_job(rt, alloc, out, "asks", 3, &Asks, ops)?;
     print_job(rt, alloc, out, "calls", 3, &Calls, ops)?;
     print_by_hand(alloc, out, ops)?;
