@@ -1,4 +1,6 @@
 //! What every rank of a job runs, and how.
+ghost use Rattle.std.specs.Prelude.{◌≡◌, IfOk, length};
+
 use mpx_comm::{Comm, Desk, Host};
 use mpx_num::{Listing, Ops};
 use mpx_program_rank::{CallError, Rank};
@@ -78,9 +80,13 @@ pub fn job<P: RankProgram + Sync, R: Threads + Wait + Sync>(
 where
     P::Answer: Send + Drop,
     P::Error: Send + Drop,
+    ensures { IfOk result (λ answers. length answers.items ≡ count) }
 {
     let ranked = Ranked { program };
     let ran = ranks(rt, alloc, count, 0, &ranked, ops);
     let Ranked { program: _ } = ranked;
-    Ok(ran?.into_answers())
+    match ran {
+        Ok(ran) => Ok(ran.into_answers()),
+        Err(e) => Err(e),
+    }
 }
