@@ -9,7 +9,7 @@ use crate::call_error::CallError;
 use crate::item::Item;
 use crate::pending::Pending;
 use crate::rank::Rank;
-use crate::reading::Made;
+use crate::reading::{Made, number_of};
 use mpx_comm::{Comm, Host};
 use mpx_num::{MOST_ITEMS, Ops};
 
@@ -144,7 +144,7 @@ impl<'a, H: Host> Rank<'a, H> {
             self.alloc,
             comm,
             T::item_type(),
-            count as i128,
+            number_of(count),
             given,
             self.turns,
             &ops,
@@ -170,7 +170,7 @@ impl<'a, H: Host> Rank<'a, H> {
             self.alloc,
             comm,
             T::item_type(),
-            count as i128,
+            number_of(count),
             given,
             &ops,
         );

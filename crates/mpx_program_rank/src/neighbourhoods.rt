@@ -8,7 +8,7 @@ use crate::call_error::CallError;
 use crate::item::Item;
 use crate::pending::Pending;
 use crate::rank::Rank;
-use crate::reading::Made;
+use crate::reading::{Made, number_of};
 use mpx_comm::{Comm, Host};
 use mpx_num::Ops;
 
@@ -32,7 +32,7 @@ impl<'a, H: Host> Rank<'a, H> {
             self.alloc,
             comm,
             T::item_type(),
-            count as i128,
+            number_of(count),
             given,
             self.turns,
             &ops,
@@ -58,7 +58,7 @@ impl<'a, H: Host> Rank<'a, H> {
             self.alloc,
             comm,
             T::item_type(),
-            count as i128,
+            number_of(count),
             given,
             &ops,
         );
@@ -132,8 +132,8 @@ impl<'a, H: Host> Rank<'a, H> {
             self.alloc,
             comm,
             T::item_type(),
-            sent as i128,
-            taken as i128,
+            number_of(sent),
+            number_of(taken),
             given,
             self.turns,
             &ops,
@@ -160,8 +160,8 @@ impl<'a, H: Host> Rank<'a, H> {
             self.alloc,
             comm,
             T::item_type(),
-            sent as i128,
-            taken as i128,
+            number_of(sent),
+            number_of(taken),
             given,
             &ops,
         );

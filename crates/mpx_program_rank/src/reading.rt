@@ -103,6 +103,13 @@ impl<'c> Made<'c> {
     }
 }
 
+/// A count as the desk takes it.
+pub(crate) fn number_of(count: usize) -> i128
+    ensures { result ≡ pos count }
+{
+    count as i128
+}
+
 /// The list of items that a call gave, or why there is none.
 pub(crate) fn list_in<T: Item>(alloc: Global, finished: &Finished) -> Result<Vec<T>, Cause>
     ensures list { IfOk result (λ list. numbers_given finished.now.outcome ≡ Ok (T.numbers list.items)) }

@@ -10,7 +10,7 @@ use crate::item::Item;
 use crate::lengths::Parted;
 use crate::pending::Pending;
 use crate::rank::Rank;
-use crate::reading::Made;
+use crate::reading::{Made, number_of};
 use mpx_comm::{Comm, Host};
 use mpx_num::{MOST_ITEMS, Op, Ops};
 
@@ -174,7 +174,7 @@ impl<'a, H: Host> Rank<'a, H> {
             comm,
             op,
             T::item_type(),
-            count as i128,
+            number_of(count),
             given,
             self.turns,
             &ops,
@@ -202,7 +202,7 @@ impl<'a, H: Host> Rank<'a, H> {
             comm,
             op,
             T::item_type(),
-            count as i128,
+            number_of(count),
             given,
             &ops,
         );

@@ -9,7 +9,7 @@ use crate::call_error::CallError;
 use crate::item::Item;
 use crate::pending::Pending;
 use crate::rank::Rank;
-use crate::reading::Made;
+use crate::reading::{Made, number_of};
 use mpx_comm::{Comm, Host};
 use mpx_num::{MOST_ITEMS, Ops};
 
@@ -79,7 +79,7 @@ impl<'a, H: Host> Rank<'a, H> {
             comm,
             i128::from(root),
             T::item_type(),
-            count as i128,
+            number_of(count),
             given,
             self.turns,
             &ops,
@@ -109,7 +109,7 @@ impl<'a, H: Host> Rank<'a, H> {
             comm,
             i128::from(root),
             T::item_type(),
-            count as i128,
+            number_of(count),
             given,
             &ops,
         );
@@ -285,7 +285,7 @@ impl<'a, H: Host> Rank<'a, H> {
             comm,
             i128::from(root),
             T::item_type(),
-            count as i128,
+            number_of(count),
             given,
             self.turns,
             &ops,
@@ -315,7 +315,7 @@ impl<'a, H: Host> Rank<'a, H> {
             comm,
             i128::from(root),
             T::item_type(),
-            count as i128,
+            number_of(count),
             given,
             &ops,
         );
@@ -347,7 +347,7 @@ impl<'a, H: Host> Rank<'a, H> {
             i128::from(root),
             T::item_type(),
             counts,
-            count as i128,
+            number_of(count),
             given,
             self.turns,
             &ops,
@@ -380,7 +380,7 @@ impl<'a, H: Host> Rank<'a, H> {
             i128::from(root),
             T::item_type(),
             counts,
-            count as i128,
+            number_of(count),
             given,
             &ops,
         );
