@@ -1,10 +1,11 @@
 //! The types of items, by which a call knows MPI's type of its slice.
-ghost use Rattle.std.specs.Prelude.{◌≡◌, IfOk, List, ℤ, map};
+ghost use Rattle.std.specs.Prelude.{◌≡◌, ◌∷◌, [], IfOk, List, ℤ, map};
 ghost use Rattle.mpx_num.specs.declared.types.Ty.{Ty as TyView};
 ghost use Rattle.mpx_program_rank.specs.Pairs.{both_numbers};
 
 use mpx_num::{Integer, IntegersError, Numbers, Ty, integers_in};
 use std::alloc::{AllocError, Global};
+use std::slice::from_ref;
 
 /// A type of items: an integer, or a pair of a value and its index (MPI 4.1, sections 3.2.2 and 6.9.4).
 pub trait Item: Copy {
@@ -25,6 +26,10 @@ pub trait Item: Copy {
     /// The list of them that has these numbers.
     fn list_of(alloc: Global, given: &[i128]) -> Result<Vec<Self>, IntegersError>
         ensures { IfOk result (λ list. numbers list.items ≡ given.now) };
+
+    /// The list of one of them.
+    fn one(item: &Self) -> &[Self]
+        ensures { result.now ≡ item.now ∷ [] };
 }
 
 impl Item for i8 {
@@ -44,6 +49,10 @@ impl Item for i8 {
 
     fn list_of(alloc: Global, given: &[i128]) -> Result<Vec<Self>, IntegersError> {
         integers_in(alloc, given)
+    }
+
+    fn one(item: &Self) -> &[Self] {
+        from_ref(item)
     }
 }
 
@@ -65,6 +74,10 @@ impl Item for i16 {
     fn list_of(alloc: Global, given: &[i128]) -> Result<Vec<Self>, IntegersError> {
         integers_in(alloc, given)
     }
+
+    fn one(item: &Self) -> &[Self] {
+        from_ref(item)
+    }
 }
 
 impl Item for i32 {
@@ -84,6 +97,10 @@ impl Item for i32 {
 
     fn list_of(alloc: Global, given: &[i128]) -> Result<Vec<Self>, IntegersError> {
         integers_in(alloc, given)
+    }
+
+    fn one(item: &Self) -> &[Self] {
+        from_ref(item)
     }
 }
 
@@ -105,6 +122,10 @@ impl Item for i64 {
     fn list_of(alloc: Global, given: &[i128]) -> Result<Vec<Self>, IntegersError> {
         integers_in(alloc, given)
     }
+
+    fn one(item: &Self) -> &[Self] {
+        from_ref(item)
+    }
 }
 
 impl Item for u8 {
@@ -124,6 +145,10 @@ impl Item for u8 {
 
     fn list_of(alloc: Global, given: &[i128]) -> Result<Vec<Self>, IntegersError> {
         integers_in(alloc, given)
+    }
+
+    fn one(item: &Self) -> &[Self] {
+        from_ref(item)
     }
 }
 
@@ -145,6 +170,10 @@ impl Item for u16 {
     fn list_of(alloc: Global, given: &[i128]) -> Result<Vec<Self>, IntegersError> {
         integers_in(alloc, given)
     }
+
+    fn one(item: &Self) -> &[Self] {
+        from_ref(item)
+    }
 }
 
 impl Item for u32 {
@@ -165,6 +194,10 @@ impl Item for u32 {
     fn list_of(alloc: Global, given: &[i128]) -> Result<Vec<Self>, IntegersError> {
         integers_in(alloc, given)
     }
+
+    fn one(item: &Self) -> &[Self] {
+        from_ref(item)
+    }
 }
 
 impl Item for u64 {
@@ -184,6 +217,10 @@ impl Item for u64 {
 
     fn list_of(alloc: Global, given: &[i128]) -> Result<Vec<Self>, IntegersError> {
         integers_in(alloc, given)
+    }
+
+    fn one(item: &Self) -> &[Self] {
+        from_ref(item)
     }
 }
 
@@ -206,6 +243,10 @@ impl Item for (i32, i32) {
     fn list_of(alloc: Global, given: &[i128]) -> Result<Vec<Self>, IntegersError> {
         let both = integers_in::<i32>(alloc, given)?;
         pairs_of(alloc, &both)
+    }
+
+    fn one(item: &Self) -> &[Self] {
+        from_ref(item)
     }
 }
 

@@ -19,7 +19,7 @@ impl<'a, H: Host> Rank<'a, H> {
         ensures same { self.new.desk.ghost_name ≡ self.old.desk.ghost_name }
         ensures kept { (self.new.world ≡ self.old.world) × (self.new.turns ≡ self.old.turns) }
     {
-        let list = self.one_allreduce(comm, op, &[item]);
+        let list = self.one_allreduce(comm, op, T::one(&item));
         self.only("allreduce", comm, list)
     }
 
@@ -29,7 +29,7 @@ impl<'a, H: Host> Rank<'a, H> {
         ensures same { self.new.desk.ghost_name ≡ self.old.desk.ghost_name }
         ensures kept { (self.new.world ≡ self.old.world) × (self.new.turns ≡ self.old.turns) }
     {
-        let list = self.one_scan(comm, op, &[item]);
+        let list = self.one_scan(comm, op, T::one(&item));
         self.only("scan", comm, list)
     }
 
@@ -39,8 +39,7 @@ impl<'a, H: Host> Rank<'a, H> {
         ensures same { self.new.desk.ghost_name ≡ self.old.desk.ghost_name }
         ensures kept { (self.new.world ≡ self.old.world) × (self.new.turns ≡ self.old.turns) }
     {
-        let one = [item];
-        let list = self.one_bcast(comm, root, 1, at_root(comm, root, &one));
+        let list = self.one_bcast(comm, root, 1, at_root(comm, root, T::one(&item)));
         self.only("bcast", comm, list)
     }
 

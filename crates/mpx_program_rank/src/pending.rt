@@ -3,13 +3,14 @@ ghost use Rattle.std.specs.Prelude.{◌≡◌, [], IfErr, IfOk, Ok, Some};
 ghost use Rattle.mpx_comm.specs.Given.{numbers_given};
 ghost use Rattle.mpx_request.specs.Requests.{same_request};
 ghost use Rattle.mpx_program_rank.specs.Gives.{IsStarted, IsUnread};
-ghost use Rattle.mpx_program_rank.specs.Waiting.{AnyGives, IsTested, IsWaited, TestGives, TurnsGive, WaitAnyGives, WaitGives, any_error, turn_error, wait_error};
+ghost use Rattle.mpx_program_rank.specs.Waiting.{AnyGives, IsAny, IsTested, IsWaited, TestGives, TurnsGive, WaitAnyGives, WaitGives, any_error, turn_error, wait_error};
 
 use crate::call_error::{CallError, Cause};
 use crate::called::{Awaited, Called};
 use crate::item::Item;
 use crate::rank::Rank;
 use crate::reading::{Made, list_in};
+use join_core::OutOfMemory;
 use mpx_comm::{Host, Request, Tested, TurnError, WaitError};
 use mpx_name::Name;
 use mpx_node::Finished;
@@ -90,22 +91,8 @@ impl<'a, H: Host> Rank<'a, H> {
         let called = self.called(name, request.name(), request.call());
         let turned = self.desk.turn(self.alloc, 1);
         let ops = Ops::none(self.alloc);
-        match self.desk.test(self.alloc, request, &ops) {
-            Ok(Tested::Done(finished)) => match read(self.alloc, called, finished) {
-                Ok(list) => Ok(Tested::Done(list)),
-                Err(e) => Err(e),
-            },
-            Ok(Tested::NotYet(request)) => match turned {
-                Ok(()) => Ok(Tested::NotYet(Pending {
-                    request,
-                    name,
-                    of: PhantomData,
-                })),
-                Err(why) => Err(CallError::of(called, cause_of(why, Some(request)))),
-            },
-            Ok(Tested::LetGo(request)) => Err(CallError::of(called, Cause::LetGo(Some(request)))),
-            Err(AllocFailed { value }) => Err(CallError::of(called, Cause::NoMemory(Some(value)))),
-        }
+        let answer = self.desk.test(self.alloc, request, &ops);
+        tested(self.alloc, called, turned, answer)
     }
 
     /// Makes a turn, and gives the first open call in order of posting that is done (`MPI_TESTANY`), or none.
@@ -114,16 +101,10 @@ impl<'a, H: Host> Rank<'a, H> {
         ensures same { self.new.desk.ghost_name ≡ self.old.desk.ghost_name }
         ensures kept { (self.new.world ≡ self.old.world) × (self.new.turns ≡ self.old.turns) }
     {
-        let turn = self.desk.turn(self.alloc, 1);
+        let turned = self.desk.turn(self.alloc, 1);
         let ops = Ops::none(self.alloc);
-        match self.desk.testany(self.alloc, &ops) {
-            Ok(Some((request, finished))) => Ok(Some(Done { request, finished })),
-            Ok(None) => match turn {
-                Ok(()) => Ok(None),
-                Err(why) => Err(CallError::bare(cause_of(why, None))),
-            },
-            Err(_) => Err(CallError::bare(Cause::OutOfMemory)),
-        }
+        let answer = self.desk.testany(self.alloc, &ops);
+        any_tested(turned, answer)
     }
 
     /// Waits for the first open call in order of posting that is done (`MPI_WAITANY`), at most the rank's turns. None where none is open.
@@ -214,6 +195,51 @@ impl<'a, H: Host> Rank<'a, H> {
             WaitError::GaveUp((), rank) => Cause::GaveUp(None, rank),
             WaitError::LetGo(()) => Cause::LetGo(None),
         }
+    }
+}
+
+// What a test says, of the turn before it and of the desk's test.
+fn tested<T: Item>(
+    alloc: Global,
+    called: Called,
+    turned: Result<(), TurnError>,
+    answer: Result<Tested<Finished, Request>, AllocFailed<Request>>,
+) -> Result<Tested<Vec<T>, Pending<T>>, CallError>
+    ensures { IsTested T.numbers (λ again. again.request) turned answer result }
+{
+    let name = called.name;
+    match answer {
+        Ok(Tested::Done(finished)) => match read(alloc, called, finished) {
+            Ok(list) => Ok(Tested::Done(list)),
+            Err(e) => Err(e),
+        },
+        Ok(Tested::NotYet(request)) => match turned {
+            Ok(()) => Ok(Tested::NotYet(Pending {
+                request,
+                name,
+                of: PhantomData,
+            })),
+            Err(why) => Err(CallError::of(called, cause_of(why, Some(request)))),
+        },
+        Ok(Tested::LetGo(request)) => Err(CallError::of(called, Cause::LetGo(Some(request)))),
+        Err(AllocFailed { value }) => Err(CallError::of(called, Cause::NoMemory(Some(value)))),
+    }
+}
+
+// The same of a test of all open calls.
+fn any_tested(
+    turned: Result<(), TurnError>,
+    answer: Result<Option<(Request, Finished)>, OutOfMemory>,
+) -> Result<Option<Done>, CallError>
+    ensures { IsAny turned answer result }
+{
+    match answer {
+        Ok(Some((request, finished))) => Ok(Some(Done { request, finished })),
+        Ok(None) => match turned {
+            Ok(()) => Ok(None),
+            Err(why) => Err(CallError::bare(cause_of(why, None))),
+        },
+        Err(_) => Err(CallError::bare(Cause::OutOfMemory)),
     }
 }
 
