@@ -4,7 +4,7 @@
     bench/excerpts.py
 
 Each block of docs/CALLING.md and docs/HOSTS.md stands, line by line, in a file of crates/first_sum (what it prints, and the program whole), of
-crates/programs or matrix_product. Each block of docs/TESTING.md, docs/EXAMPLES.md, docs/SCRIPTS.md and README.md that is a
+crates/rank_calls, programs or matrix_product. Each block of docs/TESTING.md, docs/EXAMPLES.md, docs/SCRIPTS.md and README.md that is a
 script or a program stands in a file of examples/; one that is a script alone may also be a row of crates/job_rows. Blocks of commands, and of what a
 command prints, are passed over. In docs/CALLING.md a row of a table that begins with a link to a file of code names calls that stand in that file, and each
 call of a desk stands in one of these files."""
@@ -48,7 +48,7 @@ def calls_astray(page):
 
 
 def main():
-    code = files("crates/first_sum/src/*.rt", "crates/first_sum/stdout", "crates/programs/src/*.rt", "crates/matrix_product/src/*.rt")
+    code = files("crates/first_sum/src/*.rt", "crates/first_sum/stdout", "crates/rank_calls/src/*.rt", "crates/programs/src/*.rt", "crates/matrix_product/src/*.rt")
     scripts = files("examples/*.job", "examples/*.py", "examples/testing/*", "crates/job_rows/stdin")
     told, count = [], 0
     of_code = ("docs/CALLING.md", "docs/HOSTS.md")

@@ -1,0 +1,12 @@
+use Rattle.std.proofs.Common.{refl}
+use Rattle.mpx_program_rank.proofs.Making.{started}
+use Rattle.mpx_program_rank.proofs.rank.Rank.ibarrier.Goals as goal
+
+pub returns-clause-starts : goal.returns-clause-starts
+returns-clause-starts g c =
+    let host = g.H.Host in
+    let old = c.args.self.now.desk.now in
+    let asked = c.ibarrier-answer in
+    started (host.goes_by old.host) _ host.node host.turned host.turn_refused c.args.comm.now.name _ _ (λ pending. pending.request) asked.result c.pending.result old asked.new.self c.pending.new.self.desk.now c.none-ops.ensures
+    (refl)
+    asked.ensures.asks asked.ensures.no_turn c.pending.ensures.starts

@@ -1,0 +1,4 @@
+pub mod Gives
+pub mod Lengths
+pub mod Pairs
+pub mod Waiting
