@@ -11,5 +11,5 @@ returns-clause-gives g c =
     let host = g.H.Host in
     let old = c.args.self.now.desk.now in
     called (host.goes_by old.host) _ host.node host.turned host.turn_refused c.args.comm.now.name _ _ c.args.self.now.turns IsNewComm c.split-answer.result c.new_comm.result old c.split-answer.new.self c.none-ops.ensures
-    (on _ _ _ _ (ap (λ colour. line.split (Some colour)) c.number.ensures.value) (to_z-of_z w128 c.number-key.result (record { sfits = c.number-key.type_inv }) ∙ c.number-key.ensures.value))
+    (on _ _ _ _ (ap (λ colour. line.split (Some colour)) (to_z-of_z w128 c.number.result (record { sfits = c.number.type_inv }) ∙ c.number.ensures.value)) (to_z-of_z w128 c.number-key.result (record { sfits = c.number-key.type_inv }) ∙ c.number-key.ensures.value))
     c.split-answer.ensures c.new_comm.ensures
