@@ -123,7 +123,7 @@ def type_script(browser, text):
 
 
 def finished(browser):
-    until(browser, "a run", "!runner.ask && document.getElementById('stop').getAttribute('aria-disabled') === 'true'")
+    until(browser, "a run", "runs.count > 0 && !runner.ask && document.getElementById('stop').getAttribute('aria-disabled') === 'true'")
 
 
 def hold_opening(browser, path):
