@@ -1,5 +1,6 @@
 -- Calls of more items than one call takes.
-use Rattle.std.specs.Prelude.{◌≡◌, ℕ, zero, suc, ℤ, pos, ◌/◌, ◌==◌, ◌≤◌, ◌++◌, if◌then◌else◌, List, [], ◌∷◌, length, map, Result, Ok, Err, IsOk, Vec}
+use Rattle.std.specs.Prelude.{◌≡◌, ℕ, zero, suc, ℤ, pos, ◌/◌, ◌==◌, ◌≤◌, ◌++◌, ◌⊎◌, if◌then◌else◌, List, [], ◌∷◌, length, map, Result, Ok, Err, IsOk, Vec}
+use Rattle.std.specs.List.{All}
 use Rattle.std.specs.declared.alloc.Global.{Global}
 use Rattle.mpx_kind.specs.declared.kinds.Mode.TheVariants.{Blocking}
 use Rattle.mpx_name.specs.Name.{Name}

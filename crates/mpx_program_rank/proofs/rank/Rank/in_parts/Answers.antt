@@ -1,4 +1,4 @@
-use Rattle.std.proofs.Common.{rules, ◌≡◌, ◌≤◌, ◌++◌, [], length, ◌∙◌}
+use Rattle.std.proofs.Common.{rules, ◌≡◌, ◌≤◌, ◌++◌, [], length, ◌∙◌, arith}
 use Rattle.mpx_program_rank.specs.Lengths.{part_line}
 use Rattle.mpx_program_rank.proofs.Parts.{goes_on, no_more}
 use Rattle.mpx_program_rank.proofs.rank.Rank.in_parts.Goals as goal
