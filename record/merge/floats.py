@@ -3,6 +3,7 @@ they are within the reach of any order of the operands. This arithmetic is the t
 import math, struct
 from fractions import Fraction
 
+SINGLE = struct.Struct('=f')
 FORMS = {'f32': ('f32',), 'f64': ('f64',), 'f80': ('f80',), 'c64': ('f32', 'f32'), 'c128': ('f64', 'f64'), 'f32_int': ('f32', 'int'),
          'f64_int': ('f64', 'int'), 'f80_int': ('f80', 'int'), 'i64_int': ('int', 'int'), 'i16_int': ('int', 'int'),
          '2f32': ('f32', 'f32'), '2f64': ('f64', 'f64'), 'logical': ('int',)}
@@ -65,15 +66,29 @@ def exact(bits, form):
 def spell(bits, form):
     """As short as it can be without being taken for another."""
     if form == 'int': return str(bits)
-    if form == 'f32' and is_finite(bits, form):
-        for digits in range(1, 10):
-            text = '%.*g' % (digits, plain(bits, form))
-            if struct.pack('=f', float(text)) == struct.pack('=f', plain(bits, form)): return text
-    return repr(plain(bits, form)) if form != 'f80' else '%.21g' % plain(bits, form)
+    number = plain(bits, form)
+    if form != 'f32' or not is_finite(bits, form): return repr(number) if form != 'f80' else '%.21g' % number
+    packed = packed_single(number)
+    for digits in range(1 if packed_single(float('%.6g' % number)) == packed else 7, 10):
+        text = '%.*g' % (digits, number)
+        if packed_single(float(text)) == packed: return text
+
+
+def packed_single(number):
+    """Nothing of what rounds past the largest."""
+    try: return SINGLE.pack(number)
+    except OverflowError: return None
 
 
 def shown(numbers, type_word):
     return ' '.join(spell(bits, form) for item in fields(numbers, type_word) for bits, form in zip(item, FORMS[type_word]))
+
+
+def shown_first(text, type_word, most):
+    """How many numbers these are, and so many as texts, and one more where there are more."""
+    numbers, forms = text.split(), FORMS[type_word]
+    width = sum(2 if form == 'f80' else 1 for form in forms)
+    return len(numbers) // width * len(forms), shown([int(word) for word in numbers[:(most + 1) * width]], type_word)
 
 
 def sum_of(values):

@@ -124,12 +124,12 @@ class Part:
             return ' '.join(word for word in words[:5] if word != '-') if self.tag == 'left' else ' '.join(words)
         if self.kind == 'wait': return 'wait ' + self.request
         type_word, lists, items = self.shown or (self.type, self.lists, self.items)
-        if type_word in BITS: items = floats.shown([int(word) for word in items.split()], type_word)
+        amount, items = floats.shown_first(items, type_word, most) if type_word in BITS else (amount_of(items), items)
         here, self.lists = self.lists, lists
         words = [self.name_of_kind(), self.named or self.communicator] + self.fields(type_word)
         self.lists = here
         some = items.split(' ', most)
-        if len(some) > most: some[most:] = ['..', '(%d numbers)' % amount_of(items)]
+        if len(some) > most: some[most:] = ['..', '(%d numbers)' % amount]
         return ' '.join(words + [self.spell(word) for word in some if word])
 
     def is_misplaced(self):
