@@ -97,8 +97,9 @@ fn push_waiting(
 {
     let many = end.earlier.len();
     let waiting = waiting_rank(alloc, run, rank, waits, &mut end.earlier)?;
-    let is_served =
-        !waits.calls.is_empty() && waiting.calls.is_empty() && end.earlier.len() == many;
+    let is_served = !waits.calls.is_empty()
+        && waiting.calls.is_empty()
+        && end.earlier.len() == many;
     let place = (rank, waiting.statement);
     end.waiting.push(waiting)?;
     if is_served {

@@ -9,10 +9,10 @@ use crate::naming::{operation_word, type_word};
 use crate::size::{push_counted, push_world_ranks};
 use join_core::OutOfMemory;
 use mpx_eval::Complaint;
-use mpx_kind::{Call, Exchange, Neighbourhood, Reduction};
+use mpx_kind::{Call, Exchange, Kind, Neighbourhood, Reduction};
 use mpx_num::{is_in_range, push_number};
 use mpx_post::{Draft, PostError};
-use mpx_script::{Posting, Question, Script, Statement};
+use mpx_script::{Posting, Question, Script, Statement, Word};
 
 /// Why a statement was refused.
 #[derive(Clone, Copy)]
@@ -48,6 +48,25 @@ pub(crate) fn push_given(
     let Some(statement) = script.statements(call.rank).get(call.statement) else {
         return Ok(());
     };
+    match (statement, refusal) {
+        (Statement::Ask(Question::Compare { first, second }), Refusal::Post(refusal)) => {
+            push_of_two(script, call, first, second, refusal, told)
+        }
+        (Statement::Ask(Question::Translate { from, to, .. }), Refusal::Post(refusal)) => {
+            push_of_two(script, call, from, to, refusal, told)
+        }
+        _ => push_of_one(script, call, statement, refusal, told),
+    }
+}
+
+// The same of a statement that names one communicator, or asks for ranks of its first.
+fn push_of_one(
+    script: &Script,
+    call: &Complaint,
+    statement: &Statement,
+    refusal: Refusal,
+    told: &mut String,
+) -> Result<(), OutOfMemory> {
     let Some(on) = communicator_of(statement) else {
         return Ok(());
     };
@@ -62,12 +81,85 @@ pub(crate) fn push_given(
     }
 }
 
-// Adds which rank that it asks for is out of range.
-fn push_stray(
-    at: &Place<'_>,
-    statement: &Statement,
+// Which of both communicators is null or freed, where that is plain: `world` is never null.
+fn push_of_two(
+    script: &Script,
+    call: &Complaint,
+    first: &Word,
+    second: &Word,
+    refusal: PostError,
     told: &mut String,
 ) -> Result<(), OutOfMemory> {
+    match refusal {
+        PostError::NotMember => {
+            push_one_of(first, is_made(first), second, is_made(second), told)?;
+            Ok(told.push_str(
+                " is null here: its call was refused or a fault, or left this rank out",
+            )?)
+        }
+        PostError::Closed => {
+            let before = script
+                .statements(call.rank)
+                .get(..call.statement)
+                .unwrap_or(&[]);
+            told.push_str("this rank has freed ")?;
+            push_one_of(
+                first,
+                is_freed(first, before),
+                second,
+                is_freed(second, before),
+                told,
+            )
+        }
+        _ => Ok(()),
+    }
+}
+
+// Adds the one of both words that is such a one, or that one of them is.
+fn push_one_of(
+    first: &Word,
+    is_first: bool,
+    second: &Word,
+    is_second: bool,
+    told: &mut String,
+) -> Result<(), OutOfMemory> {
+    if is_first && (!is_second || first == second) {
+        return push_communicator(first, told);
+    }
+    if is_second && !is_first {
+        return push_communicator(second, told);
+    }
+    Ok(told.push_str("one of the communicators")?)
+}
+
+fn push_communicator(word: &Word, told: &mut String) -> Result<(), OutOfMemory> {
+    match str::from_utf8(word.as_bytes()) {
+        Ok(word) => Ok(told.push_str(word)?),
+        Err(_) => Ok(told.push_str("one of the communicators")?),
+    }
+}
+
+// Whether a word stands for a communicator that a call has made.
+fn is_made(word: &Word) -> bool {
+    word.as_bytes() != b"world".as_slice()
+}
+
+// Whether one of these statements frees the communicator of this word.
+fn is_freed(word: &Word, statements: &[Statement]) -> bool {
+    statements.iter().any(|statement| frees(statement, word))
+}
+
+fn frees(statement: &Statement, word: &Word) -> bool {
+    match statement {
+        Statement::Post(Posting::Call { on, draft }) => {
+            draft.call.kind() == Kind::Free && on == word
+        }
+        _ => false,
+    }
+}
+
+// Adds which rank that it asks for is out of range.
+fn push_stray(at: &Place<'_>, statement: &Statement, told: &mut String) -> Result<(), OutOfMemory> {
     match statement {
         Statement::Ask(Question::Translate { ranks, .. }) => {
             push_strange_rank(at, ranks.as_slice(), told)
@@ -269,7 +361,7 @@ fn wanted_of_root(draft: &Draft) -> Option<Expectation<'_>> {
     }
 }
 
-// Adds what is expected of the root alone: on `world` it is known who that is.
+// Adds what is expected of the root alone: on `world` it is known who that is, elsewhere both are told.
 fn push_of_root(
     at: &Place<'_>,
     draft: &Draft,
@@ -277,7 +369,8 @@ fn push_of_root(
     told: &mut String,
 ) -> Result<(), OutOfMemory> {
     if !at.is_world() {
-        return Ok(());
+        push_wanted(wanted, told)?;
+        return Ok(told.push_str("; the root alone gives any")?);
     }
     if draft.root == i128::from(at.rank) {
         return push_wanted(wanted, told);
