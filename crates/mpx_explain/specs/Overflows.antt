@@ -45,6 +45,13 @@ is_summed Sum = true
 is_summed Prod = true
 is_summed op = false
 
+abbrev pub is_signed : Ty → Bool
+is_signed T.I8 = true
+is_signed T.I16 = true
+is_signed T.I32 = true
+is_signed T.I64 = true
+is_signed ty = false
+
 -- whole numbers, which don't wrap
 abbrev pub combined_whole : Op → ℤ → ℤ → ℤ
 combined_whole Prod x y = x *ℤ y
@@ -89,8 +96,8 @@ taken reduction ranks rank = ranks
 
 -- OVERFLOWS
 
--- a rank's statement is the rank's own among those with these places, one of each rank, which post a sum or a product on `world`, as rank 0 has
--- it. What they give at an index, as far as the rank gets it, comes to a number that is past the type, be it told or past 128 bits
+-- a rank's statement is the rank's own among those with these places, one of each rank, which post a sum or a product of signed numbers on `world`, as
+-- rank 0 has it. What they give at an index, as far as the rank gets it, comes to a number that is past the type, be it told or past 128 bits
 pub record IsPast (statements : List (List Statement)) (rank : ℕ) (places : List ℕ) (index statement : ℕ) (ty : Ty) (exact : Option ℤ) : Type 0 where
   pub own : slice_get places rank ≡ Some statement
   pub place : ℕ
@@ -98,6 +105,7 @@ pub record IsPast (statements : List (List Statement)) (rank : ℕ) (places : Li
   pub draft : Draft
   pub first : posted_at statements 0 place ≡ Some draft
   pub sums : is_summed draft.op ≡ true
+  pub signed : is_signed draft.ty ≡ true
   pub reduction : Reduction
   pub reduces : reduction_in draft.call ≡ Some reduction
   pub typed : ty ≡ draft.ty
