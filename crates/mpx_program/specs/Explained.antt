@@ -42,7 +42,7 @@ pub record AreCalls (text : List ℕ) (statements : List (List Statement)) (comp
   pub second : List ℕ
   pub heard : AreTold text complaints old first
   pub faults : AreTold text unheard first second
-  pub results : AreOverflows text statements second new
+  pub results : AreOverflows text statements complaints unheard second new
 
 -- who waits at the end of the script's evaluation, and the calls that are refused or are faults there
 pub record TellsEvaluation (ops : List Operation) (script : ScriptView) (text more : List ℕ) : Type 0 where
