@@ -56,40 +56,19 @@ is_served run w told rank calls served asks none waits is is_so same so =
     ∙ ap (λ (v : WaitingView). v ∷ []) (sym is)
     ∙ (λ i. record { rank = own i; statement = told.statement; calls = map missing_view (no_calls i) } ∷ [])
 
--- a call that is found lacking is so under its own name and number
-found_is : (b : Bool) (request : Option (List ℕ)) (name : Name) (call : ℕ) (missing : List MissingMember) (c : MissingCallView) → cond b None (with_missing request name call missing) ≡ Some c
-    → (request ≡ c.request) × (name ≡ c.name) × (call ≡ c.call)
-found_is true request name call missing c is = absurd (cc is)
-found_is false request name call [] c is = absurd (cc is)
-found_is false request name call (m ∷ more) c is =
-    let same : ◌≡◌ {A = MissingCallView} (record { request = request; name = name; call = call; missing = m ∷ more }) c = cc is in
-    (ap (λ (v : MissingCallView). v.request) same, ap (λ (v : MissingCallView). v.name) same, ap (λ (v : MissingCallView). v.call) same)
-
-pub lacking_so : (run : EndedRun) (node : NodeView) (request : Option (List ℕ)) (name : Name) (call : ℕ) (c : MissingCallView) → lacking_at run node request name call ≡ Some c → IsLacking run node c
-lacking_so run node request name call c is =
-    let same = found_is (nat_lt call (front_on node name)) request name call (lacked_by run node name call) c is in
-    (λ i. lacking_at run node (sym same.0 i) (sym same.1.0 i) (sym same.1.1 i)) ∙ is
-
--- an earlier call of a rank that waits comes first
-pub comes_first : (w : Waiter) (c : MissingCall) (made : ℕ) → Waits w → IsLacking w.run.now (node_of w.node.now) (missing_view c) → ComesFirst w.run.now (record { rank = w.rank; statement = w.statement; made = made; call = c })
-comes_first w c made waits lacks = record {
-  waits = waits.there;
-  lacks = subst (λ o. IsSomeAnd (option_map (λ (n : Bor Node). node_of n.now) o) (λ (n : NodeView). IsLacking w.run.now n (missing_view c))) (sym waits.own) lacks;
-}
-
 -- the lines of what was found tell of the run
 pub tells_end : {E : Type 0} (text : List ℕ) (run : EndedRun) (end : RunEnd) (old new : List ℕ) (pushed : Result (Unit {0}) E) → TellsRun run end → OnOk pushed (new ≡ old ++ run_text text run end) → OnOk pushed (IsRunTold text run old new)
 tells_end text run end old new (Ok done) tells told = record { end = end; tells = tells; told = told }
 tells_end text run end old new (Err e) tells told = tt
 
--- the line of one more stands behind the others
-pub flat_more : {X Y : Type 0} (f : Y → List ℕ) (view : X → Y) (xs : List X) (i : ℕ) (item : X) (had new whole : List ℕ) → i < length xs → item ≡ slice_index_or xs i item → new ≡ had ++ f (view item) → had ++ flat_map f (map view (drop i xs)) ≡ whole
+-- what is told of one more stands behind the others
+pub flat_more : {X Y Z : Type 0} (f : Y → List Z) (view : X → Y) (xs : List X) (i : ℕ) (item : X) (had new whole : List Z) → i < length xs → item ≡ slice_index_or xs i item → new ≡ had ++ f (view item) → had ++ flat_map f (map view (drop i xs)) ≡ whole
     → new ++ flat_map f (map view (drop (i + 1) xs)) ≡ whole
-flat_more {X} f view xs i item had new whole within is told before =
+flat_more {X} {Y} {Z} f view xs i item had new whole within is told before =
     let k : suc i ≡ i + 1 = omega arith in
     let cut : drop i xs ≡ item ∷ drop (i + 1) xs = drop-cons xs i item within ∙ ap (λ (x : X). x ∷ drop (suc i) xs) (sym is) ∙ ap (λ (n : ℕ). item ∷ drop n xs) k in
     let rest = flat_map f (map view (drop (i + 1) xs)) in
-    ap (λ (zs : List ℕ). zs ++ rest) told ∙ append_assoc had (f (view item)) rest ∙ ap (λ (zs : List X). had ++ flat_map f (map view zs)) (sym cut) ∙ before
+    ap (λ (zs : List Z). zs ++ rest) told ∙ append_assoc had (f (view item)) rest ∙ ap (λ (zs : List X). had ++ flat_map f (map view zs)) (sym cut) ∙ before
 
 -- an earlier call is told by the lines of its statements
 pub told_at : {E : Type 0} (text : List ℕ) (places : List (ℕ × ℕ)) (e : EarlierCall) (line made : ℕ) (old new : List ℕ) (pushed : Result (Unit {0}) E) → line ≡ line_at (lines_given e.rank text) e.statement → made ≡ line_at (lines_given e.rank text) e.made

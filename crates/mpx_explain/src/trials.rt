@@ -74,7 +74,7 @@ fn tried(
     let mut is_behind_arrow = false;
     for (place, word) in words.iter().enumerate() {
         is_behind_arrow |= *word == "->";
-        let tried = Tried {
+        let tried = TriedWord {
             place,
             word,
             is_named: is_named(words, place, word, ops),
@@ -87,7 +87,7 @@ fn tried(
 
 // A word of a line: its place, and whether it is an operation or a type where one may stand, and an arrow or behind one.
 #[derive(Clone, Copy, Drop)]
-struct Tried<'w> {
+struct TriedWord<'w> {
     place: usize,
     word: &'w str,
     is_named: bool,
@@ -97,7 +97,7 @@ struct Tried<'w> {
 // Adds a word, changed, behind one that comes before it.
 fn push_changed(
     alloc: Global,
-    tried: &Tried<'_>,
+    tried: &TriedWord<'_>,
     change: Change,
     text: &mut String,
 ) -> Result<(), OutOfMemory> {
@@ -119,7 +119,7 @@ fn push_word(word: &str, text: &mut String) -> Result<(), OutOfMemory> {
 }
 
 // Whether a word is changed.
-fn is_changed(alloc: Global, tried: &Tried<'_>, change: Change) -> Result<bool, OutOfMemory> {
+fn is_changed(alloc: Global, tried: &TriedWord<'_>, change: Change) -> Result<bool, OutOfMemory> {
     match change {
         Change::Cut(count) => Ok(tried.place >= count),
         Change::One(at, _) => Ok(tried.place == at),
