@@ -32,14 +32,14 @@ was_open old requests word call e = by_test (bytes_eq old word) e where
 
 only_asked : (requests : Open) (words : List (List ℕ)) (i : ℕ) (call : Name × ℕ) → slice_get (calls (asked_by requests words)) i ≡ Some call → IsRequested requests words call
 only_asked requests [] i call e = cc e
-only_asked requests (word ∷ words) i call e = by_first (requests word) refl i e where
-  later : (j : ℕ) → slice_get (calls (asked_by (closed word requests) words)) j ≡ Some call → IsRequested requests (word ∷ words) call
-  later j f = let x = only_asked (closed word requests) words j call f in (suc x.0, (x.1.0, (x.1.1.0, was_open word requests x.1.0 call x.1.1.1)))
+only_asked requests (word ∷ words) i call e = by_first (λ j f. only_asked (closed word requests) words j call f) (requests word) refl i e where
+  later : ((k : ℕ) → slice_get (calls (asked_by (closed word requests) words)) k ≡ Some call → IsRequested (closed word requests) words call) → (j : ℕ) → slice_get (calls (asked_by (closed word requests) words)) j ≡ Some call → IsRequested requests (word ∷ words) call
+  later more j f = let x = more j f in (suc x.0, (x.1.0, (x.1.1.0, was_open word requests x.1.0 call x.1.1.1)))
 
-  by_first : (o : Option (Name × ℕ)) → requests word ≡ o → (j : ℕ) → slice_get (calls (asked_then word o (asked_by (closed word requests) words))) j ≡ Some call → IsRequested requests (word ∷ words) call
-  by_first None is j f = later j f
-  by_first (Some place) is zero f = (0, (word, (refl, is ∙ f)))
-  by_first (Some place) is (suc j) f = later j f
+  by_first : ((k : ℕ) → slice_get (calls (asked_by (closed word requests) words)) k ≡ Some call → IsRequested (closed word requests) words call) → (o : Option (Name × ℕ)) → requests word ≡ o → (j : ℕ) → slice_get (calls (asked_then word o (asked_by (closed word requests) words))) j ≡ Some call → IsRequested requests (word ∷ words) call
+  by_first more None is j f = later more j f
+  by_first more (Some place) is zero f = (0, (word, (refl, is ∙ f)))
+  by_first more (Some place) is (suc j) f = later more j f
 
 first_asked : (word : List ℕ) (o : Option (Name × ℕ)) (rest : List Asked) (call : Name × ℕ) → o ≡ Some call → IsOneOf call (calls (asked_then word o rest))
 first_asked word o rest call e = (0, ap (λ x. slice_get (calls (asked_then word x rest)) 0) e)
@@ -51,10 +51,10 @@ later_asked word (Some place) rest call is = (suc is.0, is.1)
 all_asked : (requests : Open) (words : List (List ℕ)) (call : Name × ℕ) (place : ℕ) (word : List ℕ) → slice_get words place ≡ Some word → requests word ≡ Some call → IsOneOf call (calls (asked_by requests words))
 all_asked requests [] call place word e f = cc e
 all_asked requests (first ∷ words) call zero word e f = first_asked first (requests first) (asked_by (closed first requests) words) call (ap requests (same_Some first word e) ∙ f)
-all_asked requests (first ∷ words) call (suc place) word e f = by_test (bytes_eq first word) refl where
-  by_test : (b : Bool) → bytes_eq first word ≡ b → IsOneOf call (calls (asked_by requests (first ∷ words)))
-  by_test true t = first_asked first (requests first) (asked_by (closed first requests) words) call (ap requests (same_word first word t) ∙ f)
-  by_test false t = later_asked first (requests first) (asked_by (closed first requests) words) call (all_asked (closed first requests) words call place word e (ap (λ b. cond b None (requests word)) t ∙ f))
+all_asked requests (first ∷ words) call (suc place) word e f = by_test (bytes_eq first word) refl (λ g. all_asked (closed first requests) words call place word e g) where
+  by_test : (b : Bool) → bytes_eq first word ≡ b → (closed first requests word ≡ Some call → IsOneOf call (calls (asked_by (closed first requests) words))) → IsOneOf call (calls (asked_by requests (first ∷ words)))
+  by_test true t more = first_asked first (requests first) (asked_by (closed first requests) words) call (ap requests (same_word first word t) ∙ f)
+  by_test false t more = later_asked first (requests first) (asked_by (closed first requests) words) call (more (ap (λ b. cond b None (requests word)) t ∙ f))
 
 -- where no request is open, none is asked for
 pub none_asked : (requests : Open) → ((word : List ℕ) → requests word ≡ None) → (words : List (List ℕ)) → asked_by requests words ≡ []

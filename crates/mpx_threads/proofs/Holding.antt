@@ -123,10 +123,10 @@ taken_none (suc n) = refl
 
 -- how a rank ends before these statements
 pub end_before : (xs : List Statement) (requests : List ℕ → Option (Name × ℕ)) → ((word : List ℕ) → requests word ≡ None) → waits_with requests (doing xs) ≡ waits_first xs
-end_before [] requests none = refl
-end_before (Post posting ∷ xs) requests none = λ i. Some (record { left = suc (doing_length xs i); calls = [] })
-end_before (Ask question ∷ xs) requests none = λ i. Some (record { left = suc (doing_length xs i); calls = [] })
-end_before (Wait words ∷ xs) requests none = λ i. Some (record { left = suc (doing_length xs i); calls = none_asked requests none words i })
+end_before [] requests closed = refl
+end_before (Post posting ∷ xs) requests closed = λ i. Some (record { left = suc (doing_length xs i); calls = [] })
+end_before (Ask question ∷ xs) requests closed = λ i. Some (record { left = suc (doing_length xs i); calls = [] })
+end_before (Wait words ∷ xs) requests closed = λ i. Some (record { left = suc (doing_length xs i); calls = none_asked requests closed words i })
 
 -- a rank that has done nothing
 pub has_not_worked : (table : TableId) (script : ScriptView) (relays : ℕ) (setup : Setup) (me : ℕ) (port : PortView) (end : EndView) → IsLawful table setup me port → end ≡ end_first (statements_of script.statements me) → HasWorked script relays setup me port end

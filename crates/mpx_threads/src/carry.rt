@@ -53,16 +53,14 @@ pub(crate) fn carry_out<L: PortLock, R: Wait>(
         Err(e) => return Err(e),
     };
     let mut desk = ThreadDesk::new(alloc, rt, port, looks, poster);
-    let end = match rank.go_on(alloc, &mut desk, ops) {
-        Ok(_) => rank.into_end(alloc),
-        Err(e) => {
-            drop(rank);
-            Err(e)
-        }
-    };
+    let moved = rank.go_on(alloc, &mut desk, ops);
+    let end = rank.into_end(alloc);
     let poster = desk.into_poster();
-    match end {
-        Ok(end) => Ok(Carried { end, poster }),
+    match moved {
+        Ok(_) => match end {
+            Ok(end) => Ok(Carried { end, poster }),
+            Err(e) => Err(e),
+        },
         Err(e) => Err(e),
     }
 }

@@ -306,14 +306,18 @@ fn is_held(node: &Node, line: &Line) -> bool
 fn end_first(alloc: Global, statements: &[Statement]) -> RankEnd
     ensures { end_view result ≡ end_first statements.now }
 {
-    let mut end = no_end(alloc);
-    if !statements.is_empty() {
-        end.waits = Some(WaitsAt {
-            left: statements.len(),
-            calls: Vec::new(alloc),
-        });
+    let Some(_first) = statements.first() else {
+        return no_end(alloc);
+    };
+    let waits = Some(WaitsAt {
+        left: statements.len(),
+        calls: Vec::new(alloc),
+    });
+    RankEnd {
+        lines: Vec::new(alloc),
+        origins: Vec::new(alloc),
+        waits,
     }
-    end
 }
 
 // The end of a rank without statements.

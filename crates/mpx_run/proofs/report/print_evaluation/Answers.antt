@@ -10,4 +10,4 @@ returns g c =
     let report = c.in_ok-report.report in
     let said = transcripts_of report in
     if_three c.print_report.result c.print_report.ensures.text c.print_report.ensures.end c.print_report.ensures.cause (λ printed text ends by.
-    evaluated _ c.args.script.now said report.waiting.items printed.end (string_bytes printed.text) c.in_ok-report.ensures (text ∙ ap (text_upto (lines_at said)) c.ranks.ensures.ranks) ends by)
+    evaluated _ c.args.script.now said report.waiting.items printed.end (string_bytes printed.text) c.in_ok-report.ensures.lines (text ∙ ap (text_upto (lines_at said)) c.ranks.ensures.ranks) ends by)
