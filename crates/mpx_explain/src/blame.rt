@@ -56,10 +56,13 @@ fn blamed_at(alloc: Global, line: &Line<'_>, place: usize) -> Result<Option<Blam
     ensures { IfOk result (λ found. IfSome found (λ blamed. (text : List ℕ) (number : ℕ) → IsLineOf text number line.now → IsBlamed text number blamed)) }
 {
     match line.words.get(place) {
-        Some(word) => Ok(Some(Blamed {
-            place: place.saturating_add(1),
-            word: String::from_str(alloc, word)?,
-        })),
+        Some(found) => {
+            let word = String::from_str(alloc, found)?;
+            Ok(Some(Blamed {
+                place: place + 1,
+                word,
+            }))
+        }
         None => Ok(None),
     }
 }
