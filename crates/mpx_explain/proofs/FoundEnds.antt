@@ -39,23 +39,6 @@ upto_more run n had new is more =
     let k : suc n ≡ n + 1 = omega arith in
     more ∙ ap (λ xs. xs ++ waits_of run n) is ∙ ap (waiting_upto run) k
 
--- a rank that waits there does so with this
-pub waits_there : (run : EndedRun) (rank : ℕ) (w : WaitsAtView) → waits_in run rank ≡ Some w → waits_of run rank ≡ waits_at run rank w ∷ []
-waits_there run rank w waits = ap (λ o. option_to_list (option_map (waits_at run rank) o)) waits
-
-pub waits_nowhere : (run : EndedRun) (rank : ℕ) → waits_in run rank ≡ None → waits_of run rank ≡ []
-waits_nowhere run rank none = ap (λ o. option_to_list (option_map (waits_at run rank) o)) none
-
--- a rank with no call whose posts its board lacks is served
-pub is_served : (run : EndedRun) (w : WaitsAtView) (told : WaitingRank) (rank : ℕ) (calls : List MissingCall) (served asks none : Bool) → waits_in run rank ≡ Some w → waiting_view told ≡ waits_at run rank w
-    → served ≡ (asks && (length calls == 0) && none) → calls ≡ told.calls.items → served ≡ true → IsServed run (rank, told.statement)
-is_served run w told rank calls served asks none waits is is_so same so =
-    let no_calls : told.calls.items ≡ [] = sym same ∙ nil_from_length calls (eqb-true (length calls) 0 (and_parts asks (length calls == 0) (and_parts (asks && (length calls == 0)) none (sym is_so ∙ so)).0).1) in
-    let own : told.rank ≡ rank = ap (λ (v : WaitingView). v.rank) is in
-    waits_there run rank w waits
-    ∙ ap (λ (v : WaitingView). v ∷ []) (sym is)
-    ∙ (λ i. record { rank = own i; statement = told.statement; calls = map missing_view (no_calls i) } ∷ [])
-
 -- the lines of what was found tell of the run
 pub tells_end : {E : Type 0} (text : List ℕ) (run : EndedRun) (end : RunEnd) (old new : List ℕ) (pushed : Result (Unit {0}) E) → TellsRun run end → OnOk pushed (new ≡ old ++ run_text text run end) → OnOk pushed (IsRunTold text run old new)
 tells_end text run end old new (Ok done) tells told = record { end = end; tells = tells; told = told }
