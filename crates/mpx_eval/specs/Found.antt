@@ -1,8 +1,9 @@
 -- Who waits and what ranks complain of, as the program finds it by its ranks and their table.
-use Rattle.std.specs.Prelude.{ℕ, ◌+◌, ◌-◌, Bool, not, List, [], length, map, slice_index_or, string_bytes, Option, Some, None}
+use Rattle.std.specs.Prelude.{ℕ, ◌+◌, ◌-◌, Bool, not, List, [], length, map, slice_index_or, Option, Some, None}
 use Rattle.std.specs.List.{filter}
 use Rattle.mpx_statement.specs.declared.statement.Statement.{Statement}
 use Rattle.mpx_meaning.specs.Standing.{awaited, todo_of}
+use Rattle.mpx_meaning.specs.Transcripts.{line_text}
 use Rattle.mpx_eval.specs.declared.complaints.Complaint.{Complaint}
 use Rattle.mpx_eval.specs.declared.missing.MissingCall.{MissingCall}
 use Rattle.mpx_eval.specs.declared.who_waits.WaitingRank.{WaitingRank}
@@ -21,7 +22,7 @@ abbrev pub waiting_view : WaitingRank → WaitingView
 waiting_view w = record { rank = w.rank; statement = w.statement; calls = map missing_view w.calls.items }
 
 abbrev pub complaint_view : Complaint → ComplaintView
-complaint_view c = record { rank = c.rank; statement = c.statement; text = string_bytes c.text }
+complaint_view c = record { rank = c.rank; statement = c.statement; text = line_text c.line }
 
 -- a call, and who has not posted to it by the table
 abbrev pub found_call : Table → Asked → MissingCallView

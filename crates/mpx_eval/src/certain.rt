@@ -91,11 +91,10 @@ fn push_at(
     let Some(refusal) = statement_refused(alloc, ranks, rank, statement, world, ops) else {
         return Ok(());
     };
-    let text = Line::Refused(refusal).text(alloc)?;
     found.push(Complaint {
         rank,
         statement: place,
-        text,
+        line: Line::Refused(refusal),
     })?;
     Ok(())
 }

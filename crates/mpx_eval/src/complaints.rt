@@ -1,14 +1,16 @@
 //! The lines of ranks that say that a call was refused or is a fault, and the statements of these calls.
-ghost use Rattle.std.specs.Prelude.{◌≡◌, ◌≤◌, ◌++◌, IfOk, OnOk, Some, bytes_eq, false, length, map, slice_get};
+ghost use Rattle.std.specs.Prelude.{◌≡◌, ◌≤◌, ◌++◌, IfOk, None, OnOk, Some, bytes_eq, cond, false, length, map, slice_get};
 ghost use Rattle.std.specs.Option.{option_map_or};
 ghost use Rattle.mpx_statement.specs.Statements.{request_of};
+ghost use Rattle.mpx_meaning.specs.declared.line.Line.TheVariants.{Told};
 ghost use Rattle.mpx_eval.specs.Carrying.{shown};
 ghost use Rattle.mpx_eval.specs.Complaints.{call_at, complaint_in, complaints_at, complaints_upto, is_complaint, is_fault, started_at};
 ghost use Rattle.mpx_eval.specs.Found.{complaint_view, complaints_found};
 
 use crate::table::Table;
-use join_core::OutOfMemory;
+use join_core::{Exact, OutOfMemory};
 use mpx_meaning::{Line, Origin};
+use mpx_name::Name;
 use mpx_rank::Interpreter;
 use mpx_script::{Script, Statement};
 use mpx_value::Outcome;
@@ -20,8 +22,7 @@ pub struct Complaint {
     pub rank: u8,
     /// The place, from 0 on, of the call's statement among the rank's statements.
     pub statement: usize,
-    /// The line.
-    pub text: String,
+    pub line: Line,
 }
 
 /// Those of the first so many of these ranks, rank by rank, and of each in the order of its lines.
@@ -95,45 +96,57 @@ fn push_complaint(
 ) -> Result<(), OutOfMemory>
     ensures { OnOk result (map complaint_view found.new.items ≡ map complaint_view found.old.items ++ complaint_in rank statements.now (line.now, origin)) }
 {
-    if !is_complaint(line) {
+    let Some(line) = complaint_of(alloc, line)? else {
         return Ok(());
-    }
+    };
     let statement = call_at(statements, origin);
-    let text = line.text(alloc)?;
     found.push(Complaint {
         rank,
         statement,
-        text,
+        line,
     })?;
     Ok(())
 }
 
-// Whether a line says that a call was refused, or that it is a fault.
-fn is_complaint(line: &Line) -> bool
-    ensures { result ≡ is_complaint line.now }
+// The line once more, where it says that a call was refused, or that it is a fault.
+fn complaint_of(alloc: Global, line: &Line) -> Result<Option<Line>, OutOfMemory>
+    ensures { IfOk result (λ found. found ≡ cond (is_complaint line.now) (Some line.now) None) }
 {
     match line {
-        Line::Told { outcome, .. } => is_fault(outcome),
-        Line::Refused(_) => true,
-        Line::StrayRank => true,
-        Line::Idle => false,
-        Line::Near { .. } => false,
-        Line::Compared(_) => false,
-        Line::Translated(_) => false,
+        Line::Told {
+            name,
+            call,
+            outcome,
+        } => fault_line(alloc, name, *call, outcome),
+        Line::Refused(refusal) => Ok(Some(Line::Refused(*refusal))),
+        Line::StrayRank => Ok(Some(Line::StrayRank)),
+        Line::Idle => Ok(None),
+        Line::Near { .. } => Ok(None),
+        Line::Compared(_) => Ok(None),
+        Line::Translated(_) => Ok(None),
     }
 }
 
-// Whether an outcome is a fault.
-fn is_fault(outcome: &Outcome) -> bool
-    ensures { result ≡ is_fault outcome.now }
+/// The line that tells the outcome of a call, where it is a fault.
+pub(crate) fn fault_line(
+    alloc: Global,
+    name: &Name,
+    call: u32,
+    outcome: &Outcome,
+) -> Result<Option<Line>, OutOfMemory>
+    ensures { IfOk result (λ line. line ≡ cond (is_fault outcome.now) (Some (Told name.now call outcome.now)) None) }
 {
     match outcome {
-        Outcome::Fault(_) => true,
-        Outcome::Nothing => false,
-        Outcome::Absent => false,
-        Outcome::Items(_) => false,
-        Outcome::NewComm { .. } => false,
-        Outcome::Null => false,
+        Outcome::Fault(fault) => Ok(Some(Line::Told {
+            name: name.copy(alloc)?,
+            call,
+            outcome: Outcome::Fault(*fault),
+        })),
+        Outcome::Nothing => Ok(None),
+        Outcome::Absent => Ok(None),
+        Outcome::Items(_) => Ok(None),
+        Outcome::NewComm { .. } => Ok(None),
+        Outcome::Null => Ok(None),
     }
 }
 

@@ -1,15 +1,16 @@
 //! Faults of calls whose requests are open at the end of an evaluation: nobody has waited for them to the end, so no line tells of them.
-ghost use Rattle.std.specs.Prelude.{◌≡◌, ◌≤◌, ◌++◌, IfOk, OnOk, Some, length, map, option_and_then, option_map, slice_get, string_bytes};
+ghost use Rattle.std.specs.Prelude.{◌≡◌, ◌≤◌, ◌++◌, IfOk, OnOk, Some, length, map, option_and_then, option_map, slice_get};
 ghost use Rattle.std.specs.Option.{option_copied};
 ghost use Rattle.mpx_meaning.specs.Standing.{looked_up};
+ghost use Rattle.mpx_meaning.specs.Transcripts.{line_text};
 ghost use Rattle.mpx_statement.specs.Statements.{request_of};
 ghost use Rattle.mpx_eval.specs.Carrying.{shown};
 ghost use Rattle.mpx_eval.specs.Complaints.{complaints_upto};
 ghost use Rattle.mpx_eval.specs.Found.{complaint_view};
 ghost use Rattle.mpx_eval.specs.Tables.{answer_on, table_of};
-ghost use Rattle.mpx_eval.specs.Unheard.{answer_at, fault_line, fault_of, unheard_at, unheard_found, unheard_from};
+ghost use Rattle.mpx_eval.specs.Unheard.{answer_at, fault_of, unheard_at, unheard_found, unheard_from};
 
-use crate::complaints::Complaint;
+use crate::complaints::{Complaint, fault_line};
 use crate::table::Table;
 use join_core::{Exact, OutOfMemory};
 use mpx_group::Proc;
@@ -19,7 +20,6 @@ use mpx_num::{Listing, Ops};
 use mpx_rank::{Answered, Interpreter};
 use mpx_script::Script;
 use mpx_statement::{Statement, Word};
-use mpx_value::Outcome;
 use std::alloc::Global;
 use std::collections::BTreeMap;
 
@@ -122,13 +122,13 @@ fn push_at(
     ensures { OnOk result (map complaint_view found.new.items ≡ map complaint_view found.old.items
         ++ unheard_at rank (looked_up requests.now) (answer_on (⟦<Ops as Listing>⟧.operations ops.now) (table_of table.now) me) place statement.now) }
 {
-    let Some(text) = fault_at(alloc, statement, me, requests, table, ops)? else {
+    let Some(line) = fault_at(alloc, statement, me, requests, table, ops)? else {
         return Ok(());
     };
     found.push(Complaint {
         rank,
         statement: place,
-        text,
+        line,
     })?;
     Ok(())
 }
@@ -141,8 +141,8 @@ fn fault_at(
     requests: &BTreeMap<Word, (Name, u32)>,
     table: &Table,
     ops: &Ops,
-) -> Result<Option<String>, OutOfMemory>
-    ensures { IfOk result (λ text. option_map string_bytes text
+) -> Result<Option<Line>, OutOfMemory>
+    ensures { IfOk result (λ line. option_map line_text line
         ≡ fault_of (answer_at (answer_on (⟦<Ops as Listing>⟧.operations ops.now) (table_of table.now) me) (option_and_then (looked_up requests.now) (request_of statement.now)))) }
 {
     let Some((name, call)) = open_call(statement, requests) else {
@@ -152,7 +152,7 @@ fn fault_at(
         Some(answered) => {
             let Answered { outcome, born } = answered;
             drop(born);
-            fault_line(alloc, name, *call, outcome)
+            fault_line(alloc, name, *call, &outcome)
         }
         None => Ok(None),
     }
@@ -168,33 +168,5 @@ fn open_call<'m>(
     match statement.request() {
         Some(word) => requests.get(word),
         None => None,
-    }
-}
-
-// The line that would tell an outcome, where it is a fault.
-fn fault_line(
-    alloc: Global,
-    name: &Name,
-    call: u32,
-    outcome: Outcome,
-) -> Result<Option<String>, OutOfMemory>
-    ensures { IfOk result (λ text. option_map string_bytes text ≡ fault_line outcome) }
-{
-    match outcome {
-        Outcome::Fault(fault) => {
-            let name = name.copy(alloc)?;
-            let outcome = Outcome::Fault(fault);
-            let line = Line::Told {
-                name,
-                call,
-                outcome,
-            };
-            Ok(Some(line.text(alloc)?))
-        }
-        Outcome::Nothing => Ok(None),
-        Outcome::Absent => Ok(None),
-        Outcome::Items(_) => Ok(None),
-        Outcome::NewComm { .. } => Ok(None),
-        Outcome::Null => Ok(None),
     }
 }

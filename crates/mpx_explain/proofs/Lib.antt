@@ -1,3 +1,4 @@
+mod BlamedWords
 pub mod FoundEnds
 pub mod RefusedTexts
 pub mod Summing

@@ -4,6 +4,7 @@ use Rattle.std.specs.Prelude.{OnOk, ℤ, codes}
 use Rattle.std.specs.List.{All, flat_map}
 use Rattle.std.proofs.lemmas.List.{length-map, take-map}
 use Rattle.mpx_eval.specs.declared.complaints.Complaint.{Complaint}
+use Rattle.mpx_eval.specs.Complaints.{ComplaintView}
 use Rattle.mpx_eval.specs.Found.{complaint_view}
 use Rattle.mpx_num.specs.Text.{number_text}
 use Rattle.mpx_num.specs.Wrapping.{into_range}
@@ -27,16 +28,16 @@ tells_calls text calls named shown many old new (Ok done) are same count told = 
 tells_calls text calls named shown many old new (Err e) are same count told = tt
 
 -- the same of overflows
-pub tells_overflows : {E : Type 0} (text : List ℕ) (statements : List (List Statement)) (named shown : List Overflow) (many : ℕ) (old new : List ℕ) (pushed : Result (Unit {0}) E)
-    → All (IsOverflow statements) named → shown ≡ named
-    → OnOk pushed (new ≡ (old ++ flat_map (overflow_text text) shown) ++ more_text (many - 100)) → OnOk pushed (AreOverflows text statements old new)
-tells_overflows text statements named shown many old new (Ok done) are same told = record {
+pub tells_overflows : {E : Type 0} (text : List ℕ) (statements : List (List Statement)) (complaints unheard : List ComplaintView) (named shown : List Overflow) (many : ℕ) (old new : List ℕ) (pushed : Result (Unit {0}) E)
+    → All (IsOverflow statements complaints unheard) named → shown ≡ named
+    → OnOk pushed (new ≡ (old ++ flat_map (overflow_text text) shown) ++ more_text (many - 100)) → OnOk pushed (AreOverflows text statements complaints unheard old new)
+tells_overflows text statements complaints unheard named shown many old new (Ok done) are same told = record {
   named = named;
   each = are;
   more = many - 100;
   told = told ∙ ap (λ xs. (old ++ flat_map (overflow_text text) xs) ++ more_text (many - 100)) same;
 }
-tells_overflows text statements named shown many old new (Err e) are same told = tt
+tells_overflows text statements complaints unheard named shown many old new (Err e) are same told = tt
 
 -- a number that is past its type, and what the type makes of it
 pub tells_exact : {E : Type 0} (ty : Ty) (z given : ℤ) (old mid new : List ℕ) (pushed : Result (Unit {0}) E) → mid ≡ old ++ past_text ty z → given ≡ into_range ty z

@@ -1,3 +1,4 @@
+pub mod Blame
 pub mod Findings
 pub mod Overflows
 pub mod RefusedLines

@@ -1,6 +1,6 @@
 -- Results that are past their signed type, by what the statements of their call give. That these statements meet in one call isn't said here.
-use Rattle.std.specs.Prelude.{◌≡◌, ℕ, ◌+◌, ◌^◌, ◌≤◌, Bool, true, false, cond, List, [], ◌∷◌, ◌++◌, bytes_eq, codes, length, slice_get, slice_index_or, take, Option, Some, None, option_and_then, ℤ, pos, ◌+ℤ◌, ◌*ℤ◌, unsigned_abs}
-use Rattle.std.specs.List.{All, flat_map}
+use Rattle.std.specs.Prelude.{◌≡◌, ℕ, ◌+◌, ◌^◌, ◌≤◌, ◌==◌, ◌&&◌, Bool, true, false, cond, List, [], ◌∷◌, ◌++◌, bytes_eq, codes, length, slice_get, slice_index_or, take, Option, Some, None, option_and_then, ℤ, pos, ◌+ℤ◌, ◌*ℤ◌, unsigned_abs}
+use Rattle.std.specs.List.{All, flat_map, list_any}
 use Rattle.mpx_num.specs.Text.{number_text}
 use Rattle.mpx_num.specs.Types.{IsOutOfRange}
 use Rattle.mpx_num.specs.Wrapping.{into_range}
@@ -18,6 +18,7 @@ use Rattle.mpx_statement.specs.declared.statement.Posting.TheVariants.{CreateGro
 use Rattle.mpx_statement.specs.declared.statement.Statement.{Statement}
 use Rattle.mpx_statement.specs.declared.statement.Statement.TheVariants.{Post}
 use Rattle.mpx_script.specs.LinesGiven.{lines_given}
+use Rattle.mpx_eval.specs.Complaints.{ComplaintView}
 use Rattle.mpx_waiting.specs.ToldLines.{line_at, more_text, start_text}
 use Rattle.mpx_explain.specs.declared.overflows.Overflow.{Overflow}
 
@@ -44,6 +45,13 @@ abbrev pub is_summed : Op → Bool
 is_summed Sum = true
 is_summed Prod = true
 is_summed op = false
+
+abbrev pub is_signed : Ty → Bool
+is_signed T.I8 = true
+is_signed T.I16 = true
+is_signed T.I32 = true
+is_signed T.I64 = true
+is_signed ty = false
 
 -- whole numbers, which don't wrap
 abbrev pub combined_whole : Op → ℤ → ℤ → ℤ
@@ -89,15 +97,23 @@ taken reduction ranks rank = ranks
 
 -- OVERFLOWS
 
--- a rank's statement is the rank's own among those with these places, one of each rank, which post a sum or a product on `world`, as rank 0 has
--- it. What they give at an index, as far as the rank gets it, comes to a number that is past the type, be it told or past 128 bits
-pub record IsPast (statements : List (List Statement)) (rank : ℕ) (places : List ℕ) (index statement : ℕ) (ty : Ty) (exact : Option ℤ) : Type 0 where
+-- a call is found that was refused or is a fault, of the rank's statement with this place
+abbrev pub is_named_at : (rank place : ℕ) → List ComplaintView → Bool
+is_named_at rank place complaints = list_any (λ (c : ComplaintView). (c.rank == rank) && (c.statement == place)) complaints
+
+-- a rank's statement is the rank's own among those with these places, one of each rank, which post a sum or a product of signed numbers on `world`, as
+-- rank 0 has it. Neither was it refused, nor is its call a fault, be it told or not. What they give at an index, as far as the rank gets it, comes to a number
+-- that is past the type, be it told or past 128 bits
+pub record IsPast (statements : List (List Statement)) (complaints unheard : List ComplaintView) (rank : ℕ) (places : List ℕ) (index statement : ℕ) (ty : Ty) (exact : Option ℤ) : Type 0 where
+  pub accepted : is_named_at rank statement complaints ≡ false
+  pub fine : is_named_at rank statement unheard ≡ false
   pub own : slice_get places rank ≡ Some statement
   pub place : ℕ
   pub head : slice_get places 0 ≡ Some place
   pub draft : Draft
   pub first : posted_at statements 0 place ≡ Some draft
   pub sums : is_summed draft.op ≡ true
+  pub signed : is_signed draft.ty ≡ true
   pub reduction : Reduction
   pub reduces : reduction_in draft.call ≡ Some reduction
   pub typed : ty ≡ draft.ty
@@ -106,8 +122,8 @@ pub record IsPast (statements : List (List Statement)) (rank : ℕ) (places : Li
   pub known : IsKnownAs exact whole
   pub past : IsOutOfRange ty whole
 
-abbrev pub IsOverflow : List (List Statement) → Overflow → Type 0
-IsOverflow statements o = IsPast statements o.rank o.places.items o.index o.statement o.ty o.exact
+abbrev pub IsOverflow : List (List Statement) → (complaints unheard : List ComplaintView) → Overflow → Type 0
+IsOverflow statements complaints unheard o = IsPast statements complaints unheard o.rank o.places.items o.index o.statement o.ty o.exact
 
 -- LINES
 
@@ -132,9 +148,9 @@ past_result_text ty (Some z) = past_text ty z ++ gives_text ty z
 abbrev pub overflow_text : (text : List ℕ) → Overflow → List ℕ
 overflow_text text o = start_text o.rank (line_at (lines_given o.rank text) o.statement) ++ past_result_text o.ty o.exact ++ codes "\n"
 
--- lines are told behind others: each of an overflow, and one of how many more there are
-pub record AreOverflows (text : List ℕ) (statements : List (List Statement)) (old new : List ℕ) : Type 0 where
+-- lines are told behind others: each of an overflow, where these calls were refused or are faults, and one of how many more there are
+pub record AreOverflows (text : List ℕ) (statements : List (List Statement)) (complaints unheard : List ComplaintView) (old new : List ℕ) : Type 0 where
   pub named : List Overflow
-  pub each : All (IsOverflow statements) named
+  pub each : All (IsOverflow statements complaints unheard) named
   pub more : ℕ
   pub told : new ≡ (old ++ flat_map (overflow_text text) named) ++ more_text more

@@ -1,9 +1,9 @@
--- Where ranks wait in a run that ended early, by what their own processes know. Which calls a statement waits for isn't said here.
-use Rattle.std.specs.Prelude.{◌≡◌, ℕ, zero, suc, ◌+◌, ◌-◌, ◌<◌, ◌≤◌, ◌==◌, ◌&&◌, nat_le, nat_lt, Bool, true, false, cond, List, [], ◌∷◌, ◌++◌, codes, length, replicate, slice_get, slice_index_or, slice_set, map, Option, Some, None, IsSomeAnd}
+-- Where ranks wait in a run that ended early: by how each rank ended, and by what their own processes know.
+use Rattle.std.specs.Prelude.{◌≡◌, ℕ, zero, suc, ◌-◌, ◌&&◌, nat_le, nat_lt, Bool, false, cond, List, [], ◌∷◌, ◌++◌, codes, length, slice_get, slice_index_or, map, Option, Some, None, option_and_then, IsSomeAnd}
 use Rattle.std.specs.Borrow.{Bor}
 use Rattle.std.specs.Fmt.{decimal}
-use Rattle.std.specs.List.{All, Contains, flat_map, fold, list_any, starts_with}
-use Rattle.std.specs.Option.{option_map, option_map_or}
+use Rattle.std.specs.List.{All, flat_map}
+use Rattle.std.specs.Option.{option_map, option_map_or, option_to_list}
 use Rattle.mpx_name.specs.Name.{Name}
 use Rattle.mpx_birth.specs.Births.{BirthView}
 use Rattle.mpx_post.specs.Posts.{Given}
@@ -11,66 +11,35 @@ use Rattle.mpx_board.specs.Boards.{told}
 use Rattle.mpx_node.specs.Nodes.{NodeView, freed_on, front_on, posted_on}
 use Rattle.mpx_node.specs.Shown.{node_of}
 use Rattle.mpx_node.specs.declared.node.Node.{Node}
-use Rattle.mpx_statement.specs.declared.statement.Posting.TheVariants.{Start}
 use Rattle.mpx_statement.specs.declared.statement.Statement.{Statement}
-use Rattle.mpx_statement.specs.declared.statement.Statement.TheVariants.{Post, Wait, Ask}
+use Rattle.mpx_meaning.specs.Ends.{Asked, WaitsAtView, end_view}
+use Rattle.mpx_meaning.specs.declared.end.RankEnd.{RankEnd}
 use Rattle.mpx_script.specs.LinesGiven.{lines_given}
-use Rattle.mpx_eval.specs.Complaints.{ComplaintView}
-use Rattle.mpx_eval.specs.Found.{complaint_view, missing_view, waiting_view}
-use Rattle.mpx_eval.specs.Waiting.{MissingCallView}
-use Rattle.mpx_eval.specs.declared.missing.MissingCall.{MissingCall}
+use Rattle.mpx_eval.specs.Found.{missing_view, waiting_view}
+use Rattle.mpx_eval.specs.Waiting.{MissingCallView, WaitingView}
 use Rattle.mpx_eval.specs.declared.missing.MissingMember.{MissingMember}
-use Rattle.mpx_eval.specs.declared.who_waits.WaitingRank.{WaitingRank}
 use Rattle.mpx_waiting.specs.ToldLines.{line_at, members_text, place_of, start_text, waiting_told, word_in}
 use Rattle.mpx_explain.specs.declared.ended.EndedRun.{EndedRun}
 use Rattle.mpx_explain.specs.declared.ends.EarlierCall.{EarlierCall}
 use Rattle.mpx_explain.specs.declared.ends.RunEnd.{RunEnd}
+use Rattle.mpx_explain.specs.declared.ends.Waiter.{Waiter}
 
--- WHERE A RANK STANDS
-
--- a line of this rank begins so
-abbrev pub is_complaint_of : (rank : ℕ) → (start : List ℕ) → ComplaintView → Bool
-is_complaint_of rank start c = (c.rank == rank) && starts_with ◌==◌ c.text start
-
--- the statement with this place is marked, where there is one
-abbrev pub with_mark : (place : ℕ) → List Bool → List Bool
-with_mark place marks = cond (nat_lt place (length marks)) (slice_set marks place true) marks
-
--- the statement of such a line is marked
-abbrev pub marked_by : (rank : ℕ) → (start : List ℕ) → List Bool → ComplaintView → List Bool
-marked_by rank start marks c = cond (is_complaint_of rank start c) (with_mark c.statement marks) marks
-
--- of so many statements of a rank those that have such a line
-abbrev pub marks_of : (count rank : ℕ) → (start : List ℕ) → List ComplaintView → List Bool
-marks_of count rank start complaints = fold (marked_by rank start) (replicate count false) complaints
-
--- how many lines a statement has that is done, be it refused: a nonblocking call has one only where it is refused
-abbrev pub lines_of : (is_refused : Bool) → Statement → ℕ
-lines_of is_refused (Post (Start on draft request)) = cond is_refused 1 0
-lines_of is_refused (Post posting) = 1
-lines_of is_refused (Wait words) = length words
-lines_of is_refused (Ask question) = 1
-
--- the place of the first of these statements, of which the first has that place, whose lines aren't all among so many
-abbrev pub first_untold : (refused : List Bool) → (place : ℕ) → List Statement → (lines : ℕ) → Option ℕ
-first_untold refused place [] lines = None
-first_untold refused place (statement ∷ more) lines =
-    cond (nat_lt lines (lines_of (slice_index_or refused place false) statement)) (Some place) (first_untold refused (place + 1) more (lines - lines_of (slice_index_or refused place false) statement))
+-- WHERE A RANK WAITS
 
 abbrev pub statements_of_rank : EndedRun → (rank : ℕ) → List Statement
 statements_of_rank run rank = slice_index_or run.script.now.statements rank []
 
--- which of a rank's statements were refused, by the complaints of the script's evaluation
-abbrev pub refused_in : EndedRun → (rank : ℕ) → List Bool
-refused_in run rank = marks_of (length (statements_of_rank run rank)) rank (codes "refused ") (map complaint_view run.complaints.now)
+-- where a rank waits by its end: how many of its statements are left there, and which calls are asked for
+abbrev pub waits_in : EndedRun → (rank : ℕ) → Option WaitsAtView
+waits_in run rank = option_and_then (λ (end : RankEnd). (end_view end).waits) (slice_get run.ends.now rank)
 
--- how many lines a rank has
-abbrev pub line_count : EndedRun → (rank : ℕ) → ℕ
-line_count run rank = slice_index_or run.lines.now rank 0
+-- the place of the statement at which so many are left
+abbrev pub place_with : EndedRun → (rank : ℕ) → WaitsAtView → ℕ
+place_with run rank w = length (statements_of_rank run rank) - w.left
 
--- where a rank waits: at the first statement whose lines it hasn't all; nowhere, where it doesn't wait
+-- that of the statement at which a rank waits, if it does
 abbrev pub waiting_place : EndedRun → (rank : ℕ) → Option ℕ
-waiting_place run rank = cond (list_any (λ (other : ℕ). other == rank) run.waiting.now) (first_untold (refused_in run rank) 0 (statements_of_rank run rank) (line_count run rank)) None
+waiting_place run rank = option_map (place_with run rank) (waits_in run rank)
 
 -- WHOSE POSTS A BOARD LACKS
 
@@ -101,56 +70,63 @@ lacked_in run node name call (Some birth) = flat_map (lacked_of run node name ca
 abbrev pub lacked_by : EndedRun → NodeView → Name → (call : ℕ) → List MissingMember
 lacked_by run node name call = lacked_in run node name call (told (node.board.contexts name).birth)
 
--- a process has not harvested a call, and its own board lacks the posts of just these members, of which there are some
-pub record IsLacking (run : EndedRun) (node : NodeView) (c : MissingCallView) : Type 0 where
-  pub unharvested : front_on node c.name ≤ c.call
-  pub some : 0 < length c.missing
-  pub missing : c.missing ≡ lacked_by run node c.name c.call
+-- a call with the members whose posts to it are lacking, where there are some
+abbrev pub with_missing : (request : Option (List ℕ)) → Name → (call : ℕ) → List MissingMember → Option MissingCallView
+with_missing request name call [] = None
+with_missing request name call (member ∷ more) = Some (record { request = request; name = name; call = call; missing = member ∷ more })
 
--- a rank's process does
-abbrev pub LacksPosts : EndedRun → (rank : ℕ) → MissingCall → Type 0
-LacksPosts run rank c = IsSomeAnd (process_of run rank) (λ (node : NodeView). IsLacking run node (missing_view c))
+-- a call of which a process has no result, and whose posts to it its own board lacks, where it lacks some
+abbrev pub lacking_at : EndedRun → NodeView → (request : Option (List ℕ)) → Name → (call : ℕ) → Option MissingCallView
+lacking_at run node request name call = cond (nat_lt call (front_on node name)) None (with_missing request name call (lacked_by run node name call))
+
+-- the same of one that is asked for
+abbrev pub lacking_of : EndedRun → NodeView → Asked → List MissingCallView
+lacking_of run node a = option_to_list (lacking_at run node a.0 a.1.0 a.1.1)
+
+-- those of the calls that a rank with this process asks for
+abbrev pub calls_of : EndedRun → Option NodeView → List Asked → List MissingCallView
+calls_of run None asked = []
+calls_of run (Some node) asked = flat_map (lacking_of run node) asked
+
+-- a process has no result of a call, and its board lacks the posts of just these members
+abbrev pub IsLacking : EndedRun → NodeView → MissingCallView → Type 0
+IsLacking run node c = lacking_at run node c.request c.name c.call ≡ Some c
 
 -- WHO WAITS
 
--- where a rank waits, if it does
-abbrev pub waiting_there : (rank : ℕ) → Option ℕ → List (ℕ × ℕ)
-waiting_there rank None = []
-waiting_there rank (Some place) = (rank, place) ∷ []
+-- where a rank waits: at which statement, and for which calls whose posts its board lacks
+abbrev pub waits_at : EndedRun → (rank : ℕ) → WaitsAtView → WaitingView
+waits_at run rank w = record { rank = rank; statement = place_with run rank w; calls = calls_of run (process_of run rank) w.calls }
+
+-- the same, if it waits
+abbrev pub waits_of : EndedRun → (rank : ℕ) → List WaitingView
+waits_of run rank = option_to_list (option_map (waits_at run rank) (waits_in run rank))
 
 -- of the first so many ranks, in their order
-abbrev pub waiting_upto : EndedRun → (ranks : ℕ) → List (ℕ × ℕ)
+abbrev pub waiting_upto : EndedRun → (ranks : ℕ) → List WaitingView
 waiting_upto run zero = []
-waiting_upto run (suc n) = waiting_upto run n ++ waiting_there n (waiting_place run n)
-
--- a rank and a statement
-abbrev pub where_of : WaitingRank → ℕ × ℕ
-where_of w = (w.rank, w.statement)
-
--- of each of its calls that are told the rank's board lacks posts
-abbrev pub AreLacked : EndedRun → WaitingRank → Type 0
-AreLacked run w = All (LacksPosts run w.rank) w.calls.items
+waiting_upto run (suc n) = waiting_upto run n ++ waits_of run n
 
 -- a rank waits there, and of an earlier call its board lacks posts
 pub record ComesFirst (run : EndedRun) (e : EarlierCall) : Type 0 where
   pub waits : waiting_place run e.rank ≡ Some e.statement
-  pub lacks : LacksPosts run e.rank e.call
+  pub lacks : IsSomeAnd (process_of run e.rank) (λ (node : NodeView). IsLacking run node (missing_view e.call))
 
--- a rank waits there, and is among those that are told, with no call of which its board lacks posts
-pub record IsServed (run : EndedRun) (told : List WaitingRank) (place : ℕ × ℕ) : Type 0 where
-  pub waits : waiting_place run place.0 ≡ Some place.1
-  pub rank : WaitingRank
-  pub among : Contains told rank
-  pub there : where_of rank ≡ place
-  pub none : rank.calls.items ≡ []
+-- a rank waits there, for no call whose posts its board lacks
+abbrev pub IsServed : EndedRun → ℕ × ℕ → Type 0
+IsServed run place = waits_of run place.0 ≡ record { rank = place.0; statement = place.1; calls = [] } ∷ []
 
--- those are told that wait in a run, in rank order, each at its statement, and no other; of each call just the posts that the rank's own board lacks;
--- and all posts have come at those alone that are told with no such call
+-- those are told that wait in a run, in rank order, each at its statement with just those of the calls that are asked for there whose posts the rank's own board
+-- lacks, and whose; and all posts have come at those alone that are told with no such call
 pub record TellsRun (run : EndedRun) (end : RunEnd) : Type 0 where
-  pub places : map where_of end.waiting.items ≡ waiting_upto run run.script.now.ranks
-  pub lacked : All (AreLacked run) end.waiting.items
+  pub waiting : map waiting_view end.waiting.items ≡ waiting_upto run run.script.now.ranks
   pub earlier : All (ComesFirst run) end.earlier.items
-  pub served : All (IsServed run end.waiting.items) end.served.items
+  pub served : All (IsServed run) end.served.items
+
+-- this rank waits at this statement, and this is its process
+pub record Waits (w : Waiter) : Type 0 where
+  pub there : waiting_place w.run.now w.rank ≡ Some w.statement
+  pub own : slice_get w.run.now.nodes.now w.rank ≡ Some w.node
 
 -- LINES
 

@@ -5,6 +5,7 @@ use crate::size::{push_counted, push_value};
 use join_core::OutOfMemory;
 use mpx_kind::{Exchange, Kind, Reduction};
 use mpx_post::Draft;
+use mpx_value::FaultKind;
 
 /// What a rank gives to a call.
 #[derive(Drop)]
@@ -30,24 +31,16 @@ pub(crate) enum Aspect {
     Between(Exchange),
 }
 
-/// In what the fault is that the text tells of a call like the draft's, where more can be told of it.
-pub(crate) fn aspect_of(text: &[u8], draft: &Draft) -> Option<Aspect> {
-    if text.starts_with(b"fault Kind ") {
-        return Some(Aspect::Call);
+/// In what the fault is of a call like the draft's, where more can be told of it.
+pub(crate) fn aspect_of(what: FaultKind, draft: &Draft) -> Option<Aspect> {
+    match what {
+        FaultKind::Kind => Some(Aspect::Call),
+        FaultKind::Root => Some(Aspect::Root),
+        FaultKind::Op => Some(Aspect::Operation),
+        FaultKind::ItemType => Some(Aspect::ItemType),
+        FaultKind::Amount => amounts_of(draft.call.kind()),
+        FaultKind::Mode | FaultKind::Weights | FaultKind::Edges | FaultKind::Groups => None,
     }
-    if text.starts_with(b"fault Root ") {
-        return Some(Aspect::Root);
-    }
-    if text.starts_with(b"fault Op ") {
-        return Some(Aspect::Operation);
-    }
-    if text.starts_with(b"fault ItemType ") {
-        return Some(Aspect::ItemType);
-    }
-    if text.starts_with(b"fault Amount ") {
-        return amounts_of(draft.call.kind());
-    }
-    None
 }
 
 // Which amounts a kind of call compares.

@@ -1,5 +1,9 @@
-//! Which word of a refused line is to blame, found by trials of the line with other words. Which one it is isn't claimed.
-ghost use Rattle.std.specs.Prelude.{◌<◌, ◌≤◌, IfOk, IfSome, length};
+//! Which word of a refused line is to blame, found by trials of the line with other words: it is a word of the line. Which one it is isn't claimed.
+ghost use Rattle.std.specs.Prelude.{◌≡◌, ◌++◌, ◌∷◌, ◌-◌, ◌≤◌, [], ◌+◌, IfOk, IfSome, List, OnOk, cond, length, slice_get, take, true, ℕ};
+ghost use Rattle.std.specs.Option.{option_map};
+ghost use Rattle.std.specs.Str.Lines.{lines};
+ghost use Rattle.mpx_script.specs.Words.{bytes_limit, has_bytes, words};
+ghost use Rattle.mpx_explain.specs.Blame.{IsBlamed, IsLineOf, words_told};
 
 use crate::forms::{Misfit, form_of, misfit_of};
 use crate::trials::{Change, RANKS, fault_of};
@@ -35,7 +39,7 @@ pub fn word_to_blame(
     refusal: ScriptError,
     ops: &Ops,
 ) -> Result<Option<Blamed>, OutOfMemory>
-    ensures { IfOk result (λ found. IfSome found (λ blamed. (0 < blamed.place) × (blamed.place ≤ 64))) }
+    ensures { IfOk result (λ found. IfSome found (λ blamed. IsBlamed text.now refusal.line blamed)) }
 {
     let Some(line) = line_in(alloc, text, refusal.line)? else {
         return Ok(None);
@@ -49,13 +53,16 @@ pub fn word_to_blame(
 // The word at this place of a line, from 0 on.
 fn blamed_at(alloc: Global, line: &Line<'_>, place: usize) -> Result<Option<Blamed>, OutOfMemory>
     requires { length line.now.words.items ≤ 64 }
-    ensures { IfOk result (λ found. IfSome found (λ blamed. (0 < blamed.place) × (blamed.place ≤ 64))) }
+    ensures { IfOk result (λ found. IfSome found (λ blamed. (text : List ℕ) (number : ℕ) → IsLineOf text number line.now → IsBlamed text number blamed)) }
 {
     match line.words.get(place) {
-        Some(word) => Ok(Some(Blamed {
-            place: place.saturating_add(1),
-            word: String::from_str(alloc, word)?,
-        })),
+        Some(found) => {
+            let word = String::from_str(alloc, found)?;
+            Ok(Some(Blamed {
+                place: place + 1,
+                word,
+            }))
+        }
         None => Ok(None),
     }
 }
@@ -66,38 +73,92 @@ pub(crate) fn line_in(
     text: &[u8],
     number: u32,
 ) -> Result<Option<Line<'_>>, OutOfMemory>
-    ensures { IfOk result (λ found. IfSome found (λ line. length line.words.items ≤ 64)) }
+    ensures { IfOk result (λ found. IfSome found (λ line. IsLineOf text.now number line)) }
 {
-    let Ok(text) = str::from_utf8(text) else {
+    let Ok(seen) = str::from_utf8(seen_part(text)) else {
         return Ok(None);
     };
-    let (before, line) = line_of(text, number);
-    let mut words = Vec::new(alloc);
-    for word in line.split_whitespace() {
-        if words.len() == MOST_WORDS {
-            return Ok(None);
-        }
-        words.push(word)?;
+    let Some(line) = line_with(seen, number) else {
+        return Ok(None);
+    };
+    match words_of(alloc, line)? {
+        Some(words) => Ok(Some(Line {
+            before: before_line(seen, number),
+            words,
+        })),
+        None => Ok(None),
     }
-    Ok(Some(Line { before, words }))
 }
 
-// The line with this number, from 1 on, and the text before it.
-fn line_of(text: &str, number: u32) -> (&str, &str) {
+// So many bytes a script has at most.
+const BYTES: usize = 1_048_576;
+
+// The text up to the byte that passes the limit.
+fn seen_part(text: &[u8]) -> &[u8]
+    ensures { result.now ≡ take (bytes_limit + 1) text.now }
+{
+    if text.len() > BYTES {
+        text.split_at(BYTES + 1).0
+    } else {
+        text
+    }
+}
+
+// The line with this number, from 1 on.
+fn line_with(text: &str, number: u32) -> Option<&str>
+    ensures { option_map (λ line. line.now) result ≡ slice_get (lines text.now) (number - 1) }
+{
+    text.lines().nth(number.saturating_sub(1) as usize)
+}
+
+// The text before the line with this number.
+fn before_line(text: &str, number: u32) -> &str {
     let mut rest = text;
     let mut before = 0usize;
     for _ in 1..number {
         let Some((line, behind)) = rest.split_once('\n') else {
-            return (text, "");
+            return text;
         };
         before = before.saturating_add(line.len()).saturating_add(1);
         rest = behind;
     }
-    let line = match rest.split_once('\n') {
-        Some((line, _)) => line,
-        None => rest,
-    };
-    (text.get(..before).unwrap_or(""), line)
+    text.get(..before).unwrap_or("")
+}
+
+// The words of a line, where they are at most 64.
+fn words_of(alloc: Global, line: &str) -> Result<Option<Vec<&str>>, OutOfMemory>
+    ensures { IfOk result (λ found. IfSome found (λ some. (length some.items ≤ 64) × (words_told some.items ≡ words line.now))) }
+{
+    let mut words = Vec::new(alloc);
+    for part in line
+        .as_bytes()
+        .split(|byte| *byte == b' ' || *byte == b'\t')
+    {
+        if !push_part(part, &mut words)? {
+            return Ok(None);
+        }
+    }
+    Ok(Some(words))
+}
+
+// Adds what stands between two blanks, where anything does. It answers whether it is text, and there is room for it.
+fn push_part<'t>(part: &'t [u8], words: &mut Vec<&'t str>) -> Result<bool, OutOfMemory>
+    ensures words { IfOk result (λ fits. fits ≡ true → words_told words.new.items ≡ words_told words.old.items ++ cond (has_bytes part.now) (part.now ∷ []) []) }
+    ensures few { OnOk result (length words.old.items ≤ 64 → length words.new.items ≤ 64) }
+{
+    if part.is_empty() {
+        return Ok(true);
+    }
+    if words.len() >= MOST_WORDS {
+        return Ok(false);
+    }
+    match str::from_utf8(part) {
+        Ok(word) => {
+            words.push(word)?;
+            Ok(true)
+        }
+        Err(_) => Ok(false),
+    }
 }
 
 /// The place of the word that is to blame, from 0 on.

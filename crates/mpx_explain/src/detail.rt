@@ -240,6 +240,7 @@ fn why_of(
     ops: &Ops,
 ) -> Result<Option<String>, OutOfMemory> {
     match what {
+        ScriptFault::UnknownStatement if place == 0 => lacking_label(alloc, word),
         // (a line's second word is its statement)
         ScriptFault::UnknownStatement => meant(alloc, word, place == 1),
         ScriptFault::RanksOutOfRange => {
@@ -247,6 +248,21 @@ fn why_of(
         }
         ScriptFault::RankOutOfRange => last_rank(alloc, line, ops),
         _ => Ok(None),
+    }
+}
+
+// What lacks where a line begins with this word in place of a label.
+fn lacking_label(alloc: Global, word: &str) -> Result<Option<String>, OutOfMemory> {
+    if form_of(word).is_some() {
+        let told = "a line begins with its rank and a colon, as 0: or *: for all";
+        return Ok(Some(String::from_str(alloc, told)?));
+    }
+    match word.split_once(':') {
+        Some((_, statement)) if form_of(statement).is_some() => {
+            let told = "a blank is missing behind the colon";
+            Ok(Some(String::from_str(alloc, told)?))
+        }
+        _ => meant(alloc, word, false),
     }
 }
 

@@ -1,18 +1,22 @@
 //! Where ranks wait at the end of a run that ended early, and whose posts they lack by what their own boards hold.
-ghost use Rattle.std.specs.Prelude.{◌≡◌, ◌==◌, ◌&&◌, ◌++◌, ◌∷◌, [], IfOk, IfSome, OnOk, Some, length, map, not, slice_get, true};
-ghost use Rattle.std.specs.List.{All};
-ghost use Rattle.mpx_explain.specs.declared.ended.EndedRun.{EndedRun as Ended};
-ghost use Rattle.mpx_explain.specs.RunEnds.{AreLacked, ComesFirst, IsServed, LacksPosts, TellsRun, waiting_there, waiting_place, where_of};
+ghost use Rattle.std.specs.Prelude.{◌≡◌, ◌++◌, ◌∷◌, [], IfOk, IfSome, OnOk, Some, map};
+ghost use Rattle.std.specs.List.{All, flat_map};
+ghost use Rattle.std.specs.Option.{option_copied, option_map};
+ghost use Rattle.mpx_node.specs.Shown.{node_of};
+ghost use Rattle.mpx_meaning.specs.Ends.{asked_view, waits_at_view};
+ghost use Rattle.mpx_eval.specs.Found.{missing_view, waiting_view};
+ghost use Rattle.mpx_explain.specs.RunEnds.{ComesFirst, IsLacking, IsServed, TellsRun, Waits, calls_of, lacking_of, process_of, waiting_place, waits_at, waits_in, waits_of};
 
-use crate::ended::{EndedRun, node_at};
+use crate::ended::{EndedRun, end_at, node_at};
 use crate::lacking::lacking_call;
-use crate::standing::{refused_in, waits_at};
-use crate::walk::{Awaited, Walk, walk_to};
-use join_core::OutOfMemory;
+use crate::made::made_at;
+use join_core::{Exact, OutOfMemory};
 use mpx_eval::{MissingCall, WaitingRank};
+use mpx_meaning::{AskedCall, WaitsAt};
+use mpx_name::Name;
 use mpx_node::Node;
-use mpx_script::Statement;
 use std::alloc::Global;
+use std::collections::BTreeMap;
 
 /// Where ranks wait at the end of a run.
 #[derive(Drop)]
@@ -58,283 +62,214 @@ fn push_rank(
     rank: u8,
     end: &mut RunEnd,
 ) -> Result<(), OutOfMemory>
-    ensures places { OnOk result (map where_of end.new.waiting.items ≡ map where_of end.old.waiting.items ++ waiting_there rank (waiting_place run.now rank)) }
-    ensures lacked { OnOk result (All (AreLacked run.now) end.old.waiting.items → All (AreLacked run.now) end.new.waiting.items) }
+    ensures waiting { OnOk result (map waiting_view end.new.waiting.items ≡ map waiting_view end.old.waiting.items ++ waits_of run.now rank) }
     ensures earlier { OnOk result (All (ComesFirst run.now) end.old.earlier.items → All (ComesFirst run.now) end.new.earlier.items) }
-    ensures served { OnOk result (All (IsServed run.now end.old.waiting.items) end.old.served.items → All (IsServed run.now end.new.waiting.items) end.new.served.items) }
+    ensures served { OnOk result (All (IsServed run.now) end.old.served.items → All (IsServed run.now) end.new.served.items) }
 {
-    let refused = refused_in(alloc, run, rank)?;
-    let place = waits_at(run, rank, &refused);
-    push_at(alloc, run, rank, place, &refused, end)?;
-    Ok(())
-}
-
-// Adds a rank that waits at the statement with this place, where there is one.
-fn push_at(
-    alloc: Global,
-    run: &EndedRun<'_>,
-    rank: u8,
-    place: Option<usize>,
-    refused: &[bool],
-    end: &mut RunEnd,
-) -> Result<(), OutOfMemory>
-    requires { waiting_place run.now rank ≡ place }
-    ensures places { OnOk result (map where_of end.new.waiting.items ≡ map where_of end.old.waiting.items ++ waiting_there rank place) }
-    ensures lacked { OnOk result (All (AreLacked run.now) end.old.waiting.items → All (AreLacked run.now) end.new.waiting.items) }
-    ensures earlier { OnOk result (All (ComesFirst run.now) end.old.earlier.items → All (ComesFirst run.now) end.new.earlier.items) }
-    ensures served { OnOk result (All (IsServed run.now end.old.waiting.items) end.old.served.items → All (IsServed run.now end.new.waiting.items) end.new.served.items) }
-{
-    match place {
-        Some(statement) => push_waiting(alloc, run, rank, statement, refused, end),
+    match waits_in(run, rank) {
+        Some(waits) => push_waiting(alloc, run, rank, waits, end),
         None => Ok(()),
     }
 }
 
-// Adds a rank that waits at the statement with this place.
+// Where a rank waits, if it does.
+fn waits_in<'r>(run: &EndedRun<'r>, rank: u8) -> Option<&'r WaitsAt>
+    ensures { option_map waits_at_view (option_copied result) ≡ waits_in run.now rank }
+{
+    match end_at(run, rank) {
+        Some(end) => end.waits.as_ref(),
+        None => None,
+    }
+}
+
+// Adds a rank that waits.
 fn push_waiting(
     alloc: Global,
     run: &EndedRun<'_>,
     rank: u8,
-    statement: usize,
-    refused: &[bool],
+    waits: &WaitsAt,
     end: &mut RunEnd,
 ) -> Result<(), OutOfMemory>
-    requires { waiting_place run.now rank ≡ Some statement }
-    ensures places { OnOk result (map where_of end.new.waiting.items ≡ map where_of end.old.waiting.items ++ (rank, statement) ∷ []) }
-    ensures lacked { OnOk result (All (AreLacked run.now) end.old.waiting.items → All (AreLacked run.now) end.new.waiting.items) }
+    requires { waits_in run.now rank ≡ Some (waits_at_view waits.now) }
+    ensures waiting { OnOk result (map waiting_view end.new.waiting.items ≡ map waiting_view end.old.waiting.items ++ waits_at run.now rank (waits_at_view waits.now) ∷ []) }
     ensures earlier { OnOk result (All (ComesFirst run.now) end.old.earlier.items → All (ComesFirst run.now) end.new.earlier.items) }
-    ensures served { OnOk result (All (IsServed run.now end.old.waiting.items) end.old.served.items → All (IsServed run.now end.new.waiting.items) end.new.served.items) }
+    ensures served { OnOk result (All (IsServed run.now) end.old.served.items → All (IsServed run.now) end.new.served.items) }
 {
-    let Found { waiting, is_served } = found_at(
-        alloc,
-        run,
-        rank,
-        statement,
-        refused,
-        &mut end.earlier,
-    )?;
+    let many = end.earlier.len();
+    let waiting = waiting_rank(alloc, run, rank, waits, &mut end.earlier)?;
+    let is_served = !waits.calls.is_empty()
+        && waiting.calls.is_empty()
+        && end.earlier.len() == many;
+    let place = (rank, waiting.statement);
     end.waiting.push(waiting)?;
-    if !is_served {
-        return Ok(());
+    if is_served {
+        end.served.push(place)?;
     }
-    end.served.push((rank, statement))?;
     Ok(())
 }
 
-// A rank that waits, and whether its board lacks no post.
-#[derive(Drop)]
-struct Found {
-    waiting: WaitingRank,
-    is_served: bool,
+// A rank that waits, with the calls of which its board lacks posts. Earlier ones that come first are added to these.
+fn waiting_rank(
+    alloc: Global,
+    run: &EndedRun<'_>,
+    rank: u8,
+    waits: &WaitsAt,
+    earlier: &mut Vec<EarlierCall>,
+) -> Result<WaitingRank, OutOfMemory>
+    requires { waits_in run.now rank ≡ Some (waits_at_view waits.now) }
+    ensures waiting { IfOk result (λ waiting. waiting_view waiting ≡ waits_at run.now rank (waits_at_view waits.now)) }
+    ensures earlier { OnOk result (All (ComesFirst run.now) earlier.old.items → All (ComesFirst run.now) earlier.new.items) }
+{
+    let statement = run.script.statements(rank).len().saturating_sub(waits.left);
+    let calls = calls_at(alloc, run, rank, statement, &waits.calls, earlier)?;
+    Ok(WaitingRank {
+        rank,
+        statement,
+        calls,
+    })
 }
 
-// What is found of a rank that waits at the statement with this place. The calls that come first are added to the earlier ones.
-fn found_at(
+// Those of these calls of which the rank's node has no result and its board lacks posts.
+fn calls_at(
     alloc: Global,
     run: &EndedRun<'_>,
     rank: u8,
     statement: usize,
-    refused: &[bool],
+    asked: &[AskedCall],
     earlier: &mut Vec<EarlierCall>,
-) -> Result<Found, OutOfMemory>
+) -> Result<Vec<MissingCall>, OutOfMemory>
     requires { waiting_place run.now rank ≡ Some statement }
-    ensures place { IfOk result (λ found. where_of found.waiting ≡ (rank, statement)) }
-    ensures lacked { IfOk result (λ found. AreLacked run.now found.waiting) }
-    ensures served { IfOk result (λ found. found.is_served ≡ true → found.waiting.calls.items ≡ []) }
+    ensures calls { IfOk result (λ calls. map missing_view calls.items ≡ calls_of run.now (process_of run.now rank) (map asked_view asked.now)) }
     ensures earlier { OnOk result (All (ComesFirst run.now) earlier.old.items → All (ComesFirst run.now) earlier.new.items) }
 {
     match node_at(run, rank) {
-        Some(node) => found_by(alloc, run, node, rank, statement, refused, earlier),
-        None => Ok(found_with(rank, statement, Vec::new(alloc), false)),
-    }
-}
-
-// The same of a rank with this node, by what its words stand for there.
-fn found_by(
-    alloc: Global,
-    run: &EndedRun<'_>,
-    node: &Node,
-    rank: u8,
-    statement: usize,
-    refused: &[bool],
-    earlier: &mut Vec<EarlierCall>,
-) -> Result<Found, OutOfMemory>
-    requires waits { waiting_place run.now rank ≡ Some statement }
-    requires own { slice_get run.now.nodes.now rank ≡ Some node }
-    ensures place { IfOk result (λ found. where_of found.waiting ≡ (rank, statement)) }
-    ensures lacked { IfOk result (λ found. AreLacked run.now found.waiting) }
-    ensures served { IfOk result (λ found. found.is_served ≡ true → found.waiting.calls.items ≡ []) }
-    ensures earlier { OnOk result (All (ComesFirst run.now) earlier.old.items → All (ComesFirst run.now) earlier.new.items) }
-{
-    let statements = run.script.statements(rank);
-    let mut walk = walk_to(alloc, node, statements, refused, statement)?;
-    let found = found_behind(alloc, run, node, rank, statement, &mut walk, earlier);
-    drop(walk);
-    found
-}
-
-// The same behind the statements before, by the calls that are asked for.
-fn found_behind(
-    alloc: Global,
-    run: &EndedRun<'_>,
-    node: &Node,
-    rank: u8,
-    statement: usize,
-    walk: &mut Walk,
-    earlier: &mut Vec<EarlierCall>,
-) -> Result<Found, OutOfMemory>
-    requires waits { waiting_place run.now rank ≡ Some statement }
-    requires own { slice_get run.now.nodes.now rank ≡ Some node }
-    ensures place { IfOk result (λ found. where_of found.waiting ≡ (rank, statement)) }
-    ensures lacked { IfOk result (λ found. AreLacked run.now found.waiting) }
-    ensures served { IfOk result (λ found. found.is_served ≡ true → found.waiting.calls.items ≡ []) }
-    ensures earlier { OnOk result (All (ComesFirst run.now) earlier.old.items → All (ComesFirst run.now) earlier.new.items) }
-{
-    let asked = asked_at(alloc, node, run.script.statements(rank), statement, walk)?;
-    let found = found_among(alloc, run, node, rank, statement, &asked, walk, earlier);
-    drop(asked);
-    found
-}
-
-// The same, where these calls are asked for.
-fn found_among(
-    alloc: Global,
-    run: &EndedRun<'_>,
-    node: &Node,
-    rank: u8,
-    statement: usize,
-    asked: &[Awaited],
-    walk: &Walk,
-    earlier: &mut Vec<EarlierCall>,
-) -> Result<Found, OutOfMemory>
-    requires waits { waiting_place run.now rank ≡ Some statement }
-    requires own { slice_get run.now.nodes.now rank ≡ Some node }
-    ensures place { IfOk result (λ found. where_of found.waiting ≡ (rank, statement)) }
-    ensures lacked { IfOk result (λ found. AreLacked run.now found.waiting) }
-    ensures served { IfOk result (λ found. found.is_served ≡ true → found.waiting.calls.items ≡ []) }
-    ensures earlier { OnOk result (All (ComesFirst run.now) earlier.old.items → All (ComesFirst run.now) earlier.new.items) }
-{
-    let many = earlier.len();
-    let calls = push_asked(alloc, run, node, rank, statement, asked, walk, earlier)?;
-    let served = is_served(asked, &calls, earlier.len() == many);
-    Ok(found_with(rank, statement, calls, served))
-}
-
-fn found_with(rank: u8, statement: usize, calls: Vec<MissingCall>, is_served: bool) -> Found
-    ensures place { where_of result.waiting ≡ (rank, statement) }
-    ensures lacked { (run : Ended) → All (LacksPosts run rank) calls.items → AreLacked run result.waiting }
-    ensures calls { result.waiting.calls.items ≡ calls.items }
-    ensures served { result.is_served ≡ is_served }
-{
-    Found {
-        waiting: WaitingRank {
-            rank,
-            statement,
-            calls,
-        },
-        is_served,
-    }
-}
-
-// Whether posts are lacking of none of the calls that are asked for, and of no earlier one.
-fn is_served(asked: &[Awaited], calls: &[MissingCall], no_earlier: bool) -> bool
-    ensures { result ≡ (not (length asked.now == 0) && (length calls.now == 0) && no_earlier) }
-{
-    !asked.is_empty() && calls.is_empty() && no_earlier
-}
-
-// The calls that the statement at this place waits for.
-fn asked_at(
-    alloc: Global,
-    node: &Node,
-    statements: &[Statement],
-    place: usize,
-    walk: &mut Walk,
-) -> Result<Vec<Awaited>, OutOfMemory> {
-    match statements.get(place) {
-        Some(statement) => walk.awaited(alloc, node, statement),
+        Some(node) => {
+            let waiter = Waiter {
+                run,
+                node: *node,
+                rank,
+                statement,
+            };
+            calls_by(alloc, &waiter, asked, earlier)
+        }
         None => Ok(Vec::new(alloc)),
     }
 }
 
-// Those of these calls of which the node's board lacks posts. Of one of which it lacks none the first call before that of which it does is
-// added to the earlier ones.
-fn push_asked(
-    alloc: Global,
-    run: &EndedRun<'_>,
-    node: &Node,
+// A rank that waits at the statement with this place, and its node.
+#[derive(Clone, Copy, Drop)]
+struct Waiter<'r> {
+    run: &'r EndedRun<'r>,
+    node: &'r Node,
     rank: u8,
     statement: usize,
-    asked: &[Awaited],
-    walk: &Walk,
+}
+
+// The same by this node. Up to which call each context is looked through for an earlier one is kept; None where one is told.
+fn calls_by(
+    alloc: Global,
+    waiter: &Waiter<'_>,
+    asked: &[AskedCall],
     earlier: &mut Vec<EarlierCall>,
 ) -> Result<Vec<MissingCall>, OutOfMemory>
-    requires waits { waiting_place run.now rank ≡ Some statement }
-    requires own { slice_get run.now.nodes.now rank ≡ Some node }
-    ensures calls { IfOk result (λ calls. All (LacksPosts run.now rank) calls.items) }
-    ensures earlier { OnOk result (All (ComesFirst run.now) earlier.old.items → All (ComesFirst run.now) earlier.new.items) }
+    requires { Waits waiter.now }
+    ensures calls { IfOk result (λ calls. map missing_view calls.items ≡ flat_map (lacking_of waiter.now.run.now (node_of waiter.now.node.now)) (map asked_view asked.now)) }
+    ensures earlier { OnOk result (All (ComesFirst waiter.now.run.now) earlier.old.items → All (ComesFirst waiter.now.run.now) earlier.new.items) }
 {
     let mut calls = Vec::new(alloc);
+    let mut looked: BTreeMap<Name, Option<u32>> = BTreeMap::new(alloc);
     for one in asked {
-        push_call(
-            alloc, run, node, rank, statement, one, walk, &mut calls, earlier,
-        )?;
+        push_call(alloc, waiter, one, &mut looked, &mut calls, earlier)?;
     }
     Ok(calls)
 }
 
-// Adds a call, where the node has no result of it and its board lacks posts of it, or the first one before it.
+// Adds a call, where the node has no result of it and its board lacks posts of it; else the first one before it, to the earlier ones.
 fn push_call(
     alloc: Global,
-    run: &EndedRun<'_>,
-    node: &Node,
-    rank: u8,
-    statement: usize,
-    asked: &Awaited,
-    walk: &Walk,
+    waiter: &Waiter<'_>,
+    asked: &AskedCall,
+    looked: &mut BTreeMap<Name, Option<u32>>,
     calls: &mut Vec<MissingCall>,
     earlier: &mut Vec<EarlierCall>,
 ) -> Result<(), OutOfMemory>
-    requires waits { waiting_place run.now rank ≡ Some statement }
-    requires own { slice_get run.now.nodes.now rank ≡ Some node }
-    ensures calls { OnOk result (All (LacksPosts run.now rank) calls.old.items → All (LacksPosts run.now rank) calls.new.items) }
-    ensures earlier { OnOk result (All (ComesFirst run.now) earlier.old.items → All (ComesFirst run.now) earlier.new.items) }
+    requires { Waits waiter.now }
+    ensures calls { OnOk result (map missing_view calls.new.items ≡ map missing_view calls.old.items ++ lacking_of waiter.now.run.now (node_of waiter.now.node.now) (asked_view asked.now)) }
+    ensures earlier { OnOk result (All (ComesFirst waiter.now.run.now) earlier.old.items → All (ComesFirst waiter.now.run.now) earlier.new.items) }
 {
-    if asked.call < node.front(&asked.name) {
-        return Ok(());
-    }
-    let found = lacking_call(alloc, run, node, rank, asked, asked.call)?;
+    let found = lacking_call(alloc, waiter.run, waiter.node, asked, asked.call)?;
     match found {
         Some(call) => Ok(calls.push(call)?),
+        None => push_earlier(alloc, waiter, asked, looked, earlier),
+    }
+}
+
+// Adds the first call before that of which the rank's board lacks posts, where there is one, and it isn't told already.
+fn push_earlier(
+    alloc: Global,
+    waiter: &Waiter<'_>,
+    asked: &AskedCall,
+    looked: &mut BTreeMap<Name, Option<u32>>,
+    earlier: &mut Vec<EarlierCall>,
+) -> Result<(), OutOfMemory>
+    requires { Waits waiter.now }
+    ensures { OnOk result (All (ComesFirst waiter.now.run.now) earlier.old.items → All (ComesFirst waiter.now.run.now) earlier.new.items) }
+{
+    let Some(from) = upto(waiter, looked, &asked.name) else {
+        return Ok(());
+    };
+    let name = asked.name.copy(alloc)?;
+    match first_lacking(alloc, waiter, asked, from)? {
+        Some(call) => {
+            drop(looked.insert(name, None)?);
+            push_made(waiter, call, earlier)
+        }
         None => {
-            push_earlier(alloc, run, node, rank, statement, asked, walk, earlier)?;
+            drop(looked.insert(name, Some(from.max(asked.call)))?);
             Ok(())
         }
     }
 }
 
-// Adds the first call before that of which a rank's board lacks posts, where there is one, and it isn't told already.
-fn push_earlier(
+// Up to which call a context is looked through; None where an earlier call is told.
+fn upto(waiter: &Waiter<'_>, looked: &BTreeMap<Name, Option<u32>>, name: &Name) -> Option<u32> {
+    match looked.get(name) {
+        Some(upto) => *upto,
+        None => Some(waiter.node.front(name)),
+    }
+}
+
+// The first call from this one on, before one that is asked for, of which the node's board lacks posts.
+fn first_lacking(
     alloc: Global,
-    run: &EndedRun<'_>,
-    node: &Node,
-    rank: u8,
-    statement: usize,
-    asked: &Awaited,
-    walk: &Walk,
+    waiter: &Waiter<'_>,
+    asked: &AskedCall,
+    from: u32,
+) -> Result<Option<MissingCall>, OutOfMemory>
+    ensures { IfOk result (λ found. IfSome found (λ c. IsLacking waiter.now.run.now (node_of waiter.now.node.now) (missing_view c))) }
+{
+    for call in from..asked.call {
+        if let Some(found) = lacking_call(alloc, waiter.run, waiter.node, asked, call)? {
+            return Ok(Some(found));
+        }
+    }
+    Ok(None)
+}
+
+// Adds an earlier call, where the statement that made it is known.
+fn push_made(
+    waiter: &Waiter<'_>,
+    call: MissingCall,
     earlier: &mut Vec<EarlierCall>,
 ) -> Result<(), OutOfMemory>
-    requires waits { waiting_place run.now rank ≡ Some statement }
-    requires own { slice_get run.now.nodes.now rank ≡ Some node }
-    ensures { OnOk result (All (ComesFirst run.now) earlier.old.items → All (ComesFirst run.now) earlier.new.items) }
+    requires waits { Waits waiter.now }
+    requires lacks { IsLacking waiter.now.run.now (node_of waiter.now.node.now) (missing_view call) }
+    ensures { OnOk result (All (ComesFirst waiter.now.run.now) earlier.old.items → All (ComesFirst waiter.now.run.now) earlier.new.items) }
 {
-    let Some(call) = first_lacking(alloc, run, node, rank, asked)? else {
-        return Ok(());
-    };
-    match untold(&call, walk, earlier, rank) {
+    match statement_of(waiter, &call) {
         Some(made) => Ok(earlier.push(EarlierCall {
-            rank,
-            statement,
+            rank: waiter.rank,
+            statement: waiter.statement,
             made,
             call,
         })?),
@@ -345,37 +280,9 @@ fn push_earlier(
     }
 }
 
-// The place of the statement that made a rank's call, where it is known, and the call isn't told already.
-fn untold(call: &MissingCall, walk: &Walk, earlier: &[EarlierCall], rank: u8) -> Option<usize> {
-    let made = walk.statement_of(&call.name, call.call)?;
-    if is_told(earlier, rank, made) {
-        return None;
-    }
-    Some(made)
-}
-
-// Whether the call that a rank's statement at this place made is told already.
-fn is_told(earlier: &[EarlierCall], rank: u8, made: usize) -> bool {
-    earlier
-        .iter()
-        .any(|one| one.rank == rank && one.made == made)
-}
-
-// The first call before that of which a node's board lacks posts.
-fn first_lacking(
-    alloc: Global,
-    run: &EndedRun<'_>,
-    node: &Node,
-    rank: u8,
-    asked: &Awaited,
-) -> Result<Option<MissingCall>, OutOfMemory>
-    requires { slice_get run.now.nodes.now rank ≡ Some node }
-    ensures { IfOk result (λ found. IfSome found (λ c. LacksPosts run.now rank c)) }
-{
-    for call in node.front(&asked.name)..asked.call {
-        if let Some(found) = lacking_call(alloc, run, node, rank, asked, call)? {
-            return Ok(Some(found));
-        }
-    }
-    Ok(None)
+// The place of the statement that made a call of the rank, where it is known.
+fn statement_of(waiter: &Waiter<'_>, call: &MissingCall) -> Option<usize> {
+    let end = end_at(waiter.run, waiter.rank)?;
+    let statements = waiter.run.script.statements(waiter.rank);
+    made_at(statements, end, &call.name, call.call)
 }

@@ -1,7 +1,7 @@
 //! Exact sums and products of what statements give on `world`.
 ghost use Rattle.std.specs.Prelude.{◌≡◌, ◌+ℤ◌, ◌*ℤ◌, IfSome, IsSomeAnd, None, Some, ℤ, bytes_eq, codes, cond, true};
 ghost use Rattle.std.specs.Option.{option_copied};
-ghost use Rattle.mpx_explain.specs.Overflows.{ComesTo, IsCombined, IsKnownAs, combined_whole, given_at, is_summed, neutral, posted_at, draft_by, reduction_in, taken};
+ghost use Rattle.mpx_explain.specs.Overflows.{ComesTo, IsCombined, IsKnownAs, combined_whole, given_at, is_signed, is_summed, neutral, posted_at, draft_by, reduction_in, taken};
 
 use mpx_kind::{Call, Reduction};
 use mpx_num::{Op, Ty};
@@ -10,7 +10,7 @@ use mpx_script::{Posting, Script, Statement, Word};
 
 /// The kind of a sum or product of signed numbers.
 pub(crate) fn reduced(draft: &Draft) -> Option<Reduction>
-    ensures { IfSome result (λ r. (reduction_in draft.now.call ≡ Some r) × (is_summed draft.now.op ≡ true)) }
+    ensures { IfSome result (λ r. (reduction_in draft.now.call ≡ Some r) × ((is_summed draft.now.op ≡ true) × (is_signed draft.now.ty ≡ true))) }
 {
     match draft.call {
         Call::Reduction(reduction, _) if is_signed(draft.ty) && is_summed(draft.op) => {
@@ -20,8 +20,16 @@ pub(crate) fn reduced(draft: &Draft) -> Option<Reduction>
     }
 }
 
-fn is_signed(ty: Ty) -> bool {
-    matches!(ty, Ty::I8 | Ty::I16 | Ty::I32 | Ty::I64)
+fn is_signed(ty: Ty) -> bool
+    ensures { result ≡ is_signed ty }
+{
+    match ty {
+        Ty::I8 => true,
+        Ty::I16 => true,
+        Ty::I32 => true,
+        Ty::I64 => true,
+        _ => false,
+    }
 }
 
 fn is_summed(op: Op) -> bool

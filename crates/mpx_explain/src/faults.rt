@@ -2,12 +2,13 @@
 
 use crate::amounts::push_unmet;
 use crate::aspects::{Aspect, Share, aspect_of, push_says};
-use crate::numbering::numbers_on_world;
 use crate::size::push_value;
 use join_core::OutOfMemory;
 use mpx_eval::Complaint;
+use mpx_meaning::Line;
 use mpx_post::Draft;
 use mpx_script::{Posting, Script, Statement};
+use mpx_value::Fault;
 use std::alloc::Global;
 
 // So many ranks are all told where none of what they give is given by most.
@@ -27,13 +28,14 @@ pub(crate) fn push_minority(
     alloc: Global,
     script: &Script,
     complaint: &Complaint,
+    fault: Fault,
     all: &[Complaint],
     told: &mut String,
 ) -> Result<(), OutOfMemory> {
     let Some(draft) = posted_on_world(script, complaint) else {
         return Ok(());
     };
-    let Some(aspect) = aspect_of(complaint.text.as_bytes(), draft) else {
+    let Some(aspect) = aspect_of(fault.what, draft) else {
         return Ok(());
     };
     let shares = shares_of(alloc, script, complaint, all)?;
@@ -165,18 +167,16 @@ fn push_saying(saying: &Saying, is_alone: bool, told: &mut String) -> Result<(),
     Ok(())
 }
 
-// What each rank gives to the complaint's call on `world`, where a line of it tells the same fault of the call with the same number.
+// What each rank gives to the complaint's call on `world`, where a line of it tells the outcome of that call.
 fn shares_of<'s>(
     alloc: Global,
     script: &'s Script,
     complaint: &Complaint,
     all: &[Complaint],
 ) -> Result<Vec<Share<'s>>, OutOfMemory> {
-    let numbers = numbers_on_world(alloc, script, all)?;
-    let wanted = number_of(complaint, all, &numbers);
     let mut shares: Vec<Share<'s>> = Vec::new(alloc);
-    for (other, number) in all.iter().zip(&numbers) {
-        if Some(*number) != wanted || other.text != complaint.text {
+    for other in all {
+        if !is_same_call(&complaint.line, &other.line) {
             continue;
         }
         if let Some(draft) = posted_on_world(script, other) {
@@ -189,14 +189,19 @@ fn shares_of<'s>(
     Ok(shares)
 }
 
-// The complaint's number among these.
-fn number_of(complaint: &Complaint, all: &[Complaint], numbers: &[usize]) -> Option<usize> {
-    for (other, number) in all.iter().zip(numbers) {
-        if other.rank == complaint.rank && other.statement == complaint.statement {
-            return Some(*number);
-        }
+// Whether both lines tell the outcome of one call.
+fn is_same_call(one: &Line, other: &Line) -> bool {
+    match (one, other) {
+        (
+            Line::Told { name, call, .. },
+            Line::Told {
+                name: other_name,
+                call: other_call,
+                ..
+            },
+        ) => *call == *other_call && *name == *other_name,
+        _ => false,
     }
-    None
 }
 
 // The draft of the statement of a line's blocking call, where that is on `world`.

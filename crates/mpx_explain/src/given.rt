@@ -8,19 +8,27 @@ use crate::making_given::{
 use crate::naming::{operation_word, type_word};
 use crate::size::{push_counted, push_world_ranks};
 use join_core::OutOfMemory;
-use mpx_kind::{Call, Exchange, Neighbourhood, Reduction};
+use mpx_eval::Complaint;
+use mpx_kind::{Call, Exchange, Kind, Neighbourhood, Reduction};
 use mpx_num::{is_in_range, push_number};
-use mpx_post::Draft;
-use mpx_script::{Posting, Question, Script, Statement};
+use mpx_post::{Draft, PostError};
+use mpx_script::{Posting, Question, Script, Statement, Word};
 
-/// Which rank's statement was refused, on which communicator by its word, and as what.
+/// Why a statement was refused.
+#[derive(Clone, Copy)]
+pub(crate) enum Refusal {
+    Post(PostError),
+    /// A rank that it asks for is out of range.
+    StrayRank,
+}
+
+/// Which rank's statement was refused, and on which communicator by its word.
 #[derive(Clone, Copy, Drop)]
 pub(crate) struct Place<'s> {
     /// How many ranks there are.
     pub(crate) ranks: u8,
     pub(crate) rank: u8,
     pub(crate) on: &'s [u8],
-    pub(crate) refusal: &'s [u8],
 }
 
 impl Place<'_> {
@@ -28,18 +36,35 @@ impl Place<'_> {
     pub(crate) fn is_world(&self) -> bool {
         self.on == b"world".as_slice()
     }
-
-    fn is(&self, name: &str) -> bool {
-        self.refusal == name.as_bytes()
-    }
 }
 
 /// Adds what a refused call gives, and what was expected, as far as its statement tells it, to an empty text.
 pub(crate) fn push_given(
     script: &Script,
-    rank: u8,
+    call: &Complaint,
+    refusal: Refusal,
+    told: &mut String,
+) -> Result<(), OutOfMemory> {
+    let Some(statement) = script.statements(call.rank).get(call.statement) else {
+        return Ok(());
+    };
+    match (statement, refusal) {
+        (Statement::Ask(Question::Compare { first, second }), Refusal::Post(refusal)) => {
+            push_of_two(script, call, first, second, refusal, told)
+        }
+        (Statement::Ask(Question::Translate { from, to, .. }), Refusal::Post(refusal)) => {
+            push_of_two(script, call, from, to, refusal, told)
+        }
+        _ => push_of_one(script, call, statement, refusal, told),
+    }
+}
+
+// The same of a statement that names one communicator, or asks for ranks of its first.
+fn push_of_one(
+    script: &Script,
+    call: &Complaint,
     statement: &Statement,
-    refusal: &[u8],
+    refusal: Refusal,
     told: &mut String,
 ) -> Result<(), OutOfMemory> {
     let Some(on) = communicator_of(statement) else {
@@ -47,13 +72,113 @@ pub(crate) fn push_given(
     };
     let at = Place {
         ranks: script.ranks(),
-        rank,
+        rank: call.rank,
         on,
-        refusal,
     };
-    match meaning_of(&at) {
+    match refusal {
+        Refusal::Post(refusal) => push_refused(&at, statement, refusal, told),
+        Refusal::StrayRank => push_stray(&at, statement, told),
+    }
+}
+
+// Which of both communicators is null or freed, where that is plain: `world` is never null.
+fn push_of_two(
+    script: &Script,
+    call: &Complaint,
+    first: &Word,
+    second: &Word,
+    refusal: PostError,
+    told: &mut String,
+) -> Result<(), OutOfMemory> {
+    match refusal {
+        PostError::NotMember => {
+            push_one_of(first, is_made(first), second, is_made(second), told)?;
+            Ok(told.push_str(
+                " is null here: its call was refused or a fault, or left this rank out",
+            )?)
+        }
+        PostError::Closed => {
+            let before = script
+                .statements(call.rank)
+                .get(..call.statement)
+                .unwrap_or(&[]);
+            told.push_str("this rank has freed ")?;
+            push_one_of(
+                first,
+                is_freed(first, before),
+                second,
+                is_freed(second, before),
+                told,
+            )
+        }
+        _ => Ok(()),
+    }
+}
+
+// Adds the one of both words that is such a one, or that one of them is.
+fn push_one_of(
+    first: &Word,
+    is_first: bool,
+    second: &Word,
+    is_second: bool,
+    told: &mut String,
+) -> Result<(), OutOfMemory> {
+    if is_first && (!is_second || first == second) {
+        return push_communicator(first, told);
+    }
+    if is_second && !is_first {
+        return push_communicator(second, told);
+    }
+    Ok(told.push_str("one of the communicators")?)
+}
+
+fn push_communicator(word: &Word, told: &mut String) -> Result<(), OutOfMemory> {
+    match str::from_utf8(word.as_bytes()) {
+        Ok(word) => Ok(told.push_str(word)?),
+        Err(_) => Ok(told.push_str("one of the communicators")?),
+    }
+}
+
+// Whether a word stands for a communicator that a call has made.
+fn is_made(word: &Word) -> bool {
+    word.as_bytes() != b"world".as_slice()
+}
+
+// Whether one of these statements frees the communicator of this word.
+fn is_freed(word: &Word, statements: &[Statement]) -> bool {
+    statements.iter().any(|statement| frees(statement, word))
+}
+
+fn frees(statement: &Statement, word: &Word) -> bool {
+    match statement {
+        Statement::Post(Posting::Call { on, draft }) => {
+            draft.call.kind() == Kind::Free && on == word
+        }
+        _ => false,
+    }
+}
+
+// Adds which rank that it asks for is out of range.
+fn push_stray(at: &Place<'_>, statement: &Statement, told: &mut String) -> Result<(), OutOfMemory> {
+    match statement {
+        Statement::Ask(Question::Translate { ranks, .. }) => {
+            push_strange_rank(at, ranks.as_slice(), told)
+        }
+        Statement::Ask(_) => Ok(()),
+        Statement::Post(_) => Ok(()),
+        Statement::Wait(_) => Ok(()),
+    }
+}
+
+fn push_refused(
+    at: &Place<'_>,
+    statement: &Statement,
+    refusal: PostError,
+    told: &mut String,
+) -> Result<(), OutOfMemory> {
+    match meaning_of(refusal) {
         Some(meaning) => Ok(told.push_str(meaning)?),
-        None => push_statement(&at, statement, told),
+        None => push_statement(at, statement, refusal, told),
     }
 }
 
@@ -71,65 +196,53 @@ fn communicator_of(statement: &Statement) -> Option<&[u8]> {
 fn push_statement(
     at: &Place<'_>,
     statement: &Statement,
+    refusal: PostError,
     told: &mut String,
 ) -> Result<(), OutOfMemory> {
     match statement {
-        Statement::Post(Posting::Call { draft, .. }) => push_draft(at, draft, told),
-        Statement::Post(Posting::Start { draft, .. }) => push_draft(at, draft, told),
-        Statement::Post(Posting::New { draft, .. }) => push_new(at, draft, told),
+        Statement::Post(Posting::Call { draft, .. }) => push_draft(at, draft, refusal, told),
+        Statement::Post(Posting::Start { draft, .. }) => push_draft(at, draft, refusal, told),
+        Statement::Post(Posting::New { draft, .. }) => push_new(at, draft, refusal, told),
         Statement::Post(Posting::CreateGroup { tag, ranks, .. }) => {
-            push_gathering(at, *tag, ranks.as_slice(), told)
-        }
-        Statement::Ask(Question::Translate { ranks, .. }) => {
-            if at.is("refused RankOutOfRange") {
-                return push_strange_rank(at, ranks.as_slice(), told);
-            }
-            Ok(())
+            push_gathering(at, *tag, ranks.as_slice(), refusal, told)
         }
         Statement::Ask(_) => Ok(()),
         Statement::Wait(_) => Ok(()),
     }
 }
 
-// The refusals that a call tells more of, each by what it gives. (Names that are compared one by one: a match over so many texts is dear to
-// prove.)
-fn push_draft(at: &Place<'_>, draft: &Draft, told: &mut String) -> Result<(), OutOfMemory> {
-    if at.is("refused RootOutOfRange") {
-        return push_root(at, draft, told);
+// The refusals that a call tells more of, each by what it gives.
+fn push_draft(
+    at: &Place<'_>,
+    draft: &Draft,
+    refusal: PostError,
+    told: &mut String,
+) -> Result<(), OutOfMemory> {
+    match refusal {
+        PostError::RootOutOfRange => push_root(at, draft, told),
+        PostError::OpNotForType => push_operation(draft, told),
+        PostError::ItemsLength => push_items(at, draft, told),
+        PostError::ItemOutOfRange => push_outside(draft, told),
+        PostError::CountsLength => push_counts(at, draft, told),
+        PostError::TooManyItems => push_too_many(draft, told),
+        _ => Ok(()),
     }
-    if at.is("refused OpNotForType") {
-        return push_operation(draft, told);
-    }
-    if at.is("refused ItemsLength") {
-        return push_items(at, draft, told);
-    }
-    if at.is("refused ItemOutOfRange") {
-        return push_outside(draft, told);
-    }
-    if at.is("refused CountsLength") {
-        return push_counts(at, draft, told);
-    }
-    if at.is("refused TooManyItems") {
-        return push_too_many(draft, told);
-    }
-    Ok(())
 }
 
 // Those of a call that makes a communicator.
-fn push_new(at: &Place<'_>, draft: &Draft, told: &mut String) -> Result<(), OutOfMemory> {
-    if at.is("refused BadTag") {
-        return push_bad_split(draft, told);
+fn push_new(
+    at: &Place<'_>,
+    draft: &Draft,
+    refusal: PostError,
+    told: &mut String,
+) -> Result<(), OutOfMemory> {
+    match refusal {
+        PostError::BadTag => push_bad_split(draft, told),
+        PostError::BadGroup => push_bad_group(at, draft.group.as_slice(), false, told),
+        PostError::BadEdge => push_bad_edge(at, draft, told),
+        PostError::TooManyEdges => push_too_many_edges(draft, told),
+        _ => Ok(()),
     }
-    if at.is("refused BadGroup") {
-        return push_bad_group(at, draft.group.as_slice(), false, told);
-    }
-    if at.is("refused BadEdge") {
-        return push_bad_edge(at, draft, told);
-    }
-    if at.is("refused TooManyEdges") {
-        return push_too_many_edges(draft, told);
-    }
-    Ok(())
 }
 
 // Those of a gathering.
@@ -137,42 +250,31 @@ fn push_gathering(
     at: &Place<'_>,
     tag: i128,
     ranks: &[i128],
+    refusal: PostError,
     told: &mut String,
 ) -> Result<(), OutOfMemory> {
-    if at.is("refused BadTag") {
-        return push_bad_tag(tag, told);
+    match refusal {
+        PostError::BadTag => push_bad_tag(tag, told),
+        PostError::BadGroup => push_bad_group(at, ranks, true, told),
+        _ => Ok(()),
     }
-    if at.is("refused BadGroup") {
-        return push_bad_group(at, ranks, true, told);
-    }
-    Ok(())
 }
 
-// Refusals whose name alone tells what is wrong, and what that is.
-const MEANINGS: [(&str, &str); 4] = [
-    (
-        "refused NoTopology",
-        "the communicator has no topology: dist_graph and dist_graph_adjacent make one",
-    ),
-    ("refused Closed", "this rank has freed the communicator"),
-    (
-        "refused NotMember",
-        "the communicator is null here: its call was refused or a fault, or left this rank out",
-    ),
-    (
-        "refused DepthUsedUp",
-        "the communicator would be more than eight steps from world",
-    ),
-];
-
 // What is wrong, where the refusal's name alone tells it.
-fn meaning_of(at: &Place<'_>) -> Option<&'static str> {
-    for (name, meaning) in &MEANINGS {
-        if at.is(name) {
-            return Some(meaning);
+fn meaning_of(refusal: PostError) -> Option<&'static str> {
+    match refusal {
+        PostError::NoTopology => Some(
+            "the communicator has no topology: dist_graph and dist_graph_adjacent make one",
+        ),
+        PostError::Closed => Some("this rank has freed the communicator"),
+        PostError::NotMember => Some(
+            "the communicator is null here: its call was refused or a fault, or left this rank out",
+        ),
+        PostError::DepthUsedUp => {
+            Some("the communicator would be more than eight steps from world")
         }
+        _ => None,
     }
-    None
 }
 
 fn push_root(at: &Place<'_>, draft: &Draft, told: &mut String) -> Result<(), OutOfMemory> {
@@ -259,7 +361,7 @@ fn wanted_of_root(draft: &Draft) -> Option<Expectation<'_>> {
     }
 }
 
-// Adds what is expected of the root alone: on `world` it is known who that is.
+// Adds what is expected of the root alone: on `world` it is known who that is, elsewhere both are told.
 fn push_of_root(
     at: &Place<'_>,
     draft: &Draft,
@@ -267,7 +369,8 @@ fn push_of_root(
     told: &mut String,
 ) -> Result<(), OutOfMemory> {
     if !at.is_world() {
-        return Ok(());
+        push_wanted(wanted, told)?;
+        return Ok(told.push_str("; the root alone gives any")?);
     }
     if draft.root == i128::from(at.rank) {
         return push_wanted(wanted, told);

@@ -1,65 +1,64 @@
 //! Whose posts to a call a process's own board lacks.
-ghost use Rattle.std.specs.Prelude.{◌≡◌, ◌++◌, IfOk, IfSome, OnOk, Some, slice_get};
+ghost use Rattle.std.specs.Prelude.{◌≡◌, ◌++◌, IfOk, OnOk};
 ghost use Rattle.std.specs.List.{flat_map};
+ghost use Rattle.std.specs.Option.{option_map};
 ghost use Rattle.mpx_node.specs.Shown.{node_of};
-ghost use Rattle.mpx_explain.specs.RunEnds.{LacksPosts, has_closed, lacked_by, lacked_of, member_of};
+ghost use Rattle.mpx_eval.specs.Found.{missing_view};
+ghost use Rattle.mpx_explain.specs.RunEnds.{has_closed, lacked_by, lacked_of, lacking_at, member_of, with_missing};
 
 use crate::ended::{EndedRun, node_at};
-use crate::walk::Awaited;
 use join_core::{Exact, OutOfMemory};
 use mpx_eval::{MissingCall, MissingMember};
 use mpx_group::Proc;
+use mpx_meaning::AskedCall;
 use mpx_name::Name;
 use mpx_node::Node;
 use mpx_script::Word;
 use std::alloc::Global;
 
-/// The call with this number on the context of one that is asked for, where the node has not harvested it and its board lacks posts of it.
+/// The call with this number on the context of one that is asked for, where the node has no result of it and its board lacks posts of it.
 pub(crate) fn lacking_call(
     alloc: Global,
     run: &EndedRun<'_>,
     node: &Node,
-    rank: u8,
-    asked: &Awaited,
+    asked: &AskedCall,
     call: u32,
 ) -> Result<Option<MissingCall>, OutOfMemory>
-    requires { slice_get run.now.nodes.now rank ≡ Some node }
-    ensures { IfOk result (λ found. IfSome found (λ c. LacksPosts run.now rank c)) }
+    ensures { IfOk result (λ found. option_map missing_view found ≡ lacking_at run.now (node_of node.now) asked.now.request asked.now.name call) }
 {
     if call < node.front(&asked.name) {
         return Ok(None);
     }
     let missing = lacking(alloc, run, node, &asked.name, call)?;
+    with_missing(alloc, asked, call, missing)
+}
+
+// A call on that context, with these members, where there are some.
+fn with_missing(
+    alloc: Global,
+    asked: &AskedCall,
+    call: u32,
+    missing: Vec<MissingMember>,
+) -> Result<Option<MissingCall>, OutOfMemory>
+    ensures { IfOk result (λ found. option_map missing_view found ≡ with_missing asked.now.request asked.now.name call missing.items) }
+{
     if missing.is_empty() {
         return Ok(None);
     }
-    let found = missing_call(alloc, asked, call, missing)?;
-    Ok(Some(found))
-}
-
-// A call on that context, with these members.
-fn missing_call(
-    alloc: Global,
-    asked: &Awaited,
-    call: u32,
-    missing: Vec<MissingMember>,
-) -> Result<MissingCall, OutOfMemory>
-    ensures name { IfOk result (λ c. c.name ≡ asked.now.name) }
-    ensures call { IfOk result (λ c. c.call ≡ call) }
-    ensures missing { IfOk result (λ c. c.missing.items ≡ missing.items) }
-{
     let request = word_of(alloc, &asked.request)?;
     let name = asked.name.copy(alloc)?;
-    Ok(MissingCall {
+    Ok(Some(MissingCall {
         request,
         name,
         call,
         missing,
-    })
+    }))
 }
 
 // The word of a request once more, where there is one.
-fn word_of(alloc: Global, request: &Option<Word>) -> Result<Option<Word>, OutOfMemory> {
+fn word_of(alloc: Global, request: &Option<Word>) -> Result<Option<Word>, OutOfMemory>
+    ensures { IfOk result (λ copied. copied ≡ request.now) }
+{
     match request {
         Some(word) => Ok(Some(word.copy(alloc)?)),
         None => Ok(None),

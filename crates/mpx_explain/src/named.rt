@@ -108,7 +108,7 @@ fn with_why(
 ) -> Result<NamedCall, OutOfMemory>
     ensures { IfOk result (λ named. named_view named ≡ placed_at numbers.now (complaint_view call.now)) }
 {
-    match String::from_str(alloc, call.text.as_str()) {
+    match call.line.text(alloc) {
         Ok(text) => Ok(NamedCall {
             rank: call.rank,
             line: line_at(numbers, call.statement),

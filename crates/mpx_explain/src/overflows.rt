@@ -1,15 +1,16 @@
 //! Results that are past their signed type: each is named by what the statements of its call give.
-ghost use Rattle.std.specs.Prelude.{◌≡◌, ◌-◌, ◌++◌, IfOk, IfSome, OnOk, Some, ℤ, codes, take, true};
+ghost use Rattle.std.specs.Prelude.{◌≡◌, ◌-◌, ◌++◌, IfOk, IfSome, OnOk, Some, ℤ, codes, map, take, true};
 ghost use Rattle.std.specs.List.{All, flat_map};
 ghost use Rattle.mpx_num.specs.Text.{number_text};
 ghost use Rattle.mpx_num.specs.Types.{IsOutOfRange};
+ghost use Rattle.mpx_eval.specs.Found.{complaint_view};
 ghost use Rattle.mpx_waiting.specs.ToldLines.{more_text};
-ghost use Rattle.mpx_explain.specs.Overflows.{AreOverflows, IsKnownAs, IsOverflow, IsPast, overflow_text, past_text, type_word, past_result_text};
+ghost use Rattle.mpx_explain.specs.Overflows.{AreOverflows, IsKnownAs, IsOverflow, IsPast, is_named_at, overflow_text, past_text, type_word, past_result_text};
 
 use crate::exact::{exact_of, posted_at, reduced, taken};
 use crate::past::{Candidate, Part, candidates_of, columns_of};
 use join_core::OutOfMemory;
-use mpx_eval::Findings;
+use mpx_eval::{Complaint, Findings};
 use mpx_num::{Ty, into_range, is_in_range, print_number};
 use mpx_script::{Script, statement_lines};
 use mpx_waiting::{line_at, push_more, push_start};
@@ -42,44 +43,45 @@ pub fn explain_results(
     found: &Findings,
     told: &mut Vec<u8>,
 ) -> Result<(), OutOfMemory>
-    ensures { OnOk result (AreOverflows text.now script.now.statements told.old.items told.new.items) }
+    ensures { OnOk result (AreOverflows text.now script.now.statements (map complaint_view found.now.complaints.items) (map complaint_view found.now.unheard.items) told.old.items told.new.items) }
+{
+    let Results { named, many } = results_of(alloc, script, found)?;
+    let pushed = push_all(alloc, text, named.as_slice(), many, told);
+    drop(named);
+    pushed
+}
+
+// The first hundred results that are past their types, perhaps fewer, and how many there are, perhaps.
+#[derive(Drop)]
+struct Results {
+    named: Vec<Overflow>,
+    many: usize,
+}
+
+fn results_of(alloc: Global, script: &Script, found: &Findings) -> Result<Results, OutOfMemory>
+    ensures { IfOk result (λ results. All (IsOverflow script.now.statements (map complaint_view found.now.complaints.items) (map complaint_view found.now.unheard.items)) results.named.items) }
 {
     let columns = columns_of(alloc, script, found)?;
-    let pushed = push_results(alloc, text, script, columns.as_slice(), told);
+    let results = results_in(alloc, script, found, columns.as_slice());
     drop(columns);
-    pushed
+    results
 }
 
 // The same of what ranks have posted on `world`.
-fn push_results(
+fn results_in(
     alloc: Global,
-    text: &[u8],
     script: &Script,
+    found: &Findings,
     columns: &[Vec<Part<'_>>],
-    told: &mut Vec<u8>,
-) -> Result<(), OutOfMemory>
-    ensures { OnOk result (AreOverflows text.now script.now.statements told.old.items told.new.items) }
+) -> Result<Results, OutOfMemory>
+    ensures { IfOk result (λ results. All (IsOverflow script.now.statements (map complaint_view found.now.complaints.items) (map complaint_view found.now.unheard.items)) results.named.items) }
 {
     let candidates = candidates_of(alloc, columns)?;
-    let pushed = push_candidates(alloc, text, script, columns, &candidates, told);
-    drop(candidates);
-    pushed
-}
-
-fn push_candidates(
-    alloc: Global,
-    text: &[u8],
-    script: &Script,
-    columns: &[Vec<Part<'_>>],
-    candidates: &[Candidate],
-    told: &mut Vec<u8>,
-) -> Result<(), OutOfMemory>
-    ensures { OnOk result (AreOverflows text.now script.now.statements told.old.items told.new.items) }
-{
-    let named = named_results(alloc, script, columns, first_of(candidates))?;
-    let pushed = push_all(alloc, text, named.as_slice(), candidates.len(), told);
-    drop(named);
-    pushed
+    let named = named_results(alloc, script, found, columns, first_of(&candidates))?;
+    Ok(Results {
+        named,
+        many: candidates.len(),
+    })
 }
 
 // Adds the lines of these, and of so many how many more there are than a hundred.
@@ -105,14 +107,15 @@ fn first_of(candidates: &[Candidate]) -> &[Candidate] {
 fn named_results(
     alloc: Global,
     script: &Script,
+    found: &Findings,
     columns: &[Vec<Part<'_>>],
     candidates: &[Candidate],
 ) -> Result<Vec<Overflow>, OutOfMemory>
-    ensures { IfOk result (λ named. All (IsOverflow script.now.statements) named.items) }
+    ensures { IfOk result (λ named. All (IsOverflow script.now.statements (map complaint_view found.now.complaints.items) (map complaint_view found.now.unheard.items)) named.items) }
 {
     let mut named = Vec::new(alloc);
     for candidate in candidates {
-        push_named(alloc, script, columns, *candidate, &mut named)?;
+        push_named(alloc, script, found, columns, *candidate, &mut named)?;
     }
     Ok(named)
 }
@@ -121,14 +124,16 @@ fn named_results(
 fn push_named(
     alloc: Global,
     script: &Script,
+    found: &Findings,
     columns: &[Vec<Part<'_>>],
     candidate: Candidate,
     named: &mut Vec<Overflow>,
 ) -> Result<(), OutOfMemory>
-    ensures { OnOk result (All (IsOverflow script.now.statements) named.old.items → All (IsOverflow script.now.statements) named.new.items) }
+    ensures { OnOk result (All (IsOverflow script.now.statements (map complaint_view found.now.complaints.items) (map complaint_view found.now.unheard.items)) named.old.items
+        → All (IsOverflow script.now.statements (map complaint_view found.now.complaints.items) (map complaint_view found.now.unheard.items)) named.new.items) }
 {
     let places = places_in(alloc, columns, candidate.row)?;
-    if let Some(overflow) = overflow_with(script, candidate.rank, places, candidate.index) {
+    if let Some(overflow) = overflow_with(script, found, candidate.rank, places, candidate.index) {
         named.push(overflow)?;
     }
     Ok(())
@@ -150,10 +155,16 @@ fn places_in(
 }
 
 // A number of a rank's result, where the statements with these places have one and it is past its type.
-fn overflow_with(script: &Script, rank: u8, places: Vec<usize>, index: usize) -> Option<Overflow>
-    ensures { IfSome result (λ o. IsOverflow script.now.statements o) }
+fn overflow_with(
+    script: &Script,
+    found: &Findings,
+    rank: u8,
+    places: Vec<usize>,
+    index: usize,
+) -> Option<Overflow>
+    ensures { IfSome result (λ o. IsOverflow script.now.statements (map complaint_view found.now.complaints.items) (map complaint_view found.now.unheard.items) o) }
 {
-    match past_in(script, rank, &places, index) {
+    match past_in(script, found, rank, &places, index) {
         Some((statement, ty, exact)) => Some(Overflow {
             rank,
             statement,
@@ -172,13 +183,17 @@ fn overflow_with(script: &Script, rank: u8, places: Vec<usize>, index: usize) ->
 // The rank's statement, the type, and the number.
 fn past_in(
     script: &Script,
+    found: &Findings,
     rank: u8,
     places: &[usize],
     index: usize,
 ) -> Option<(usize, Ty, Option<i128>)>
-    ensures { IfSome result (λ o. IsPast script.now.statements rank places.now index o.0 o.1 o.2) }
+    ensures { IfSome result (λ o. IsPast script.now.statements (map complaint_view found.now.complaints.items) (map complaint_view found.now.unheard.items) rank places.now index o.0 o.1 o.2) }
 {
     let statement = places.get(usize::from(rank)).copied()?;
+    if is_named(rank, statement, &found.complaints) || is_named(rank, statement, &found.unheard) {
+        return None;
+    }
     let place = places.first().copied()?;
     let draft = posted_at(script, 0, place)?;
     let reduction = reduced(draft)?;
@@ -189,6 +204,13 @@ fn past_in(
     } else {
         None
     }
+}
+
+// Whether one of these is of the rank's statement with this place.
+fn is_named(rank: u8, statement: usize, complaints: &[Complaint]) -> bool
+    ensures { result ≡ is_named_at rank statement (map complaint_view complaints.now) }
+{
+    complaints.iter().any(|complaint| complaint.rank == rank && complaint.statement == statement)
 }
 
 fn first_so_many(places: &[usize], count: usize) -> &[usize]

@@ -1,10 +1,10 @@
 //! Sums and products that are past the range of their signed type, perhaps: `overflows.rt` names those that are.
 
 use crate::exact::{posted_by, reduced};
-use crate::numbering::marked;
 use join_core::OutOfMemory;
-use mpx_eval::Findings;
+use mpx_eval::{Complaint, Findings};
 use mpx_kind::Reduction;
+use mpx_meaning::Line;
 use mpx_num::{Op, is_in_range};
 use mpx_post::Draft;
 use mpx_script::Script;
@@ -90,28 +90,43 @@ fn posted<'s>(
     parts
 }
 
-// Of each statement of a rank whether it was refused, and whether it is a fault that a line tells, or one that none tells.
-#[derive(Drop)]
-struct Marks {
-    refused: Vec<bool>,
-    told: Vec<bool>,
-    unheard: Vec<bool>,
+// What came of a statement.
+#[derive(Clone, Copy, PartialEq, Eq)]
+enum Mark {
+    Fine,
+    Refused,
+    // Its call is a fault, be it told in a line or not.
+    Fault,
 }
 
+// What came of each statement of a rank.
 fn marks_of(
     alloc: Global,
     script: &Script,
     rank: u8,
     found: &Findings,
-) -> Result<Marks, OutOfMemory> {
-    let refused = marked(alloc, script, rank, &found.complaints, b"refused ")?;
-    let told = marked(alloc, script, rank, &found.complaints, b"fault ")?;
-    let unheard = marked(alloc, script, rank, &found.unheard, b"fault ")?;
-    Ok(Marks {
-        refused,
-        told,
-        unheard,
-    })
+) -> Result<Vec<Mark>, OutOfMemory> {
+    let mut marks = vec![in alloc; Mark::Fine; script.statements(rank).len()]?;
+    mark_all(rank, &found.complaints, &mut marks);
+    mark_all(rank, &found.unheard, &mut marks);
+    Ok(marks)
+}
+
+// Marks the statements of these that are a rank's.
+fn mark_all(rank: u8, all: &[Complaint], marks: &mut Vec<Mark>) {
+    for complaint in all {
+        let place = complaint.statement;
+        if complaint.rank == rank && place < marks.len() {
+            marks[place] = mark_of(&complaint.line);
+        }
+    }
+}
+
+fn mark_of(line: &Line) -> Mark {
+    match line {
+        Line::Told { .. } => Mark::Fault,
+        _ => Mark::Refused,
+    }
 }
 
 // What a rank has posted on `world` up to its last statement.
@@ -120,11 +135,12 @@ fn parts_of<'s>(
     script: &'s Script,
     rank: u8,
     last: usize,
-    marks: &Marks,
+    marks: &[Mark],
 ) -> Result<Vec<Part<'s>>, OutOfMemory> {
     let mut parts = Vec::new(alloc);
     for (statement, made) in script.statements(rank).iter().enumerate() {
-        if statement > last || is_marked(&marks.refused, statement) {
+        let mark = marks.get(statement).copied().unwrap_or(Mark::Fine);
+        if statement > last || mark == Mark::Refused {
             continue;
         }
         if let Some(draft) = posted_by(made) {
@@ -132,15 +148,11 @@ fn parts_of<'s>(
                 rank,
                 statement,
                 draft,
-                is_fault: is_marked(&marks.told, statement) || is_marked(&marks.unheard, statement),
+                is_fault: mark == Mark::Fault,
             })?;
         }
     }
     Ok(parts)
-}
-
-fn is_marked(marks: &[bool], place: usize) -> bool {
-    marks.get(place).copied().unwrap_or(false)
 }
 
 // The place of the last statement that a rank has come to.

@@ -1,11 +1,13 @@
 //! Why a call was refused or is a fault, as it stands behind its line. Nothing is claimed of it.
 
 use crate::faults::push_minority;
-use crate::given::push_given;
+use crate::given::{Refusal, push_given};
 use crate::size::push_value;
 use join_core::OutOfMemory;
 use mpx_eval::{Complaint, WaitingRank};
+use mpx_meaning::Line;
 use mpx_script::{Script, Statement};
+use mpx_value::Outcome;
 use mpx_waiting::line_at;
 use std::alloc::Global;
 
@@ -51,13 +53,14 @@ fn push_reason(
     calls: &[Complaint],
     told: &mut String,
 ) -> Result<(), OutOfMemory> {
-    let text = call.text.as_bytes();
-    if text.starts_with(b"fault ") {
-        return push_minority(alloc, script, call, calls, told);
-    }
-    match script.statements(call.rank).get(call.statement) {
-        Some(statement) => push_given(script, call.rank, statement, text, told),
-        None => Ok(()),
+    match &call.line {
+        Line::Told {
+            outcome: Outcome::Fault(fault),
+            ..
+        } => push_minority(alloc, script, call, *fault, calls, told),
+        Line::Refused(refusal) => push_given(script, call, Refusal::Post(*refusal), told),
+        Line::StrayRank => push_given(script, call, Refusal::StrayRank, told),
+        _ => Ok(()),
     }
 }
 

@@ -1,5 +1,6 @@
 //! Trials of a line with other words.
 
+use crate::forms::{Form, form_of};
 use crate::lines::refusal_of;
 use crate::meant::{is_foreign_type, is_value};
 use join_core::OutOfMemory;
@@ -42,9 +43,23 @@ pub(crate) fn fault_of(
     }
 }
 
-// Whether the word is an operation, one of the job's own too, or a type.
-fn is_named(word: &str, ops: &Ops) -> bool {
-    is_value(word) || ops.place_named(word.as_bytes()).is_some()
+// Whether the word at this place is an operation, one of the job's own too, or a type, and may stand there by its statement's form.
+fn is_named(words: &[&str], place: usize, word: &str, ops: &Ops) -> bool {
+    if !is_value(word) && ops.place_named(word.as_bytes()).is_none() {
+        return false;
+    }
+    match words.get(1).and_then(|statement| form_of(statement)) {
+        Some(form) => names_value(form, place),
+        None => true,
+    }
+}
+
+// Whether the word at this place of a line stands for an operation or a type by its form.
+fn names_value(form: Form, place: usize) -> bool {
+    match form.parts.split_whitespace().nth(place.saturating_sub(2)) {
+        Some(part) => part == "OP" || part == "TYPE",
+        None => false,
+    }
 }
 
 // The text with the line of changed words.
@@ -59,30 +74,42 @@ fn tried(
     let mut is_behind_arrow = false;
     for (place, word) in words.iter().enumerate() {
         is_behind_arrow |= *word == "->";
-        push_changed(alloc, place, word, is_behind_arrow, change, ops, &mut text)?;
+        let tried = TriedWord {
+            place,
+            word,
+            is_named: is_named(words, place, word, ops),
+            is_behind_arrow,
+        };
+        push_changed(alloc, &tried, change, &mut text)?;
     }
     Ok(text)
 }
 
-// Adds the word at this place, changed, behind one that comes before it.
+// A word of a line: its place, and whether it is an operation or a type where one may stand, and an arrow or behind one.
+#[derive(Clone, Copy, Drop)]
+struct TriedWord<'w> {
+    place: usize,
+    word: &'w str,
+    is_named: bool,
+    is_behind_arrow: bool,
+}
+
+// Adds a word, changed, behind one that comes before it.
 fn push_changed(
     alloc: Global,
-    place: usize,
-    word: &str,
-    is_behind_arrow: bool,
+    tried: &TriedWord<'_>,
     change: Change,
-    ops: &Ops,
     text: &mut String,
 ) -> Result<(), OutOfMemory> {
     if let Change::More(at, other) | Change::MoreTyped(at, other) = change {
-        if place == at {
+        if tried.place == at {
             push_word(other, text)?;
         }
     }
-    if is_changed(alloc, place, word, is_behind_arrow, change, ops)? {
+    if is_changed(alloc, tried, change)? {
         return push_word(other_word(change), text);
     }
-    push_word(word, text)
+    push_word(tried.word, text)
 }
 
 fn push_word(word: &str, text: &mut String) -> Result<(), OutOfMemory> {
@@ -91,23 +118,16 @@ fn push_word(word: &str, text: &mut String) -> Result<(), OutOfMemory> {
     Ok(())
 }
 
-// Whether the word at this place is changed.
-fn is_changed(
-    alloc: Global,
-    place: usize,
-    word: &str,
-    is_behind_arrow: bool,
-    change: Change,
-    ops: &Ops,
-) -> Result<bool, OutOfMemory> {
+// Whether a word is changed.
+fn is_changed(alloc: Global, tried: &TriedWord<'_>, change: Change) -> Result<bool, OutOfMemory> {
     match change {
-        Change::Cut(count) => Ok(place >= count),
-        Change::One(at, _) => Ok(place == at),
+        Change::Cut(count) => Ok(tried.place >= count),
+        Change::One(at, _) => Ok(tried.place == at),
         Change::More(_, _) => Ok(false),
-        Change::MoreTyped(_, _) => is_foreign_type(alloc, word),
-        Change::Numbers(from) => Ok(place >= from && !is_named(word, ops)),
+        Change::MoreTyped(_, _) => is_foreign_type(alloc, tried.word),
+        Change::Numbers(from) => Ok(tried.place >= from && !tried.is_named),
         Change::NumbersToArrow(from) => {
-            Ok(place >= from && !is_behind_arrow && !is_named(word, ops))
+            Ok(tried.place >= from && !tried.is_behind_arrow && !tried.is_named)
         }
     }
 }

@@ -17,7 +17,7 @@ use Rattle.mpx_explain.specs.Findings.{AreTold}
 use Rattle.mpx_explain.specs.RunEnds.{IsRunTold}
 use Rattle.mpx_explain.specs.declared.ended.EndedRun.{EndedRun}
 use Rattle.mpx_run.specs.Founded.{IsFounded}
-use Rattle.mpx_run.specs.Left.{Leaves, transcripts_in}
+use Rattle.mpx_run.specs.Left.{Leaves}
 use Rattle.mpx_run.specs.Reports.{told_cause}
 use Rattle.mpx_run.specs.Texts.{ComesTo}
 use Rattle.mpx_run.specs.declared.end.Cause.TheVariants.{InEveryRun, TurnsUsedUp, AllLost, Unknown}
@@ -26,7 +26,7 @@ use Rattle.mpx_run.specs.declared.end.End.TheVariants.{Finished, Waiting}
 use Rattle.mpx_run.specs.declared.report.Left.{Left}
 use Rattle.mpx_run.specs.declared.texts.RunError.{RunError}
 use Rattle.mpx_waiting.specs.ToldLines.{waiting_told}
-use Rattle.mpx_program.specs.Explained.{AreCalls, IsBehind, IsFound, IsHeaded, IsToldOfRun, HasTold, TellsEarly, TellsEnd, TellsEvaluation, TellsOf, RunEnded, ended_in, processes_in, processes_of, unexplained}
+use Rattle.mpx_program.specs.Explained.{AreCalls, IsBehind, IsFound, IsHeaded, IsToldOfRun, HasTold, TellsEarly, TellsEnd, TellsEvaluation, TellsOf, RunEnded, ended_by, ended_in, processes_in, processes_of, unexplained}
 use Rattle.mpx_program.specs.Jobs.{HasEnded}
 use Rattle.mpx_program.specs.declared.found.Found.{Found}
 use Rattle.mpx_program.specs.declared.found.Found.TheVariants as F
@@ -38,13 +38,13 @@ module _ (ops : List Operation) (script : ScriptView) (text : List ℕ) (waiting
   calls_of_end old new calls = subst (λ cs. AreCalls text script.statements cs (unheard_in ops script.statements script.ranks f.end) old new) f.complaints_are
       (subst (λ us. AreCalls text script.statements complaints us old new) f.unheard_are calls)
 
-  pub early_tells : (ended : RunEnded) (ranks here waits lines more : List ℕ) → IsToldOfRun script text ended complaints ranks [] here → IsBehind here (waiting_told text script.statements waiting) waits → AreCalls text script.statements complaints unheard [] lines → IsHeaded waits lines more
-      → TellsEarly ops script text ended ranks more
-  early_tells ended ranks here waits lines more itself behind calls headed = record {
+  pub early_tells : (ended : RunEnded) (here waits lines more : List ℕ) → IsToldOfRun script text ended [] here → IsBehind here (waiting_told text script.statements waiting) waits → AreCalls text script.statements complaints unheard [] lines → IsHeaded waits lines more
+      → TellsEarly ops script text ended more
+  early_tells ended here waits lines more itself behind calls headed = record {
     end = f.end;
     evaluation = f.evaluation;
     here = here;
-    itself = subst (λ cs. IsToldOfRun script text ended cs ranks [] here) f.complaints_are itself;
+    itself = itself;
     waits = waits;
     behind = subst (λ ws. IsBehind here (waiting_told text script.statements ws) waits) f.waiting_are behind;
     lines = lines;
@@ -52,11 +52,11 @@ module _ (ops : List Operation) (script : ScriptView) (text : List ℕ) (waiting
     headed = headed;
   }
 
--- what is told of a run is told of one of this script and these ranks, which ended as its processes and lines say
-pub told_of_run : {E : Type 0} (run : EndedRun) (script : ScriptView) (text : List ℕ) (complaints : List ComplaintView) (ranks old new : List ℕ) (pushed : Result (Unit {0}) E) → OnOk pushed (IsRunTold text run old new) → run.script.now ≡ script → map complaint_view run.complaints.now ≡ complaints → run.waiting.now ≡ ranks
-    → OnOk pushed ((ended : RunEnded) → processes_of run.nodes.now ≡ ended.processes → run.lines.now ≡ ended.counts → IsToldOfRun script text ended complaints ranks old new)
-told_of_run run script text complaints ranks old new (Ok done) told scripted heard waits = λ ended processes lines. record { run = run; scripted = scripted; processes = processes; lines = lines; heard = heard; waits = waits; told = told }
-told_of_run run script text complaints ranks old new (Err e) told scripted heard waits = tt
+-- what is told of a run is told of one of this script, which ended as its ends and processes say
+pub told_of_run : {E : Type 0} (run : EndedRun) (script : ScriptView) (text old new : List ℕ) (pushed : Result (Unit {0}) E) → OnOk pushed (IsRunTold text run old new) → run.script.now ≡ script
+    → OnOk pushed ((processes : List NodeView) → processes_of run.nodes.now ≡ processes → IsToldOfRun script text (ended_by run.ends.now processes) old new)
+told_of_run run script text old new (Ok done) told scripted = λ processes are. record { run = run; scripted = scripted; ends = refl; processes = are; told = told }
+told_of_run run script text old new (Err e) told scripted = tt
 
 -- the processes of all of the first so many
 pub first_all : {A : Type 0} (process : A → NodeView) (all first : List A) (ranks i : ℕ) → first ≡ take ranks all → length first ≤ i → map process (take i first) ≡ take ranks (map process all)
@@ -92,10 +92,6 @@ told_or_wanting (Ok v) items script text found left answer explains more tells i
 told_or_wanting (Err e) items script text found left answer explains more tells is wanting on = inl wanting
 
 -- how it ended
-pub ended_processes : (ranks : ℕ) (left : Left) → processes_in ranks left ≡ (ended_in ranks left).processes
+pub ended_so : (ranks : ℕ) (left : Left) → ended_by left.ends.items (processes_in ranks left) ≡ ended_in ranks left
 unfolding ended_in
-ended_processes ranks left = refl
-
-pub ended_counts : (ranks : ℕ) (left : Left) → map length (transcripts_in left) ≡ (ended_in ranks left).counts
-unfolding ended_in
-ended_counts ranks left = refl
+ended_so ranks left = refl

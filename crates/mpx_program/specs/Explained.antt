@@ -13,7 +13,9 @@ use Rattle.mpx_statement.specs.declared.job.Job.{Job}
 use Rattle.mpx_statement.specs.declared.job.Options.{Options}
 use Rattle.mpx_statement.specs.declared.statement.Statement.{Statement}
 use Rattle.mpx_script.specs.ScriptView.{ScriptView}
+use Rattle.mpx_meaning.specs.Ends.{EndView, end_view}
 use Rattle.mpx_meaning.specs.Evaluation.{State, IsEvaluation}
+use Rattle.mpx_meaning.specs.declared.end.RankEnd.{RankEnd}
 use Rattle.mpx_eval.specs.Certain.{certain_in}
 use Rattle.mpx_eval.specs.Complaints.{ComplaintView, complaints_in}
 use Rattle.mpx_eval.specs.Findings.{AreFindings}
@@ -25,7 +27,6 @@ use Rattle.mpx_explain.specs.Overflows.{AreOverflows}
 use Rattle.mpx_explain.specs.RefusedLines.{AreRefusalsTold}
 use Rattle.mpx_explain.specs.RunEnds.{IsRunTold}
 use Rattle.mpx_explain.specs.declared.ended.EndedRun.{EndedRun}
-use Rattle.mpx_run.specs.Left.{transcripts_in}
 use Rattle.mpx_run.specs.declared.end.Cause.TheVariants.{InEveryRun}
 use Rattle.mpx_run.specs.declared.end.End.{End}
 use Rattle.mpx_run.specs.declared.end.End.TheVariants.{Finished, Waiting}
@@ -41,7 +42,7 @@ pub record AreCalls (text : List ℕ) (statements : List (List Statement)) (comp
   pub second : List ℕ
   pub heard : AreTold text complaints old first
   pub faults : AreTold text unheard first second
-  pub results : AreOverflows text statements second new
+  pub results : AreOverflows text statements complaints unheard second new
 
 -- who waits at the end of the script's evaluation, and the calls that are refused or are faults there
 pub record TellsEvaluation (ops : List Operation) (script : ScriptView) (text more : List ℕ) : Type 0 where
@@ -75,31 +76,32 @@ processes_of nodes = map (λ (node : Bor Node). node_of node.now) nodes
 abbrev pub processes_in : (ranks : ℕ) → Left → List NodeView
 processes_in ranks left = take ranks (map node_of left.nodes.items) ++ take ranks (map node_in left.ports.items)
 
--- how a run ended: the process of each rank, and how many lines each rank has
+-- how a run ended: each rank, and the process of each
 pub record RunEnded : Type 0 where
+  pub ends : List EndView
   pub processes : List NodeView
-  pub counts : List ℕ
+
+abbrev pub ended_by : List RankEnd → List NodeView → RunEnded
+ended_by ends processes = record { ends = map end_view ends; processes = processes }
 
 -- so ended the run of so many ranks of which this is left
 unfoldable pub ended_in : (ranks : ℕ) → Left → RunEnded
-ended_in ranks left = record { processes = processes_in ranks left; counts = map length (transcripts_in left) }
+ended_in ranks left = ended_by left.ends.items (processes_in ranks left)
 
--- what is told, behind other lines, of the run of this script that ended so, and in which these ranks wait: by these complaints of the script's evaluation
-pub record IsToldOfRun (script : ScriptView) (text : List ℕ) (ended : RunEnded) (complaints : List ComplaintView) (ranks : List ℕ) (old new : List ℕ) : Type 0 where
+-- what is told, behind other lines, of the run of this script that ended so
+pub record IsToldOfRun (script : ScriptView) (text : List ℕ) (ended : RunEnded) (old new : List ℕ) : Type 0 where
   pub run : EndedRun
   pub scripted : run.script.now ≡ script
+  pub ends : map end_view run.ends.now ≡ ended.ends
   pub processes : processes_of run.nodes.now ≡ ended.processes
-  pub lines : run.lines.now ≡ ended.counts
-  pub heard : map complaint_view run.complaints.now ≡ complaints
-  pub waits : run.waiting.now ≡ ranks
   pub told : IsRunTold text run old new
 
--- behind lines of the run itself, which ended so, early, with these ranks waiting, the same of the evaluation
-pub record TellsEarly (ops : List Operation) (script : ScriptView) (text : List ℕ) (ended : RunEnded) (ranks : List ℕ) (more : List ℕ) : Type 0 where
+-- behind lines of the run itself, which ended so, early, the same of the evaluation
+pub record TellsEarly (ops : List Operation) (script : ScriptView) (text : List ℕ) (ended : RunEnded) (more : List ℕ) : Type 0 where
   pub end : State
   pub evaluation : IsEvaluation ops script.statements script.ranks end
   pub here : List ℕ
-  pub itself : IsToldOfRun script text ended (complaints_in script.statements script.ranks end) ranks [] here
+  pub itself : IsToldOfRun script text ended [] here
   pub waits : List ℕ
   pub behind : IsBehind here (waiting_told text script.statements (waiting_in_full ops script.statements script.ranks end)) waits
   pub lines : List ℕ
@@ -110,7 +112,7 @@ pub record TellsEarly (ops : List Operation) (script : ScriptView) (text : List 
 abbrev pub TellsEnd : List Operation → ScriptView → (text : List ℕ) → RunEnded → End → (more : List ℕ) → Type 0
 TellsEnd ops script text ended Finished more = TellsEvaluation ops script text more
 TellsEnd ops script text ended (Waiting ranks InEveryRun) more = TellsEvaluation ops script text more
-TellsEnd ops script text ended (Waiting ranks cause) more = TellsEarly ops script text ended ranks.items more
+TellsEnd ops script text ended (Waiting ranks cause) more = TellsEarly ops script text ended more
 
 -- what is said of how a run with this end and text ended
 abbrev pub OfEnds : Type 1

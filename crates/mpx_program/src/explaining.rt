@@ -1,13 +1,13 @@
 //! What `--explain` tells beside why a run ended.
-ghost use Rattle.std.specs.Prelude.{◌≡◌, [], IfErr, IfOk, List, OnOk, false, length, map, take, true};
+ghost use Rattle.std.specs.Prelude.{◌≡◌, [], IfErr, IfOk, List, OnOk, false, map, take, true};
 ghost use Rattle.mpx_num.specs.declared.own.Operation.{Operation};
+ghost use Rattle.mpx_node.specs.Nodes.{NodeView};
 ghost use Rattle.mpx_eval.specs.Findings.{AreFindings};
 ghost use Rattle.mpx_eval.specs.Found.{complaint_view, waiting_view};
 ghost use Rattle.mpx_explain.specs.RefusedLines.{AreRefusalsTold};
-ghost use Rattle.mpx_run.specs.Left.{transcripts_in};
 ghost use Rattle.mpx_run.specs.declared.report.Left.{Left};
 ghost use Rattle.mpx_waiting.specs.ToldLines.{waiting_told};
-ghost use Rattle.mpx_program.specs.Explained.{AreCalls, AreCertain, HasTold, IsBehind, IsHeaded, IsToldOfRun, RunEnded, TellsEarly, TellsEnd, TellsEvaluation, ended_in, processes_in, processes_of, unexplained};
+ghost use Rattle.mpx_program.specs.Explained.{AreCalls, AreCertain, HasTold, IsBehind, IsHeaded, IsToldOfRun, TellsEarly, TellsEnd, TellsEvaluation, ended_by, ended_in, processes_in, processes_of, unexplained};
 
 use crate::found::Found;
 use crate::prepared::Prepared;
@@ -17,6 +17,7 @@ use mpx_eval::{Complaint, Findings};
 use mpx_explain::{
     EndedRun, explain_calls, explain_refusals, explain_results, explain_run, explain_unheard,
 };
+use mpx_meaning::RankEnd;
 use mpx_node::Node;
 use mpx_num::{Listing, Ops};
 use mpx_run::{Cause, End, Left, RunError};
@@ -130,11 +131,9 @@ fn end_told(
     match answer {
         Ok(End::Finished) => evaluation_told(alloc, prepared, found),
         Ok(End::Waiting(_, Cause::InEveryRun)) => evaluation_told(alloc, prepared, found),
-        Ok(End::Waiting(ranks, Cause::TurnsUsedUp(_))) => {
-            early_told(alloc, prepared, left, ranks, found)
-        }
-        Ok(End::Waiting(ranks, Cause::AllLost)) => early_told(alloc, prepared, left, ranks, found),
-        Ok(End::Waiting(ranks, Cause::Unknown)) => early_told(alloc, prepared, left, ranks, found),
+        Ok(End::Waiting(_, Cause::TurnsUsedUp(_))) => run_told(alloc, prepared, left, found),
+        Ok(End::Waiting(_, Cause::AllLost)) => run_told(alloc, prepared, left, found),
+        Ok(End::Waiting(_, Cause::Unknown)) => run_told(alloc, prepared, left, found),
         Err(error) => fault_told(alloc, prepared, left, found, error),
     }
 }
@@ -149,26 +148,39 @@ fn fault_told(
 ) -> Result<Vec<u8>, OutOfMemory> {
     let mut told = Vec::new(alloc);
     push_reason(alloc, error, &mut told)?;
-    let nobody = Vec::new(alloc);
-    let early = early_told(alloc, prepared, left, &nobody, found)?;
+    let early = early_told(alloc, prepared, left, &[], found)?;
     told.extend_from_slice(&early)?;
     Ok(told)
 }
 
-// The lines of a run that ended early, and behind a heading those of the evaluation. Where ranks wait in the evaluation isn't told twice.
+// What is told of a run that ended early.
+fn run_told(
+    alloc: Global,
+    prepared: &Prepared,
+    left: &Left,
+    found: &Findings,
+) -> Result<Vec<u8>, OutOfMemory>
+    ensures { IfOk result (λ told. (ops : List Operation) → AreFindings ops prepared.now.script (map waiting_view found.now.waiting.items) (map complaint_view found.now.complaints.items) (map complaint_view found.now.unheard.items)
+        → TellsEarly ops prepared.now.script prepared.now.text.items (ended_in prepared.now.script.ranks left.now) told.items) }
+{
+    let ends = left.ends.as_slice();
+    early_told(alloc, prepared, left, ends, found)
+}
+
+// The lines of a run that ended early, its ranks so, and behind a heading those of the evaluation. Where ranks wait in the evaluation isn't told
+// twice.
 fn early_told(
     alloc: Global,
     prepared: &Prepared,
     left: &Left,
-    ranks: &Vec<u8>,
+    ends: &[RankEnd],
     found: &Findings,
 ) -> Result<Vec<u8>, OutOfMemory>
     ensures { IfOk result (λ told. (ops : List Operation) → AreFindings ops prepared.now.script (map waiting_view found.now.waiting.items) (map complaint_view found.now.complaints.items) (map complaint_view found.now.unheard.items)
-        → TellsEarly ops prepared.now.script prepared.now.text.items (ended_in prepared.now.script.ranks left.now) ranks.now.items told.items) }
+        → TellsEarly ops prepared.now.script prepared.now.text.items (ended_by ends.now (processes_in prepared.now.script.ranks left.now)) told.items) }
 {
     let mut told = Vec::new(alloc);
-    let waiting = ranks.as_slice();
-    push_run_end(alloc, prepared, left, waiting, found, &mut told)?;
+    push_run_end(alloc, prepared, left, ends, &mut told)?;
     let there = waits_told(alloc, prepared, found)?;
     push_behind(there.as_slice(), &mut told)?;
     drop(there);
@@ -207,65 +219,38 @@ fn push_headed(calls: &[u8], told: &mut Vec<u8>) -> Result<(), OutOfMemory>
     Ok(())
 }
 
-// Where these ranks wait in the run of which this is left.
+// Where ranks wait in the run of which this is left, its ranks ended so.
 fn push_run_end(
     alloc: Global,
     prepared: &Prepared,
     left: &Left,
-    ranks: &[u8],
-    found: &Findings,
+    ends: &[RankEnd],
     told: &mut Vec<u8>,
 ) -> Result<(), OutOfMemory>
-    ensures { OnOk result (IsToldOfRun prepared.now.script prepared.now.text.items (ended_in prepared.now.script.ranks left.now) (map complaint_view found.now.complaints.items) ranks.now told.old.items told.new.items) }
+    ensures { OnOk result (IsToldOfRun prepared.now.script prepared.now.text.items (ended_by ends.now (processes_in prepared.now.script.ranks left.now)) told.old.items told.new.items) }
 {
     let nodes = nodes_of(alloc, left, prepared.script.ranks())?;
-    let lines = counts_of(alloc, left)?;
     let text = prepared.text.as_slice();
-    push_run(
-        alloc,
-        text,
-        &prepared.script,
-        &found.complaints,
-        ranks,
-        &lines,
-        &nodes,
-        told,
-    )
+    push_run(alloc, text, &prepared.script, ends, &nodes, told)
 }
 
-// Where these ranks wait in a run of a script in which each rank has so many lines, by the nodes of all ranks as they stand then.
+// The same by the nodes of all ranks as they stand then.
 fn push_run(
     alloc: Global,
     text: &[u8],
     script: &Script,
-    complaints: &[Complaint],
-    ranks: &[u8],
-    lines: &[usize],
+    ends: &[RankEnd],
     nodes: &[&Node],
     told: &mut Vec<u8>,
 ) -> Result<(), OutOfMemory>
-    ensures { OnOk result ((ended : RunEnded) → processes_of nodes.now ≡ ended.processes → lines.now ≡ ended.counts
-        → IsToldOfRun script.now text.now ended (map complaint_view complaints.now) ranks.now told.old.items told.new.items) }
+    ensures { OnOk result ((processes : List NodeView) → processes_of nodes.now ≡ processes → IsToldOfRun script.now text.now (ended_by ends.now processes) told.old.items told.new.items) }
 {
     let run = EndedRun {
         script,
-        complaints,
-        waiting: ranks,
-        lines,
+        ends,
         nodes,
     };
     explain_run(alloc, text, &run, told)
-}
-
-// How many lines each rank has at the end of a run.
-fn counts_of(alloc: Global, left: &Left) -> Result<Vec<usize>, OutOfMemory>
-    ensures { IfOk result (λ counts. counts.items ≡ map length (transcripts_in left.now)) }
-{
-    let mut counts = Vec::new(alloc);
-    for end in &left.ends {
-        counts.push(end.lines.len())?;
-    }
-    Ok(counts)
 }
 
 // The nodes of so many ranks at the end of a run.

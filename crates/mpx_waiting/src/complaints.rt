@@ -75,7 +75,8 @@ fn push_complaint(
 {
     let line = line_at(numbers, complaint.statement);
     push_start(alloc, complaint.rank, line, told)?;
-    told.extend_from_slice(complaint.text.as_bytes())?;
+    let said = complaint.line.text(alloc)?;
+    told.extend_from_slice(said.as_bytes())?;
     told.extend_from_slice(b"\n")?;
     Ok(())
 }
