@@ -91,11 +91,14 @@ abbrev pub IsMoreTold : Result ScriptView ScriptError → (old new : List ℕ) �
 IsMoreTold (Ok script) old new = new ≡ old
 IsMoreTold (Err refusal) old new = new ≡ old ++ codes "further lines aren't looked at\n"
 
--- none is left; or one that nothing is told behind, and what is beside it; or, behind ten that are told or a hundred that are left out, that there are further
--- ones
+-- none is left; or one that nothing is told behind, and what is beside it
+abbrev pub IsLastTold : Result ScriptView ScriptError → (old new : List ℕ) → Type 0
+IsLastTold (Ok script) old new = new ≡ old
+IsLastTold (Err refusal) old new = (ends_all refusal.what ≡ true) × IsRefusalTold false refusal old new
+
+-- the same; or, behind ten that are told or a hundred that are left out, that there are further ones
 abbrev pub IsEndTold : (count many : ℕ) → Result ScriptView ScriptError → (old new : List ℕ) → Type 0
-IsEndTold count many (Ok script) old new = new ≡ old
-IsEndTold count many (Err refusal) old new = ((ends_all refusal.what ≡ true) × IsRefusalTold false refusal old new) ⊎ (((many ≡ 10) ⊎ (count ≡ 100)) × IsMoreTold (Err refusal) old new)
+IsEndTold count many read old new = IsLastTold read old new ⊎ (((many ≡ 10) ⊎ (count ≡ 100)) × IsMoreTold read old new)
 
 -- the refused lines of a script are told behind others: the first ten, and how they end
 pub record AreRefusalsTold (ops : List Operation) (text old new : List ℕ) : Type 0 where

@@ -1,9 +1,9 @@
 //! The refused lines of a script.
-ghost use Rattle.std.specs.Prelude.{◌≡◌, ◌++◌, [], cond, nat_lt, false, true, IfErr, IfNone, IfOk, IfSome, OnErr, OnOk, string_bytes};
+ghost use Rattle.std.specs.Prelude.{◌≡◌, ◌<◌, ◌++◌, [], cond, nat_lt, false, true, IfErr, IfNone, IfOk, IfSome, OnErr, OnOk, string_bytes};
 ghost use Rattle.std.specs.Option.{option_map};
 ghost use Rattle.mpx_script.specs.Reading.{reading};
 ghost use Rattle.mpx_script.specs.declared.faults.ScriptFault.TheVariants.{NameUnknown};
-ghost use Rattle.mpx_explain.specs.RefusedLines.{AreRefusalsTold, IsEndTold, IsLineTold, IsRefusalTold, IsMoreTold, IsToldOrPassed, Keeps, beside_text, ends_all, feed_before, refusal_in, refusal_text, with_line, with_line_told, without_refused};
+ghost use Rattle.mpx_explain.specs.RefusedLines.{AreRefusalsTold, IsLastTold, IsLineTold, IsMoreTold, IsRefusalTold, IsToldOrPassed, Keeps, beside_text, ends_all, feed_before, refusal_in, refusal_text, with_line, with_line_told, without_refused};
 
 use crate::detail::detail_of;
 use crate::left_out::{Unbound, is_bound_with, push_unbound};
@@ -92,7 +92,7 @@ fn explain_refusal(
 ) -> Result<Option<LeftText>, OutOfMemory>
     ensures told { IfOk result (λ left. IfSome left (λ it. IsLineTold it.is_passed (nat_lt 0 nth) (reading (⟦<Ops as Listing>⟧.operations ops.now) text.now) told.old.items told.new.items)) }
     ensures left { IfOk result (λ left. IfSome left (λ it. it.text.items ≡ without_refused (reading (⟦<Ops as Listing>⟧.operations ops.now) text.now) text.now)) }
-    ensures end { IfOk result (λ left. IfNone left (IsEndTold nth (reading (⟦<Ops as Listing>⟧.operations ops.now) text.now) told.old.items told.new.items)) }
+    ensures end { IfOk result (λ left. IfNone left (IsLastTold (reading (⟦<Ops as Listing>⟧.operations ops.now) text.now) told.old.items told.new.items)) }
     ensures err { IfErr result (λ _. told.new.items ≡ told.old.items) }
 {
     let Some(refusal) = refusal_of(alloc, text, ops)? else {
