@@ -23,6 +23,7 @@ mod shares;
 mod side_by_side;
 mod start;
 mod turns;
+mod workers;
 
 pub use observer::{FrameSeen, Observer, Progress, Unobserved};
-pub use report::{Run, run_sim, run_sim_observed};
+pub use report::{Run, run_sim, run_sim_in_one_thread, run_sim_observed};

@@ -14,6 +14,7 @@ ghost use Rattle.mpx_sim.specs.Turns.{AreAfter};
 use crate::observer::{Observer, Unobserved};
 use crate::process::Process;
 use crate::turns::simulate;
+use crate::workers::{InOneThread, InThreads, Workers};
 use join_core::OutOfMemory;
 use mpx_meaning::{RankEnd, Report};
 use mpx_node::{Node, drop_nodes};
@@ -95,7 +96,47 @@ pub fn run_sim_observed<R: Threads + Sync>(
     ensures ended { IfOk result (λ run. AllMadeOr run.turns options.now.turns (IsOver (⟦<Ops as Listing>⟧.operations ops.now) script.now options.now.relays options.now.loss (map node_of run.nodes.items) (transcripts_of run.report) run.report.waiting.items)) }
     ensures rests { IfOk result (λ run. run.turns < options.now.turns → options.now.loss < 100 → (evaluation : State) → IsEvaluationOf (⟦<Ops as Listing>⟧.operations ops.now) script.now evaluation → AreAll (transcripts_of run.report) run.report.waiting.items script.now.ranks evaluation) }
 {
-    let ran = simulate(rt, alloc, script, options, observer, ops);
+    run_by(&InThreads { rt }, alloc, script, options, observer, ops)
+}
+
+/// The same run with the same error, which the caller's thread makes by itself, whatever `workers` says: so it needs no leave to make threads.
+pub fn run_sim_in_one_thread(
+    alloc: Global,
+    script: &Script,
+    options: &Options,
+    observer: &mut dyn Observer,
+    ops: &Ops,
+) -> Result<Run, OutOfMemory>
+    requires { script.now.ranks + options.now.relays ≤ 64 }
+    ensures run { IfOk result (λ run. IsRun (⟦<Ops as Listing>⟧.operations ops.now) script.now options.now.relays (map node_of run.nodes.items) (transcripts_of run.report) run.report.waiting.items) }
+    ensures begins { IfOk result (λ run. (evaluation : State) → IsEvaluationOf (⟦<Ops as Listing>⟧.operations ops.now) script.now evaluation → Begin (transcripts_of run.report) evaluation) }
+    ensures whole { IfOk result (λ run. (evaluation : State) → IsEvaluationOf (⟦<Ops as Listing>⟧.operations ops.now) script.now evaluation → AreWhole (transcripts_of run.report) run.report.waiting.items evaluation) }
+    ensures turns { IfOk result (λ run. AreAfter (⟦<Ops as Listing>⟧.operations ops.now) script.now options.now.relays options.now.seed options.now.loss run.turns (map node_of run.nodes.items)) }
+    ensures ended { IfOk result (λ run. AllMadeOr run.turns options.now.turns (IsOver (⟦<Ops as Listing>⟧.operations ops.now) script.now options.now.relays options.now.loss (map node_of run.nodes.items) (transcripts_of run.report) run.report.waiting.items)) }
+    ensures rests { IfOk result (λ run. run.turns < options.now.turns → options.now.loss < 100 → (evaluation : State) → IsEvaluationOf (⟦<Ops as Listing>⟧.operations ops.now) script.now evaluation → AreAll (transcripts_of run.report) run.report.waiting.items script.now.ranks evaluation) }
+{
+    run_by(&InOneThread, alloc, script, options, observer, ops)
+}
+
+// The run, whose processes' work these do.
+fn run_by<W: Workers>(
+    workers: &W,
+    alloc: Global,
+    script: &Script,
+    options: &Options,
+    observer: &mut dyn Observer,
+    ops: &Ops,
+) -> Result<Run, OutOfMemory>
+    requires may { W.may_work workers.now }
+    requires few { script.now.ranks + options.now.relays ≤ 64 }
+    ensures run { IfOk result (λ run. IsRun (⟦<Ops as Listing>⟧.operations ops.now) script.now options.now.relays (map node_of run.nodes.items) (transcripts_of run.report) run.report.waiting.items) }
+    ensures begins { IfOk result (λ run. (evaluation : State) → IsEvaluationOf (⟦<Ops as Listing>⟧.operations ops.now) script.now evaluation → Begin (transcripts_of run.report) evaluation) }
+    ensures whole { IfOk result (λ run. (evaluation : State) → IsEvaluationOf (⟦<Ops as Listing>⟧.operations ops.now) script.now evaluation → AreWhole (transcripts_of run.report) run.report.waiting.items evaluation) }
+    ensures turns { IfOk result (λ run. AreAfter (⟦<Ops as Listing>⟧.operations ops.now) script.now options.now.relays options.now.seed options.now.loss run.turns (map node_of run.nodes.items)) }
+    ensures ended { IfOk result (λ run. AllMadeOr run.turns options.now.turns (IsOver (⟦<Ops as Listing>⟧.operations ops.now) script.now options.now.relays options.now.loss (map node_of run.nodes.items) (transcripts_of run.report) run.report.waiting.items)) }
+    ensures rests { IfOk result (λ run. run.turns < options.now.turns → options.now.loss < 100 → (evaluation : State) → IsEvaluationOf (⟦<Ops as Listing>⟧.operations ops.now) script.now evaluation → AreAll (transcripts_of run.report) run.report.waiting.items script.now.ranks evaluation) }
+{
+    let ran = simulate(workers, alloc, script, options, observer, ops);
     observer.over();
     let (processes, turns) = ran?;
     let ranks = script.ranks();

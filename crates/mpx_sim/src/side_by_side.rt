@@ -1,4 +1,4 @@
-//! What the processes of a run do side by side, each by itself, in threads.
+//! What the processes of a run do side by side, each by itself.
 ghost use Rattle.std.specs.Prelude.{◌≡◌, ◌<◌, All, OnOk, false, length, map};
 ghost use Rattle.mpx_num.specs.Own.{operation_of};
 ghost use Rattle.mpx_sim.specs.Shown.{process_of};
@@ -42,6 +42,27 @@ pub(crate) fn go_on_all<R: Threads + Sync>(
         ensures { process.exit.now.notes.failed ≡ false → GoesOn (map (λ b. operation_of (word_bytes (b.vtable, b.value)) (fits_type (b.vtable, b.value)) (combination (b.vtable, b.value))) lent.entry.now.ops.now.list.items) ranks place (taken place turn frames.entry.now (process_of process.entry.now)) (process_of process.exit.now) × IsReady process.exit.now }
     { process.take_and_go_on(alloc, place, ranks, frames, turn, next, lent.ops) };
     for_each_share(rt, processes, threads, &work);
+    none_failed(processes)?;
+    Ok(one_changed(processes))
+}
+
+/// The same, one process after the other.
+pub(crate) fn go_on_in_turn(
+    alloc: Global,
+    processes: &mut [Process<'_>],
+    ranks: usize,
+    frames: &[FrameUnderWay],
+    turn: u64,
+    next: Option<u64>,
+    ops: &Ops,
+) -> Result<bool, OutOfMemory>
+    requires { AreReady processes.old }
+    ensures goes { OnOk result (AllGoOn (⟦<Ops as Listing>⟧.operations ops.now) ranks turn frames.now (map process_of processes.old) (map process_of processes.new)) }
+    ensures ready { OnOk result (AreReady processes.new) }
+{
+    for place in 0..processes.len() {
+        processes[place].take_and_go_on(alloc, place, ranks, frames, turn, next, ops);
+    }
     none_failed(processes)?;
     Ok(one_changed(processes))
 }
