@@ -14,7 +14,7 @@ ghost use Rattle.mpx_sim.specs.Turns.{Alone, Coming, FrameView, Moment};
 use crate::network::{Network, deliver, hand_out, keep_some, send_all};
 use crate::observer::{Observer, Progress};
 use crate::process::Process;
-use crate::side_by_side::say_all;
+use crate::side_by_side::{Turn, say_all};
 use crate::start::start;
 use crate::workers::Workers;
 use join_core::{Exact, OutOfMemory};
@@ -114,8 +114,13 @@ fn first<W: Workers>(
     if plan.turns == 0 {
         return Ok(false);
     }
-    let (count, ranks, next) = (plan.workers, plan.ranks, plan.ahead(0));
-    let changed = workers.have_go_on(alloc, count, processes, ranks, &[], 0, next, ops)?;
+    let at = Turn {
+        number: 0,
+        next: plan.ahead(0),
+        ranks: plan.ranks,
+        frames: &[],
+    };
+    let changed = workers.have_go_on(alloc, plan.workers, processes, &at, ops)?;
     tell_more(processes, plan.ranks, 0, observer);
     Ok(changed)
 }
@@ -172,9 +177,14 @@ fn go_further<W: Workers>(
         return Ok(false);
     }
     let turn = u64::from(number);
-    let (count, next) = (plan.workers, plan.ahead(turn.saturating_add(1)));
     let coming = network.coming(plan.in_order);
-    let changed = workers.have_go_on(alloc, count, processes, plan.ranks, coming, turn, next, ops)?;
+    let at = Turn {
+        number: turn,
+        next: plan.ahead(turn.saturating_add(1)),
+        ranks: plan.ranks,
+        frames: coming,
+    };
+    let changed = workers.have_go_on(alloc, plan.workers, processes, &at, ops)?;
     keep_some(network, turn);
     hand_out(processes, &mut network.spare);
     tell_more(processes, plan.ranks, number.saturating_add(1), observer);

@@ -4,9 +4,8 @@ ghost use denote.Param.Send.{IsSync};
 ghost use Rattle.mpx_sim.specs.Shown.{process_of};
 ghost use Rattle.mpx_sim.specs.SideBySide.{AllGoOn, AreReady};
 
-use crate::frame_under_way::FrameUnderWay;
 use crate::process::Process;
-use crate::side_by_side::{go_on_all, go_on_in_turn};
+use crate::side_by_side::{Turn, go_on_all, go_on_in_turn};
 use join_core::OutOfMemory;
 use mpx_num::{Listing, Ops};
 use mpx_statement::Options;
@@ -19,38 +18,36 @@ const FEW_PROCESSES: usize = 32;
 // A thread that isn't asked for pays with so many processes.
 const PROCESSES_OF_A_THREAD: usize = 8;
 
-/// Who has processes go on.
-pub(crate) trait Workers {
-    /// What they ask for: that threads may share what is lent to them.
+/// Who has the processes of a run go on: [`InThreads`] or [`InOneThread`].
+pub trait Workers {
+    /// What they ask for: of threads, that these may share the handle by which they are made.
     ghost may_work: { Self → Type 0 };
 
     /// How many of them work side by side, where there are so many processes.
     fn count(&self, options: &Options, processes: usize) -> usize
         ensures { 0 < result };
 
-    /// Each process takes the frames among these that come to it in this turn, and goes on by itself then, where so many are ranks: at most so
-    /// many side by side. For a turn behind this one, where there is one, each looks ahead. It answers whether one moved or dropped anything.
+    /// Each process takes the frames that come to it in this turn, and goes on by itself then: at most so many side by side. It answers whether
+    /// one moved or dropped anything.
     fn have_go_on(
         &self,
         alloc: Global,
         count: usize,
         processes: &mut [Process<'_>],
-        ranks: usize,
-        frames: &[FrameUnderWay],
-        turn: u64,
-        next: Option<u64>,
+        turn: &Turn<'_>,
         ops: &Ops,
     ) -> Result<bool, OutOfMemory>
         requires may { may_work self.now }
         requires ready { AreReady processes.old }
-        ensures goes { OnOk result (AllGoOn (⟦<Ops as Listing>⟧.operations ops.now) ranks turn frames.now (map process_of processes.old) (map process_of processes.new)) }
+        ensures goes { OnOk result (AllGoOn (⟦<Ops as Listing>⟧.operations ops.now) turn.now.ranks turn.now.number turn.now.frames.now (map process_of processes.old) (map process_of processes.new)) }
         ensures ready { OnOk result (AreReady processes.new) };
 }
 
-/// Threads: as many as are asked for, or as pay.
+/// Threads: as many as the options ask for, or else as pay.
 #[derive(Drop)]
-pub(crate) struct InThreads<'a, R> {
-    pub(crate) rt: &'a R,
+pub struct InThreads<'a, R> {
+    /// The leave to make them.
+    pub rt: &'a R,
 }
 
 impl<'a, R: Threads + Sync> Workers for InThreads<'a, R> {
@@ -77,21 +74,16 @@ impl<'a, R: Threads + Sync> Workers for InThreads<'a, R> {
         alloc: Global,
         count: usize,
         processes: &mut [Process<'_>],
-        ranks: usize,
-        frames: &[FrameUnderWay],
-        turn: u64,
-        next: Option<u64>,
+        turn: &Turn<'_>,
         ops: &Ops,
     ) -> Result<bool, OutOfMemory> {
-        go_on_all(
-            self.rt, alloc, count, processes, ranks, frames, turn, next, ops,
-        )
+        go_on_all(self.rt, alloc, count, processes, turn, ops)
     }
 }
 
-/// The caller alone.
+/// The caller's thread alone, whatever the options ask for: so it needs no leave to make threads.
 #[derive(Drop)]
-pub(crate) struct InOneThread;
+pub struct InOneThread;
 
 impl Workers for InOneThread {
     ghost may_work = { λ _. Unit {0} };
@@ -105,12 +97,9 @@ impl Workers for InOneThread {
         alloc: Global,
         _count: usize,
         processes: &mut [Process<'_>],
-        ranks: usize,
-        frames: &[FrameUnderWay],
-        turn: u64,
-        next: Option<u64>,
+        turn: &Turn<'_>,
         ops: &Ops,
     ) -> Result<bool, OutOfMemory> {
-        go_on_in_turn(alloc, processes, ranks, frames, turn, next, ops)
+        go_on_in_turn(alloc, processes, turn, ops)
     }
 }

@@ -33,12 +33,12 @@ loop-place-preserved g c =
     let was = c.loop-place.invariant.rest p (get_or xs p x) (omega arith) (slice_get-get_or xs p x (omega arith)) in
     record {
       done = λ q u v l a b.
-          set_cases xs p q new v (λ y. y.notes.failed ≡ false → GoesOn ops c.args.ranks q (taken q c.args.turn c.args.frames.now (process_of u)) (process_of y) × IsReady y) b
+          set_cases xs p q new v (λ y. y.notes.failed ≡ false → GoesOn ops c.args.turn.now.ranks q (taken q c.args.turn.now.number c.args.turn.now.frames.now (process_of u)) (process_of y) × IsReady y) b
           (λ here sound.
           let same : get_or xs p x ≡ u = same_Some (get_or xs p x) u (sym was ∙ subst (λ n. slice_get c.args.processes.now n ≡ Some u) here a) in
           let goes = c.take_and_go_on.ensures sound in (
-            subst (λ n. GoesOn ops c.args.ranks n (taken n c.args.turn c.args.frames.now (process_of u)) (process_of new)) (sym here)
-                (goes_same ops c.args.ranks p (taken p c.args.turn c.args.frames.now (process_of u)) (taken p c.args.turn c.args.frames.now (process_of (get_or xs p x))) (process_of new) (process_of new) (ap (λ y. taken p c.args.turn c.args.frames.now (process_of y)) same) refl goes.0),
+            subst (λ n. GoesOn ops c.args.turn.now.ranks n (taken n c.args.turn.now.number c.args.turn.now.frames.now (process_of u)) (process_of new)) (sym here)
+                (goes_same ops c.args.turn.now.ranks p (taken p c.args.turn.now.number c.args.turn.now.frames.now (process_of u)) (taken p c.args.turn.now.number c.args.turn.now.frames.now (process_of (get_or xs p x))) (process_of new) (process_of new) (ap (λ y. taken p c.args.turn.now.number c.args.turn.now.frames.now (process_of y)) same) refl goes.0),
             goes.1,
           ))
           (λ old other. c.loop-place.invariant.done q u v (omega (arith, l, other)) a old);
@@ -54,8 +54,8 @@ returns-clause-goes g c =
           let p = mapped_at process_of old place v a in
           let q = mapped_at process_of new place w b in
           let sound : q.0.notes.failed ≡ false = all_at (λ (x : Process). x.notes.failed ≡ false) new place q.0 q.1 c.in_ok-none_failed.ensures in
-          goes_same _ c.args.ranks place (taken place c.args.turn c.args.frames.now v) (taken place c.args.turn c.args.frames.now (process_of p.0)) w (process_of q.0)
-          (ap (taken place c.args.turn c.args.frames.now) p.2) q.2 (c.loop-place.invariant.done place p.0 q.0 (omega (arith, slice_get_within new place q.0 q.1, c.loop-place-test.false)) p.1 q.1 sound).0,
+          goes_same _ c.args.turn.now.ranks place (taken place c.args.turn.now.number c.args.turn.now.frames.now v) (taken place c.args.turn.now.number c.args.turn.now.frames.now (process_of p.0)) w (process_of q.0)
+          (ap (taken place c.args.turn.now.number c.args.turn.now.frames.now) p.2) q.2 (c.loop-place.invariant.done place p.0 q.0 (omega (arith, slice_get_within new place q.0 q.1, c.loop-place-test.false)) p.1 q.1 sound).0,
     )
 
 pub returns-clause-ready : goal.returns-clause-ready
