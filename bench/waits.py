@@ -123,17 +123,17 @@ def is_said_rightly(script, end, rank, place, text, said):
         return True, False
     call = reference.parse(words)
     for list_name, key in (("SCOUNTS", "scounts"), ("RCOUNTS", "rcounts")):
-        length = re.match(r"%s has (no|\d+) counts?(, the root alone gives any|, world has (\d+) ranks?)$" % list_name, said)
+        length = re.match(r"%s has (no|\d+) counts?(; only the root gives counts|, world has (\d+) ranks?)$" % list_name, said)
         if text == "refused CountsLength" and length:
             wanted = reference.expected(call, len(script.todo), rank, None)[0 if key == "scounts" else 1]
             given = 0 if length[1] == "no" else int(length[1])
-            return words[1] == "world" and given == len(call[key]) != wanted and (wanted == 0) == ("root alone" in said), True
+            return words[1] == "world" and given == len(call[key]) != wanted and (wanted == 0) == ("only the root" in said), True
     if text == "refused RootOutOfRange":
         return said.startswith("root is %d, " % call["root"]) and not 0 <= call["root"] < (len(script.todo) if words[1] == "world" else 1), words[1] == "world"
     many = re.match(r"(COUNT|SCOUNT|RCOUNT|SCOUNTS|RCOUNTS) (is|has) (-?\d+), counts go from 0 to 4096$", said)
     if text == "refused TooManyItems" and many:
         return not 0 <= int(many[3]) <= 4096 and int(many[3]) in call["scounts"] + call["rcounts"], True
-    items = re.match(r"gave (\d+) items?(,|$)", said)
+    items = re.match(r"gave (\d+) items?(,|;|$)", said)
     if text == "refused ItemsLength" and items:
         return int(items[1]) == len(call["items"]) // (2 if call["ty"] == "2int" else 1), True
     outside = re.match(r"(-?\d+) is outside (\w+)$", said)
@@ -153,8 +153,8 @@ def fault_is_said(script, end, rank, place, text, said):
     between = re.match(r"rank (\d+) sends (\d+) to rank (\d+), which awaits (\d+)$", said)
     if between:
         return sends_so(row, *map(int, between.groups())), True
-    parts = [re.match(r"rank (\d+)( alone)? (.*)$", part) for part in re.split(r", (?=rank )", said)]
-    return all(part and gives_so(row[int(part[1])], text.split()[1], part[3]) for part in parts), True
+    parts = [re.match(r"(?:only )?rank (\d+) (.*)$", part) for part in re.split(r", (?=rank )", said)]
+    return all(part and gives_so(row[int(part[1])], text.split()[1], part[2]) for part in parts), True
 
 
 def all_made(script, end, rank):
