@@ -29,6 +29,7 @@ mod named;
 mod naming;
 mod overflows;
 mod past;
+mod posts;
 mod reasons;
 mod size;
 mod trials;
