@@ -23,14 +23,15 @@ use Rattle.mpx_script.specs.LinesGiven.{lines_given}
 use Rattle.mpx_waiting.specs.ToldLines.{line_at}
 use Rattle.mpx_explain.specs.declared.ends.EarlierCall.{EarlierCall}
 use Rattle.mpx_explain.specs.declared.ends.RunEnd.{RunEnd}
-use Rattle.mpx_explain.specs.RunEnds.{ComesFirst, EarlierView, IsLacking, IsRunTold, IsServed, TellsRun, Waits, earlier_text, earlier_view, lacked_by, lacking_at, process_of, run_text, waiting_upto, waits_at, waits_in, waits_of, with_missing}
+use Rattle.mpx_explain.specs.RunEnds.{ComesFirst, EarlierView, IsLacking, IsRunTold, IsServed, IsUnmade, TellsRun, Waits, earlier_text, earlier_view, lacked_by, lacking_at, process_of, run_text, waiting_upto, waits_at, waits_in, waits_of, with_missing}
 
 -- all ranks are told
-pub tells_run : (run : EndedRun) (end : RunEnd) (n ranks : ℕ) → n ≡ ranks → ranks ≡ run.script.now.ranks → map waiting_view end.waiting.items ≡ waiting_upto run n → All (ComesFirst run) end.earlier.items → All (IsServed run) end.served.items → TellsRun run end
-tells_run run end n ranks all are waiting earlier served = record {
+pub tells_run : (run : EndedRun) (end : RunEnd) (n ranks : ℕ) → n ≡ ranks → ranks ≡ run.script.now.ranks → map waiting_view end.waiting.items ≡ waiting_upto run n → All (ComesFirst run) end.earlier.items → All (IsServed run) end.served.items → All (IsUnmade run) end.unmade.items → TellsRun run end
+tells_run run end n ranks all are waiting earlier served unmade = record {
   waiting = waiting ∙ ap (waiting_upto run) (all ∙ are);
   earlier = earlier;
   served = served;
+  unmade = unmade;
 }
 
 -- with those of one rank more

@@ -1,5 +1,5 @@
 -- Refused lines that are told, one behind the other, and what is left of a text without them.
-use Rattle.std.proofs.Common.{◌≡◌, ◌≤◌, ◌<◌, ℕ, zero, suc, ◌+◌, ◌==◌, nat_lt, Bool, true, false, cond, List, [], ◌∷◌, ◌++◌, length, take, append-nil, append_assoc, Option, Some, None, Result, Ok, Err, inl, inr, arith, ap, subst, sym, ◌∙◌, refl}
+use Rattle.std.proofs.Common.{◌≡◌, ◌≤◌, ◌<◌, ℕ, zero, suc, ◌+◌, ◌==◌, nat_lt, ◌⊎◌, Bool, true, false, cond, List, [], ◌∷◌, ◌++◌, length, take, append-nil, append_assoc, Option, Some, None, Result, Ok, Err, inl, inr, arith, ap, subst, sym, ◌∙◌, refl}
 use Rattle.std.specs.Prelude.{OnErr, OnOk, codes, slice_index_or, slice_set}
 use Rattle.std.specs.List.{enumerate_from, join_with_byte}
 use Rattle.std.proofs.lemmas.Bool.{eqb-false, eqb-true}
@@ -9,7 +9,8 @@ use Rattle.mpx_num.specs.declared.own.Operation.{Operation}
 use Rattle.mpx_script.specs.Reading.{reading}
 use Rattle.mpx_script.specs.ScriptView.{ScriptView}
 use Rattle.mpx_script.specs.declared.faults.ScriptError.{ScriptError}
-use Rattle.mpx_explain.specs.RefusedLines.{AreLinesTold, AreRefusalsTold, IsEndTold, IsLineTold, IsRefusalTold, IsToldUnlessUnknown, Keeps, beside_text, ends_all, feed_before, left_after, left_of, refusal_in, refusal_text, with_line, without_refused}
+use Rattle.mpx_script.specs.declared.faults.ScriptFault.TheVariants.{NameUnknown}
+use Rattle.mpx_explain.specs.RefusedLines.{AreLinesTold, AreRefusalsTold, IsEndTold, IsLastTold, IsLineTold, IsMoreTold, IsRefusalTold, IsToldOrPassed, Keeps, beside_text, ends_all, feed_before, left_after, left_of, refusal_in, refusal_text, with_line, with_line_told, without_refused}
 
 -- TEXTS THAT GROW
 
@@ -28,20 +29,26 @@ told_keeps is_told refusal old new one = record {
   is = one.is ∙ append_assoc old (refusal_text is_told refusal) (beside_text one.beside);
 }
 
-pub line_keeps : (is_told : Bool) (read : Result ScriptView ScriptError) (old new : List ℕ) → IsLineTold is_told read old new → Keeps old new
-line_keeps is_told (Ok script) old new line = absurd line
-line_keeps is_told (Err refusal) old new (inl one) = told_keeps is_told refusal old new one
-line_keeps is_told (Err refusal) old new (inr same) = keeps_same old new same.1
+pub passed_keeps : (is_passed is_told : Bool) (refusal : ScriptError) (old new : List ℕ) → IsToldOrPassed is_passed is_told refusal old new → Keeps old new
+passed_keeps false is_told refusal old new one = told_keeps is_told refusal old new one
+passed_keeps true is_told refusal old new one = keeps_same old new one.1
 
-pub lines_keep : (ops : List Operation) (text : List ℕ) (count : ℕ) (old new : List ℕ) → AreLinesTold ops text count old new → Keeps old new
-lines_keep ops text zero old new same = keeps_same old new same
-lines_keep ops text (suc n) old new lines =
-    keeps_then old lines.0 new (lines_keep ops text n old lines.0 lines.1) (line_keeps (nat_lt 0 n) (reading ops (left_after ops text n)) lines.0 new lines.2)
+pub line_keeps : (is_passed is_told : Bool) (read : Result ScriptView ScriptError) (old new : List ℕ) → IsLineTold is_passed is_told read old new → Keeps old new
+line_keeps is_passed is_told (Ok script) old new line = absurd line
+line_keeps is_passed is_told (Err refusal) old new one = passed_keeps is_passed is_told refusal old new one
 
-pub end_keeps : (count : ℕ) (read : Result ScriptView ScriptError) (old new : List ℕ) → IsEndTold count read old new → Keeps old new
-end_keeps count (Ok script) old new same = keeps_same old new same
-end_keeps count (Err refusal) old new (inl last) = told_keeps false refusal old new last.1
-end_keeps count (Err refusal) old new (inr further) = record { more = codes "further lines aren't looked at\n"; is = further.1 }
+pub lines_keep : (ops : List Operation) (text : List ℕ) (count many : ℕ) (old new : List ℕ) → AreLinesTold ops text count many old new → Keeps old new
+lines_keep ops text zero many old new none = keeps_same old new none.1
+lines_keep ops text (suc n) many old new lines =
+    keeps_then old lines.0 new (lines_keep ops text n lines.1 old lines.0 lines.3) (line_keeps lines.2 (nat_lt 0 n) (reading ops (left_after ops text n)) lines.0 new lines.5)
+
+pub more_keeps : (read : Result ScriptView ScriptError) (old new : List ℕ) → IsMoreTold read old new → Keeps old new
+more_keeps (Ok script) old new same = keeps_same old new same
+more_keeps (Err refusal) old new told = record { more = codes "further lines aren't looked at\n"; is = told }
+
+pub last_keeps : (read : Result ScriptView ScriptError) (old new : List ℕ) → IsLastTold read old new → Keeps old new
+last_keeps (Ok script) old new same = keeps_same old new same
+last_keeps (Err refusal) old new last = told_keeps false refusal old new last.1
 
 -- ONE REFUSAL
 
@@ -54,18 +61,22 @@ none_some : {A : Type 0} (a : A) → None ≡ Some a → ⊥
 none_some a is = cc
 
 -- a text that isn't
-pub ends_unrefused : (count : ℕ) (read : Result ScriptView ScriptError) (old new : List ℕ) → None ≡ refusal_in read → new ≡ old → IsEndTold count read old new
-ends_unrefused count (Ok script) old new is same = same
-ends_unrefused count (Err refusal) old new is same = let none : None ≡ Some refusal = is in absurd (none_some refusal none)
+pub more_unrefused : (read : Result ScriptView ScriptError) (old new : List ℕ) → None ≡ refusal_in read → new ≡ old → IsMoreTold read old new
+more_unrefused (Ok script) old new is same = same
+more_unrefused (Err refusal) old new is same = let none : None ≡ Some refusal = is in absurd (none_some refusal none)
+
+pub last_unrefused : (read : Result ScriptView ScriptError) (old new : List ℕ) → None ≡ refusal_in read → new ≡ old → IsLastTold read old new
+last_unrefused (Ok script) old new is same = same
+last_unrefused (Err refusal) old new is same = let none : None ≡ Some refusal = is in absurd (none_some refusal none)
 
 -- a refusal that nothing is told behind
-pub ends_with : (count : ℕ) (read : Result ScriptView ScriptError) (refusal : ScriptError) (ends : Bool) (old new : List ℕ) → Some refusal ≡ refusal_in read → ends ≡ ends_all refusal.what → ends ≡ true → IsRefusalTold false refusal old new → IsEndTold count read old new
-ends_with count read refusal ends old new is ends_it so one =
-    subst (λ (r : Result ScriptView ScriptError). IsEndTold count r old new) (sym (refuses read refusal is)) (inl (sym ends_it ∙ so, one))
+pub last_with : (read : Result ScriptView ScriptError) (refusal : ScriptError) (ends : Bool) (old new : List ℕ) → Some refusal ≡ refusal_in read → ends ≡ ends_all refusal.what → ends ≡ true → IsRefusalTold false refusal old new → IsLastTold read old new
+last_with read refusal ends old new is ends_it so one =
+    subst (λ (r : Result ScriptView ScriptError). IsLastTold r old new) (sym (refuses read refusal is)) (sym ends_it ∙ so, one)
 
--- behind ten lines there are further ones
-pub ends_further : (read : Result ScriptView ScriptError) (refusal : ScriptError) (old new : List ℕ) → Some refusal ≡ refusal_in read → new ≡ old ++ codes "further lines aren't looked at\n" → IsEndTold 10 read old new
-ends_further read refusal old new is told = subst (λ (r : Result ScriptView ScriptError). IsEndTold 10 r old new) (sym (refuses read refusal is)) (inr (refl, told))
+-- there are further ones
+pub more_refused : (read : Result ScriptView ScriptError) (refusal : ScriptError) (old new : List ℕ) → Some refusal ≡ refusal_in read → new ≡ old ++ codes "further lines aren't looked at\n" → IsMoreTold read old new
+more_refused read refusal old new is told = subst (λ (r : Result ScriptView ScriptError). IsMoreTold r old new) (sym (refuses read refusal is)) told
 
 -- nothing is told of it
 pub nothing_told : (refusal : ScriptError) (old : List ℕ) → IsRefusalTold false refusal old old
@@ -78,13 +89,16 @@ refusal_told is_told refusal beside old line new told is = record {
   is = told ∙ ap (λ (xs : List ℕ). old ++ xs) is ∙ sym (append_assoc old (refusal_text is_told refusal) (beside_text beside));
 }
 
-pub told_or_unknown : {E : Type 0} (is_told : Bool) (refusal : ScriptError) (old new : List ℕ) (pushed : Result (Unit {0}) E) → OnOk pushed (IsRefusalTold is_told refusal old new) → OnOk pushed (IsToldUnlessUnknown is_told refusal old new)
-told_or_unknown is_told refusal old new (Ok done) one = inl one
-told_or_unknown is_told refusal old new (Err e) one = tt
+pub told_unless : {E : Type 0} (is_passed is_told : Bool) (refusal : ScriptError) (old new : List ℕ) (pushed : Result (Unit {0}) E) → is_passed ≡ false → OnOk pushed (IsRefusalTold is_told refusal old new) → OnOk pushed (IsToldOrPassed is_passed is_told refusal old new)
+told_unless is_passed is_told refusal old new pushed no one = subst (λ (b : Bool). OnOk pushed (IsToldOrPassed b is_told refusal old new)) (sym no) one
+
+-- of one that is passed over nothing is
+pub passed_over : (is_passed is_told : Bool) (refusal : ScriptError) (old : List ℕ) → is_passed ≡ true → refusal.what ≡ NameUnknown → IsToldOrPassed is_passed is_told refusal old old
+passed_over is_passed is_told refusal old so unknown = subst (λ (b : Bool). IsToldOrPassed b is_told refusal old old) (sym so) (unknown, refl)
 
 -- the line of a text that is refused for it
-pub line_told : (read : Result ScriptView ScriptError) (refusal : ScriptError) (is_told : Bool) (old new : List ℕ) → Some refusal ≡ refusal_in read → IsToldUnlessUnknown is_told refusal old new → IsLineTold is_told read old new
-line_told read refusal is_told old new is one = subst (λ (r : Result ScriptView ScriptError). IsLineTold is_told r old new) (sym (refuses read refusal is)) one
+pub line_told : (read : Result ScriptView ScriptError) (refusal : ScriptError) (is_passed is_told : Bool) (old new : List ℕ) → Some refusal ≡ refusal_in read → IsToldOrPassed is_passed is_told refusal old new → IsLineTold is_passed is_told read old new
+line_told read refusal is_passed is_told old new is one = subst (λ (r : Result ScriptView ScriptError). IsLineTold is_passed is_told r old new) (sym (refuses read refusal is)) one
 
 -- and the text without it
 pub line_left : (read : Result ScriptView ScriptError) (refusal : ScriptError) (text nothing behind : List ℕ) → Some refusal ≡ refusal_in read → nothing ≡ [] → behind ≡ with_line text refusal.line nothing → behind ≡ without_refused read text
@@ -93,12 +107,21 @@ line_left read refusal text nothing behind is none left =
 
 -- ONE BEHIND THE OTHER
 
+-- at most ten are told
+pub most_more : (is_passed : Bool) (before many : ℕ) → before < 10 → many ≡ with_line_told is_passed before → many ≤ 10
+most_more true before many few counts = let same : many ≡ before = counts in omega (arith, few, same)
+most_more false before many few counts = let one : many ≡ before + 1 = counts in omega (arith, few, one)
+
 module _ (ops : List Operation) (text : List ℕ) where
+  pub no_lines : (old : List ℕ) → AreLinesTold ops text 0 0 old old
+  no_lines old = (refl, refl)
+
   -- with one line more
-  pub lines_more : (n : ℕ) (rest old had new : List ℕ) → rest ≡ left_after ops text n → AreLinesTold ops text n old had → IsLineTold (nat_lt 0 n) (reading ops rest) had new → AreLinesTold ops text (n + 1) old new
-  lines_more n rest old had new left lines line =
+  pub lines_more : (n before many : ℕ) (is_passed : Bool) (rest old had new : List ℕ) → rest ≡ left_after ops text n → AreLinesTold ops text n before old had → many ≡ with_line_told is_passed before → IsLineTold is_passed (nat_lt 0 n) (reading ops rest) had new
+      → AreLinesTold ops text (n + 1) many old new
+  lines_more n before many is_passed rest old had new left lines counts line =
       let k : suc n ≡ n + 1 = omega arith in
-      subst (λ (m : ℕ). AreLinesTold ops text m old new) k (had, lines, subst (λ (r : List ℕ). IsLineTold (nat_lt 0 n) (reading ops r) had new) left line)
+      subst (λ (m : ℕ). AreLinesTold ops text m many old new) k (had, before, is_passed, lines, counts, subst (λ (r : List ℕ). IsLineTold is_passed (nat_lt 0 n) (reading ops r) had new) left line)
 
   pub left_more : (n : ℕ) (rest behind : List ℕ) → rest ≡ left_after ops text n → behind ≡ without_refused (reading ops rest) rest → behind ≡ left_after ops text (n + 1)
   left_more n rest behind left is =
@@ -106,23 +129,26 @@ module _ (ops : List Operation) (text : List ℕ) where
       is ∙ ap (left_of ops) left ∙ ap (left_after ops text) k
 
   -- and with what ends them
-  pub refusals_told : (n : ℕ) (rest old had new : List ℕ) → rest ≡ left_after ops text n → n ≤ 10 → AreLinesTold ops text n old had → IsEndTold n (reading ops rest) had new → AreRefusalsTold ops text old new
-  refusals_told n rest old had new left most lines end = record {
+  pub refusals_told : (n many : ℕ) (rest old had new : List ℕ) → rest ≡ left_after ops text n → n ≤ 100 → many ≤ 10 → AreLinesTold ops text n many old had → IsEndTold n many (reading ops rest) had new → AreRefusalsTold ops text old new
+  refusals_told n many rest old had new left few most lines end = record {
     count = n;
+    few = few;
+    many = many;
     most = most;
     lines = had;
     each = lines;
-    end = subst (λ (r : List ℕ). IsEndTold n (reading ops r) had new) left end;
+    end = subst (λ (r : List ℕ). IsEndTold n many (reading ops r) had new) left end;
   }
 
-  pub ten_told : {E : Type 0} (n : ℕ) (rest old had new : List ℕ) (pushed : Result (Unit {0}) E) → rest ≡ left_after ops text n → n ≡ 10 → AreLinesTold ops text n old had → OnOk pushed (IsEndTold 10 (reading ops rest) had new) → OnOk pushed (AreRefusalsTold ops text old new)
-  ten_told n rest old had new (Ok done) left ten lines end =
-      refusals_told n rest old had new left (omega (arith, ten)) lines (subst (λ (m : ℕ). IsEndTold m (reading ops rest) had new) (sym ten) end)
-  ten_told n rest old had new (Err e) left ten lines end = tt
+  pub further_told : {E : Type 0} (n many : ℕ) (rest old had new : List ℕ) (pushed : Result (Unit {0}) E) → rest ≡ left_after ops text n → n ≤ 100 → many ≤ 10 → (many ≡ 10) ⊎ (n ≡ 100) → AreLinesTold ops text n many old had → OnOk pushed (IsMoreTold (reading ops rest) had new)
+      → OnOk pushed (AreRefusalsTold ops text old new)
+  further_told n many rest old had new (Ok done) left few most all lines more =
+      refusals_told n many rest old had new left few most lines (inr (all, more))
+  further_told n many rest old had new (Err e) left few most all lines more = tt
 
-  pub ten_keep : {E : Type 0} (n : ℕ) (rest old had new : List ℕ) (pushed : Result (Unit {0}) E) → AreLinesTold ops text n old had → OnOk pushed (IsEndTold 10 (reading ops rest) had new) → OnErr pushed (new ≡ had) → Keeps old new
-  ten_keep n rest old had new (Ok done) lines end same = keeps_then old had new (lines_keep ops text n old had lines) (end_keeps 10 (reading ops rest) had new end)
-  ten_keep n rest old had new (Err e) lines end same = keeps_then old had new (lines_keep ops text n old had lines) (keeps_same had new same)
+  pub further_keep : {E : Type 0} (n many : ℕ) (rest old had new : List ℕ) (pushed : Result (Unit {0}) E) → AreLinesTold ops text n many old had → OnOk pushed (IsMoreTold (reading ops rest) had new) → OnErr pushed (new ≡ had) → Keeps old new
+  further_keep n many rest old had new (Ok done) lines more same = keeps_then old had new (lines_keep ops text n many old had lines) (more_keeps (reading ops rest) had new more)
+  further_keep n many rest old had new (Err e) lines more same = keeps_then old had new (lines_keep ops text n many old had lines) (keeps_same had new same)
 
 -- A TEXT WITH ANOTHER LINE
 

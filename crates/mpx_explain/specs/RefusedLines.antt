@@ -1,6 +1,6 @@
 -- Which refused lines of a script are told, and how: one after the other, each by what its reader refuses where those before it are left out. What is told
 -- beside a line is any text.
-use Rattle.std.specs.Prelude.{◌≡◌, ℕ, zero, suc, ◌-◌, ◌≤◌, ◌==◌, nat_lt, ◌⊎◌, Bool, true, false, List, [], ◌∷◌, ◌++◌, codes, slice_set, Option, Some, None, Result, Ok, Err}
+use Rattle.std.specs.Prelude.{◌≡◌, ℕ, zero, suc, ◌+◌, ◌-◌, ◌≤◌, ◌==◌, nat_lt, ◌⊎◌, Bool, true, false, List, [], ◌∷◌, ◌++◌, codes, slice_set, Option, Some, None, Result, Ok, Err}
 use Rattle.std.specs.List.{join_with_byte, slice_split}
 use Rattle.mpx_num.specs.declared.own.Operation.{Operation}
 use Rattle.mpx_script.specs.Faults.{error_text}
@@ -65,32 +65,50 @@ pub record IsRefusalTold (is_told : Bool) (refusal : ScriptError) (old new : Lis
   pub beside : Option (List ℕ)
   pub is : new ≡ old ++ refusal_text is_told refusal ++ beside_text beside
 
--- unless it is passed over, since its name isn't known
-abbrev pub IsToldUnlessUnknown : (is_told : Bool) → ScriptError → (old new : List ℕ) → Type 0
-IsToldUnlessUnknown is_told refusal old new = IsRefusalTold is_told refusal old new ⊎ ((refusal.what ≡ NameUnknown) × (new ≡ old))
+-- the same; of one that is passed over nothing is told, since its name isn't known
+abbrev pub IsToldOrPassed : (is_passed is_told : Bool) → ScriptError → (old new : List ℕ) → Type 0
+IsToldOrPassed false is_told refusal old new = IsRefusalTold is_told refusal old new
+IsToldOrPassed true is_told refusal old new = (refusal.what ≡ NameUnknown) × (new ≡ old)
 
--- a line that is refused is told so
-abbrev pub IsLineTold : (is_told : Bool) → Result ScriptView ScriptError → (old new : List ℕ) → Type 0
-IsLineTold is_told (Ok script) old new = ⊥
-IsLineTold is_told (Err refusal) old new = IsToldUnlessUnknown is_told refusal old new
+-- a line that is refused is told so, or is passed over
+abbrev pub IsLineTold : (is_passed is_told : Bool) → Result ScriptView ScriptError → (old new : List ℕ) → Type 0
+IsLineTold is_passed is_told (Ok script) old new = ⊥
+IsLineTold is_passed is_told (Err refusal) old new = IsToldOrPassed is_passed is_told refusal old new
 
--- so many lines are, each in what the ones before it leave; the first refusal is told already
-abbrev pub AreLinesTold : List Operation → (text : List ℕ) → (count : ℕ) → (old new : List ℕ) → Type 0
-AreLinesTold ops text zero old new = new ≡ old
-AreLinesTold ops text (suc n) old new = (mid : List ℕ) × AreLinesTold ops text n old mid × IsLineTold (nat_lt 0 n) (reading ops (left_after ops text n)) mid new
+-- how many lines are told with one more, unless that is passed over
+abbrev pub with_line_told : (is_passed : Bool) → (many : ℕ) → ℕ
+with_line_told true many = many
+with_line_told false many = many + 1
 
--- none is left; or one that nothing is told behind, and what is beside it; or, behind ten, that there are further ones
-abbrev pub IsEndTold : (count : ℕ) → Result ScriptView ScriptError → (old new : List ℕ) → Type 0
-IsEndTold count (Ok script) old new = new ≡ old
-IsEndTold count (Err refusal) old new = ((ends_all refusal.what ≡ true) × IsRefusalTold false refusal old new) ⊎ ((count ≡ 10) × (new ≡ old ++ codes "further lines aren't looked at\n"))
+-- so many lines are left out, each in what the ones before it leave, and so many of them are told; the first refusal is told already
+abbrev pub AreLinesTold : List Operation → (text : List ℕ) → (count many : ℕ) → (old new : List ℕ) → Type 0
+AreLinesTold ops text zero many old new = (many ≡ 0) × (new ≡ old)
+AreLinesTold ops text (suc n) many old new =
+    (mid : List ℕ) × (before : ℕ) × (is_passed : Bool) × AreLinesTold ops text n before old mid × (many ≡ with_line_told is_passed before) × IsLineTold is_passed (nat_lt 0 n) (reading ops (left_after ops text n)) mid new
+
+-- that there are further ones, where there is one
+abbrev pub IsMoreTold : Result ScriptView ScriptError → (old new : List ℕ) → Type 0
+IsMoreTold (Ok script) old new = new ≡ old
+IsMoreTold (Err refusal) old new = new ≡ old ++ codes "further lines aren't looked at\n"
+
+-- none is left; or one that nothing is told behind, and what is beside it
+abbrev pub IsLastTold : Result ScriptView ScriptError → (old new : List ℕ) → Type 0
+IsLastTold (Ok script) old new = new ≡ old
+IsLastTold (Err refusal) old new = (ends_all refusal.what ≡ true) × IsRefusalTold false refusal old new
+
+-- the same; or, behind ten that are told or a hundred that are left out, that there are further ones
+abbrev pub IsEndTold : (count many : ℕ) → Result ScriptView ScriptError → (old new : List ℕ) → Type 0
+IsEndTold count many read old new = IsLastTold read old new ⊎ (((many ≡ 10) ⊎ (count ≡ 100)) × IsMoreTold read old new)
 
 -- the refused lines of a script are told behind others: the first ten, and how they end
 pub record AreRefusalsTold (ops : List Operation) (text old new : List ℕ) : Type 0 where
   pub count : ℕ
-  pub most : count ≤ 10
+  pub few : count ≤ 100
+  pub many : ℕ
+  pub most : many ≤ 10
   pub lines : List ℕ
-  pub each : AreLinesTold ops text count old lines
-  pub end : IsEndTold count (reading ops (left_after ops text count)) lines new
+  pub each : AreLinesTold ops text count many old lines
+  pub end : IsEndTold count many (reading ops (left_after ops text count)) lines new
 
 -- before each line but the first stands a line feed
 abbrev pub feed_before : (place : ℕ) → List ℕ

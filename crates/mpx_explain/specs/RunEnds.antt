@@ -116,12 +116,18 @@ pub record ComesFirst (run : EndedRun) (e : EarlierCall) : Type 0 where
 abbrev pub IsServed : EndedRun → ℕ × ℕ → Type 0
 IsServed run place = waits_of run place.0 ≡ record { rank = place.0; statement = place.1; calls = [] } ∷ []
 
+-- a rank stands there, and asks for no call's outcome
+pub record IsUnmade (run : EndedRun) (place : ℕ × ℕ) : Type 0 where
+  pub there : waiting_place run place.0 ≡ Some place.1
+  pub none : IsSomeAnd (waits_in run place.0) (λ (w : WaitsAtView). w.calls ≡ [])
+
 -- those are told that wait in a run, in rank order, each at its statement with just those of the calls that are asked for there whose posts the rank's own board
 -- lacks, and whose; and all posts have come at those alone that are told with no such call
 pub record TellsRun (run : EndedRun) (end : RunEnd) : Type 0 where
   pub waiting : map waiting_view end.waiting.items ≡ waiting_upto run run.script.now.ranks
   pub earlier : All (ComesFirst run) end.earlier.items
   pub served : All (IsServed run) end.served.items
+  pub unmade : All (IsUnmade run) end.unmade.items
 
 -- this rank waits at this statement, and this is its process
 pub record Waits (w : Waiter) : Type 0 where
@@ -136,7 +142,7 @@ line_words text line = word_in text line 1 ++ codes " " ++ word_in text line 2
 
 -- its line and its number
 abbrev pub number_words : (line call : ℕ) → List ℕ
-number_words line call = codes " of line " ++ decimal line ++ codes ", call " ++ decimal call ++ codes ": no post of "
+number_words line call = codes " of line " ++ decimal line ++ codes ", call " ++ decimal call ++ codes ": waits for "
 
 -- a rank that waits at a line, the line of the statement that made an earlier call, and whose posts of that are lacking
 pub record EarlierView : Type 0 where
@@ -155,16 +161,17 @@ first_text text places made c = codes "first comes " ++ line_words text made ++ 
 abbrev pub earlier_text : (text : List ℕ) → (places : List (ℕ × ℕ)) → EarlierView → List ℕ
 earlier_text text places e = start_text e.rank e.line ++ first_text text places e.made e.call
 
--- a rank whose board lacks no post, and the place of its statement
-abbrev pub served_text : (text : List ℕ) → ℕ × ℕ → List ℕ
-served_text text place = start_text place.0 (line_at (lines_given place.0 text) place.1) ++ codes "all posts have come, and the run ended before it went on\n"
+-- a rank, the line of its statement with this place, and what is told of it there
+abbrev pub standing_text : (text what : List ℕ) → ℕ × ℕ → List ℕ
+standing_text text what place = start_text place.0 (line_at (lines_given place.0 text) place.1) ++ what
 
--- where ranks wait, a line for each call; then those that come first; then the ranks whose boards lack no post
+-- where ranks wait, a line for each call; then those that come first; then the ranks whose boards lack no post; then those that have not come to their statement
 abbrev pub run_text : (text : List ℕ) → EndedRun → RunEnd → List ℕ
 run_text text run end =
     waiting_told text run.script.now.statements (map waiting_view end.waiting.items)
     ++ flat_map (earlier_text text (map (place_of text) (map waiting_view end.waiting.items))) (map (earlier_view text) end.earlier.items)
-    ++ flat_map (served_text text) end.served.items
+    ++ flat_map (standing_text text (codes "all posts have come, and the run ended before it went on\n")) end.served.items
+    ++ flat_map (standing_text text (codes "the run ended before this line\n")) end.unmade.items
 
 -- these lines are told of a run behind others
 pub record IsRunTold (text : List ℕ) (run : EndedRun) (old new : List ℕ) : Type 0 where

@@ -1,6 +1,6 @@
 //! What ranks may give differently to one call, and what each gives, in words.
 
-use crate::naming::{call_word, operation_word, type_word};
+use crate::naming::{call_word, type_word};
 use crate::size::{push_counted, push_value};
 use join_core::OutOfMemory;
 use mpx_kind::{Exchange, Kind, Reduction};
@@ -11,6 +11,8 @@ use mpx_value::FaultKind;
 #[derive(Drop)]
 pub(crate) struct Share<'s> {
     pub(crate) rank: u8,
+    /// The place of its statement.
+    pub(crate) statement: usize,
     pub(crate) draft: &'s Draft,
 }
 
@@ -70,16 +72,17 @@ pub(crate) fn items_of(draft: &Draft) -> usize {
     draft.items.as_slice().len() / draft.ty.item_len().max(1)
 }
 
-/// Adds what the draft gives.
+/// Adds what the draft gives, whose operation has this word.
 pub(crate) fn push_says(
     aspect: Aspect,
     draft: &Draft,
+    operation: &str,
     told: &mut String,
 ) -> Result<(), OutOfMemory> {
     match aspect {
         Aspect::Call => push_word("calls ", call_word(draft.call.kind()), told),
         Aspect::Root => push_value("gives root ", draft.root, "", told),
-        Aspect::Operation => push_word("gives ", operation_word(draft.op), told),
+        Aspect::Operation => push_word("gives ", operation, told),
         Aspect::ItemType => push_word("gives ", type_word(draft.ty), told),
         Aspect::Items | Aspect::Between(_) => push_items(items_of(draft), told),
         Aspect::Count => push_value("gives COUNT ", first(draft.rcounts.as_slice()), "", told),

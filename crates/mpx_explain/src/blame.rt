@@ -7,6 +7,7 @@ ghost use Rattle.mpx_explain.specs.Blame.{IsBlamed, IsLineOf, words_told};
 
 use crate::forms::{Misfit, form_of, misfit_of};
 use crate::trials::{Change, RANKS, fault_of};
+use crate::unknown_names::{UnknownName, unknown_name};
 use join_core::OutOfMemory;
 use mpx_num::Ops;
 use mpx_script::{ScriptError, ScriptFault};
@@ -22,7 +23,7 @@ pub struct Blamed {
 // In a line of more words than these none is to blame.
 const MOST_WORDS: usize = 64;
 
-// Behind a text of more bytes than these no word is tried that has to be bound there, since each trial reads that text.
+// Behind a text of more bytes than these no word is looked for that is bound to nothing, since that text is read for it once more.
 const MOST_BEFORE: usize = 65_536;
 
 /// A line of a script, by its words, and the text before it.
@@ -175,7 +176,9 @@ pub(crate) fn place_of(
         ScriptFault::RankOutOfRange => Ok(Some(0)),
         ScriptFault::WrongWords => Ok(misfit_place(words)),
         ScriptFault::NameUnknown if line.before.len() > MOST_BEFORE => Ok(None),
-        ScriptFault::NameUnknown => unbound(alloc, line.before, words, ops),
+        ScriptFault::NameUnknown => {
+            Ok(place_unknown(unknown_name(alloc, line.before, words, ops)?))
+        }
         ScriptFault::NameTaken => Ok(words.len().checked_sub(1)),
         ScriptFault::UnknownStatement
         | ScriptFault::BadNumber
@@ -184,6 +187,13 @@ pub(crate) fn place_of(
             Some((_, place)) => Ok(Some(place)),
             None => wrong_word(alloc, words, what, ops),
         },
+    }
+}
+
+fn place_unknown(found: Option<UnknownName>) -> Option<usize> {
+    match found {
+        Some(name) => Some(name.place),
+        None => None,
     }
 }
 
@@ -197,7 +207,7 @@ fn wrong_word(
     match what {
         ScriptFault::UnknownStatement => unknown(alloc, words, ops),
         ScriptFault::BadNumber => strange_number(alloc, words, ops),
-        ScriptFault::BadList => strange(alloc, words, "-", ops),
+        ScriptFault::BadList => strange_list(alloc, words, ops),
         _ => strange(alloc, words, "world", ops),
     }
 }
@@ -205,7 +215,10 @@ fn wrong_word(
 // The place at which a line differs from its statement's form.
 fn misfit_place(words: &[&str]) -> Option<usize> {
     match misfit_of(form_of(words.get(1)?)?, words)? {
-        Misfit::Missing(_, place) | Misfit::Surplus(place) | Misfit::Joined(place) => Some(place),
+        Misfit::Missing(_, place)
+        | Misfit::Surplus(place)
+        | Misfit::Joined(place)
+        | Misfit::Instead(place) => Some(place),
     }
 }
 
@@ -340,6 +353,18 @@ fn strange_number(alloc: Global, words: &[&str], ops: &Ops) -> Result<Option<usi
     Ok(found_to_arrow.or(found))
 }
 
+// The first list that is none: the last one such that with none there and behind it no list is to blame.
+fn strange_list(alloc: Global, words: &[&str], ops: &Ops) -> Result<Option<usize>, OutOfMemory> {
+    let mut found = None;
+    for place in 2..words.len() {
+        let told = fault_of(alloc, RANKS, words, Change::Lists(place), ops)?;
+        if told != Some(ScriptFault::BadList) {
+            found = Some(place);
+        }
+    }
+    Ok(found)
+}
+
 // The first word in whose place another one leaves nothing to refuse, but for names that a line alone can't tell of.
 fn strange(
     alloc: Global,
@@ -350,28 +375,6 @@ fn strange(
     for place in 2..words.len() {
         let told = fault_of(alloc, RANKS, words, Change::One(place, other), ops)?;
         if is_of_names(told) {
-            return Ok(Some(place));
-        }
-    }
-    Ok(None)
-}
-
-// The first word that is bound to nothing: a request of a wait, else a communicator.
-fn unbound(
-    alloc: Global,
-    before: &str,
-    words: &[&str],
-    ops: &Ops,
-) -> Result<Option<usize>, OutOfMemory> {
-    let [label, statement, ..] = words else {
-        return Ok(None);
-    };
-    let waits = *statement == "wait" || *statement == "waitall";
-    let asks = if waits { "wait" } else { "barrier" };
-    for place in 2..words.len() {
-        let tried = [*label, asks, words[place]];
-        let told = fault_of(alloc, before, &tried, Change::Cut(3), ops)?;
-        if told == Some(ScriptFault::NameUnknown) {
             return Ok(Some(place));
         }
     }

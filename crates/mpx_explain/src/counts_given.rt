@@ -104,7 +104,7 @@ fn push_wrong_length(
 ) -> Result<(), OutOfMemory> {
     push_length(list, told)?;
     if wanted == 0 {
-        return Ok(told.push_str(", the root alone gives any")?);
+        return Ok(told.push_str("; only the root gives counts")?);
     }
     told.push_str(", world has ")?;
     push_counted(usize::from(at.ranks), "rank", told)

@@ -4,6 +4,7 @@ use crate::blame::{Line, line_in, missing_beside_type, missing_part, place_of};
 use crate::forms::{Form, Misfit, form_of, misfit_of};
 use crate::meant::meant;
 use crate::size::push_value;
+use crate::unknown_names::unknown_name;
 use join_core::OutOfMemory;
 use mpx_num::Ops;
 use mpx_script::{ReadScriptError, ScriptError, ScriptFault, read_script};
@@ -39,6 +40,18 @@ fn empty_script(alloc: Global) -> Result<Option<String>, OutOfMemory> {
     Ok(Some(told))
 }
 
+// What is told of a line that is to say how many ranks there are.
+fn ranks_line(alloc: Global, words: &[&str]) -> Result<String, OutOfMemory> {
+    let mut told = String::new(alloc);
+    if words.first() == Some(&"ranks") && words.len() > 2 {
+        told.push_str("ranks N: a word too many")?;
+        push_shown(words, 2, ": ", &mut told)?;
+        return Ok(told);
+    }
+    told.push_str("the first line that is no comment is ranks N, as ranks 2")?;
+    Ok(told)
+}
+
 fn told_of(
     alloc: Global,
     line: &Line<'_>,
@@ -46,7 +59,8 @@ fn told_of(
     ops: &Ops,
 ) -> Result<Option<String>, OutOfMemory> {
     match what {
-        ScriptFault::NotAscii | ScriptFault::TooLarge | ScriptFault::NoRanksLine => Ok(None),
+        ScriptFault::NotAscii | ScriptFault::TooLarge => Ok(None),
+        ScriptFault::NoRanksLine => Ok(Some(ranks_line(alloc, line.words.as_slice())?)),
         ScriptFault::RanksOutOfRange
         | ScriptFault::RankOutOfRange
         | ScriptFault::NameUnknown
@@ -128,6 +142,10 @@ fn push_misfit(words: &[&str], misfit: Misfit, told: &mut String) -> Result<(), 
             push_shown(words, place, ": ", told)
         }
         Misfit::Joined(_) => Ok(told.push_str("a blank is missing behind ->")?),
+        Misfit::Instead(place) => {
+            told.push_str("-> belongs in place of the word")?;
+            push_shown(words, place, " ", told)
+        }
     }
 }
 
@@ -160,12 +178,25 @@ fn wrong_word(
     ops: &Ops,
 ) -> Result<Option<String>, OutOfMemory> {
     let Some(place) = place_of(alloc, line, what, ops)? else {
-        return Ok(None);
+        return no_statement(alloc, line.words.len(), what);
     };
     match line.words.get(place) {
         Some(word) if is_shown(word.as_bytes()) => of_word(alloc, line, what, place, word, ops),
         _ => Ok(None),
     }
+}
+
+// What is told of a line of so many words, none of which is to blame: a label alone.
+fn no_statement(
+    alloc: Global,
+    words: usize,
+    what: ScriptFault,
+) -> Result<Option<String>, OutOfMemory> {
+    if what != ScriptFault::UnknownStatement || words != 1 {
+        return Ok(None);
+    }
+    let told = "a statement is missing behind the label";
+    Ok(Some(String::from_str(alloc, told)?))
 }
 
 // What is told of the word at this place, from 0 on.
@@ -247,6 +278,7 @@ fn why_of(
             Ok(Some(String::from_str(alloc, "there are 1 to 64 ranks")?))
         }
         ScriptFault::RankOutOfRange => last_rank(alloc, line, ops),
+        ScriptFault::NameUnknown => lacking_rank(alloc, line, ops),
         _ => Ok(None),
     }
 }
@@ -266,6 +298,23 @@ fn lacking_label(alloc: Global, word: &str) -> Result<Option<String>, OutOfMemor
     }
 }
 
+// Which rank lacks what a word of the line names, where another rank of the line has it.
+fn lacking_rank(alloc: Global, line: &Line<'_>, ops: &Ops) -> Result<Option<String>, OutOfMemory> {
+    match unknown_name(alloc, line.before, line.words.as_slice(), ops)? {
+        Some(name) if name.is_known_elsewhere => {
+            let what = if name.is_request {
+                " has no such request"
+            } else {
+                " has no such communicator"
+            };
+            let mut told = String::new(alloc);
+            push_value("rank ", i128::from(name.rank), what, &mut told)?;
+            Ok(Some(told))
+        }
+        _ => Ok(None),
+    }
+}
+
 // Which ranks there are, by the lines before.
 fn last_rank(alloc: Global, line: &Line<'_>, ops: &Ops) -> Result<Option<String>, OutOfMemory> {
     match read_script(alloc, line.before.as_bytes(), ops) {
@@ -281,7 +330,7 @@ fn last_rank(alloc: Global, line: &Line<'_>, ops: &Ops) -> Result<Option<String>
 
 fn ranks_of(alloc: Global, ranks: u8) -> Result<String, OutOfMemory> {
     if ranks == 1 {
-        return Ok(String::from_str(alloc, "there is rank 0 alone")?);
+        return Ok(String::from_str(alloc, "there is only rank 0")?);
     }
     let mut told = String::new(alloc);
     push_value(

@@ -4,7 +4,7 @@ ghost use Rattle.std.specs.Fmt.{decimal};
 ghost use Rattle.std.specs.List.{flat_map};
 ghost use Rattle.mpx_eval.specs.Found.{missing_view, waiting_view};
 ghost use Rattle.mpx_waiting.specs.ToldLines.{place_of};
-ghost use Rattle.mpx_explain.specs.RunEnds.{IsRunTold, earlier_text, earlier_view, first_text, line_words, number_words, run_text, served_text};
+ghost use Rattle.mpx_explain.specs.RunEnds.{IsRunTold, earlier_text, earlier_view, first_text, line_words, number_words, run_text, standing_text};
 
 use crate::ended::EndedRun;
 use crate::ends::{EarlierCall, RunEnd, run_end};
@@ -15,7 +15,8 @@ use mpx_waiting::{line_at, places_of, push_members, push_start, push_waiting};
 use std::alloc::Global;
 
 /// Adds where ranks wait at the end of a run: a line for each call of which a rank's board lacks posts, at most a hundred; one for each earlier
-/// call that comes first; and one for each rank whose board lacks no post. An `Err` is want of memory, and leaves the lines so far.
+/// call that comes first; one for each rank whose board lacks no post; and one for each rank that has not come to its statement. An `Err` is want
+/// of memory, and leaves the lines so far.
 pub fn explain_run(
     alloc: Global,
     text: &[u8],
@@ -43,8 +44,13 @@ fn push_end(
     let waiting = end.waiting.as_slice();
     push_waiting(alloc, text, run.script, waiting, told)?;
     push_earlier(alloc, text, end.earlier.as_slice(), waiting, told)?;
-    push_served(alloc, text, end.served.as_slice(), told)
+    push_places(alloc, text, end.served.as_slice(), SERVED, told)?;
+    push_places(alloc, text, end.unmade.as_slice(), UNMADE, told)
 }
+
+const SERVED: &[u8] = b"all posts have come, and the run ended before it went on\n";
+
+const UNMADE: &[u8] = b"the run ended before this line\n";
 
 // Adds a line for each of these calls: an earlier one comes first, and whose posts of it the board lacks. The ranks that wait are these.
 fn push_earlier(
@@ -147,7 +153,7 @@ fn push_number(alloc: Global, line: u32, call: u32, told: &mut Vec<u8>) -> Resul
     push_decimal(alloc, told, line)?;
     told.extend_from_slice(b", call ")?;
     push_decimal(alloc, told, call)?;
-    told.extend_from_slice(b": no post of ")?;
+    told.extend_from_slice(b": waits for ")?;
     Ok(())
 }
 
@@ -159,31 +165,33 @@ fn push_decimal(alloc: Global, told: &mut Vec<u8>, number: u32) -> Result<(), Ou
     Ok(())
 }
 
-// Adds a line for each of these ranks and the places of their statements: the board lacks no post.
-fn push_served(
+// Adds a line for each of these ranks and the places of their statements, which ends so.
+fn push_places(
     alloc: Global,
     text: &[u8],
-    served: &[(u8, usize)],
+    places: &[(u8, usize)],
+    what: &[u8],
     told: &mut Vec<u8>,
 ) -> Result<(), OutOfMemory>
-    ensures { OnOk result (told.new.items ≡ told.old.items ++ flat_map (served_text text.now) served.now) }
+    ensures { OnOk result (told.new.items ≡ told.old.items ++ flat_map (standing_text text.now what.now) places.now) }
 {
-    for place in served {
-        push_served_rank(alloc, text, *place, told)?;
+    for place in places {
+        push_place(alloc, text, *place, what, told)?;
     }
     Ok(())
 }
 
-fn push_served_rank(
+fn push_place(
     alloc: Global,
     text: &[u8],
     place: (u8, usize),
+    what: &[u8],
     told: &mut Vec<u8>,
 ) -> Result<(), OutOfMemory>
-    ensures { OnOk result (told.new.items ≡ told.old.items ++ served_text text.now place) }
+    ensures { OnOk result (told.new.items ≡ told.old.items ++ standing_text text.now what.now place) }
 {
     let numbers = statement_lines(alloc, text, place.0)?;
     push_start(alloc, place.0, line_at(numbers.as_slice(), place.1), told)?;
-    told.extend_from_slice(b"all posts have come, and the run ended before it went on\n")?;
+    told.extend_from_slice(what)?;
     Ok(())
 }

@@ -5,7 +5,7 @@ ghost use Rattle.std.specs.Option.{option_copied, option_map};
 ghost use Rattle.mpx_node.specs.Shown.{node_of};
 ghost use Rattle.mpx_meaning.specs.Ends.{asked_view, waits_at_view};
 ghost use Rattle.mpx_eval.specs.Found.{missing_view, waiting_view};
-ghost use Rattle.mpx_explain.specs.RunEnds.{ComesFirst, IsLacking, IsServed, TellsRun, Waits, calls_of, lacking_of, process_of, waiting_place, waits_at, waits_in, waits_of};
+ghost use Rattle.mpx_explain.specs.RunEnds.{ComesFirst, IsLacking, IsServed, IsUnmade, TellsRun, Waits, calls_of, lacking_of, process_of, waiting_place, waits_at, waits_in, waits_of};
 
 use crate::ended::{EndedRun, end_at, node_at};
 use crate::lacking::lacking_call;
@@ -27,6 +27,8 @@ pub struct RunEnd {
     pub earlier: Vec<EarlierCall>,
     /// Those of them whose boards lack none: the rank, and the place of its statement.
     pub served: Vec<(u8, usize)>,
+    /// Those of them that ask for no call's outcome, as they have not come to that statement; of threads alone.
+    pub unmade: Vec<(u8, usize)>,
 }
 
 /// An earlier call on the communicator of a call that a rank waits for: its result comes first, and the rank's board lacks posts of it.
@@ -48,6 +50,7 @@ pub(crate) fn run_end(alloc: Global, run: &EndedRun<'_>) -> Result<RunEnd, OutOf
         waiting: Vec::new(alloc),
         earlier: Vec::new(alloc),
         served: Vec::new(alloc),
+        unmade: Vec::new(alloc),
     };
     for rank in 0..run.script.ranks() {
         push_rank(alloc, run, rank, &mut end)?;
@@ -65,6 +68,7 @@ fn push_rank(
     ensures waiting { OnOk result (map waiting_view end.new.waiting.items ≡ map waiting_view end.old.waiting.items ++ waits_of run.now rank) }
     ensures earlier { OnOk result (All (ComesFirst run.now) end.old.earlier.items → All (ComesFirst run.now) end.new.earlier.items) }
     ensures served { OnOk result (All (IsServed run.now) end.old.served.items → All (IsServed run.now) end.new.served.items) }
+    ensures unmade { OnOk result (All (IsUnmade run.now) end.old.unmade.items → All (IsUnmade run.now) end.new.unmade.items) }
 {
     match waits_in(run, rank) {
         Some(waits) => push_waiting(alloc, run, rank, waits, end),
@@ -94,15 +98,16 @@ fn push_waiting(
     ensures waiting { OnOk result (map waiting_view end.new.waiting.items ≡ map waiting_view end.old.waiting.items ++ waits_at run.now rank (waits_at_view waits.now) ∷ []) }
     ensures earlier { OnOk result (All (ComesFirst run.now) end.old.earlier.items → All (ComesFirst run.now) end.new.earlier.items) }
     ensures served { OnOk result (All (IsServed run.now) end.old.served.items → All (IsServed run.now) end.new.served.items) }
+    ensures unmade { OnOk result (All (IsUnmade run.now) end.old.unmade.items → All (IsUnmade run.now) end.new.unmade.items) }
 {
     let many = end.earlier.len();
     let waiting = waiting_rank(alloc, run, rank, waits, &mut end.earlier)?;
-    let is_served = !waits.calls.is_empty()
-        && waiting.calls.is_empty()
-        && end.earlier.len() == many;
+    let is_served = waiting.calls.is_empty() && end.earlier.len() == many;
     let place = (rank, waiting.statement);
     end.waiting.push(waiting)?;
-    if is_served {
+    if waits.calls.is_empty() {
+        end.unmade.push(place)?;
+    } else if is_served {
         end.served.push(place)?;
     }
     Ok(())

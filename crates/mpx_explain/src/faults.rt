@@ -2,13 +2,16 @@
 
 use crate::amounts::push_unmet;
 use crate::aspects::{Aspect, Share, aspect_of, push_says};
+use crate::naming::operation_in;
 use crate::size::push_value;
 use join_core::OutOfMemory;
 use mpx_eval::Complaint;
 use mpx_meaning::Line;
+use mpx_num::Op;
 use mpx_post::Draft;
-use mpx_script::{Posting, Script, Statement};
+use mpx_script::{Posting, Script, Statement, statement_lines};
 use mpx_value::Fault;
+use mpx_waiting::line_at;
 use std::alloc::Global;
 
 // So many ranks are all told where none of what they give is given by most.
@@ -26,6 +29,7 @@ struct Saying {
 /// of its call with the same number there.
 pub(crate) fn push_minority(
     alloc: Global,
+    text: &[u8],
     script: &Script,
     complaint: &Complaint,
     fault: Fault,
@@ -39,7 +43,7 @@ pub(crate) fn push_minority(
         return Ok(());
     };
     let shares = shares_of(alloc, script, complaint, all)?;
-    let pushed = push_differing(alloc, script.ranks(), aspect, &shares, told);
+    let pushed = push_differing(alloc, text, script.ranks(), aspect, &shares, told);
     drop(shares);
     pushed
 }
@@ -47,6 +51,7 @@ pub(crate) fn push_minority(
 // The same of what these ranks give, where they are so many.
 fn push_differing(
     alloc: Global,
+    text: &[u8],
     ranks: u8,
     aspect: Aspect,
     shares: &[Share<'_>],
@@ -57,18 +62,19 @@ fn push_differing(
     }
     match aspect {
         Aspect::Between(exchange) => push_unmet(exchange, shares, told),
-        _ => push_by_most(alloc, aspect, shares, told),
+        _ => push_by_most(alloc, text, aspect, shares, told),
     }
 }
 
 // Adds what the ranks give that don't give what most do; what each gives, where few ranks give nothing by most.
 fn push_by_most(
     alloc: Global,
+    text: &[u8],
     aspect: Aspect,
     shares: &[Share<'_>],
     told: &mut String,
 ) -> Result<(), OutOfMemory> {
-    let said = all_said(alloc, aspect, shares)?;
+    let said = all_said(alloc, text, aspect, shares)?;
     let pushed = push_unusual(&said, told);
     drop(said);
     pushed
@@ -98,11 +104,12 @@ fn alike(said: &[Saying], usual: Option<&str>) -> usize {
 
 fn all_said(
     alloc: Global,
+    text: &[u8],
     aspect: Aspect,
     shares: &[Share<'_>],
 ) -> Result<Vec<Saying>, OutOfMemory> {
     let mut said = Vec::new(alloc);
-    match push_said(alloc, aspect, shares, &mut said) {
+    match push_said(alloc, text, aspect, shares, &mut said) {
         Ok(()) => Ok(said),
         Err(e) => {
             drop(said);
@@ -113,19 +120,51 @@ fn all_said(
 
 fn push_said(
     alloc: Global,
+    text: &[u8],
     aspect: Aspect,
     shares: &[Share<'_>],
     said: &mut Vec<Saying>,
 ) -> Result<(), OutOfMemory> {
+    let mut named: Option<(Op, &str)> = None;
     for share in shares {
-        said.push(saying_of(alloc, aspect, share)?)?;
+        let word = match named {
+            Some((op, word)) if op == share.draft.op => word,
+            _ => operation_of(alloc, text, share)?,
+        };
+        named = Some((share.draft.op, word));
+        said.push(saying_of(alloc, aspect, share, word)?)?;
     }
     Ok(())
 }
 
-fn saying_of(alloc: Global, aspect: Aspect, share: &Share<'_>) -> Result<Saying, OutOfMemory> {
+// The word of the operation that a rank gives.
+fn operation_of<'t>(
+    alloc: Global,
+    text: &'t [u8],
+    share: &Share<'_>,
+) -> Result<&'t str, OutOfMemory> {
+    let line = match share.draft.op {
+        Op::Own(_) => line_of(alloc, text, share)?,
+        _ => 0,
+    };
+    Ok(operation_in(text, line, share.draft))
+}
+
+fn line_of(alloc: Global, text: &[u8], share: &Share<'_>) -> Result<u32, OutOfMemory> {
+    let lines = statement_lines(alloc, text, share.rank)?;
+    let line = line_at(&lines, share.statement);
+    drop(lines);
+    Ok(line)
+}
+
+fn saying_of(
+    alloc: Global,
+    aspect: Aspect,
+    share: &Share<'_>,
+    operation: &str,
+) -> Result<Saying, OutOfMemory> {
     let mut text = String::new(alloc);
-    push_says(aspect, share.draft, &mut text)?;
+    push_says(aspect, share.draft, operation, &mut text)?;
     Ok(Saying {
         rank: share.rank,
         text,
@@ -161,8 +200,8 @@ fn times(said: &[Saying], text: &str) -> usize {
 fn push_saying(saying: &Saying, is_alone: bool, told: &mut String) -> Result<(), OutOfMemory> {
     let between = if told.is_empty() { "" } else { ", " };
     told.push_str(between)?;
-    let alone = if is_alone { " alone " } else { " " };
-    push_value("rank ", i128::from(saying.rank), alone, told)?;
+    let who = if is_alone { "only rank " } else { "rank " };
+    push_value(who, i128::from(saying.rank), " ", told)?;
     told.push_str(saying.text.as_str())?;
     Ok(())
 }
@@ -182,6 +221,7 @@ fn shares_of<'s>(
         if let Some(draft) = posted_on_world(script, other) {
             shares.push(Share {
                 rank: other.rank,
+                statement: other.statement,
                 draft,
             })?;
         }

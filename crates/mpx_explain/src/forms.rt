@@ -56,6 +56,8 @@ pub(crate) enum Misfit {
     Surplus(usize),
     /// The word at this place begins with an arrow.
     Joined(usize),
+    /// The word at this place stands where an arrow belongs.
+    Instead(usize),
 }
 
 /// The form of a statement's word.
@@ -83,18 +85,25 @@ fn parts_of(forms: &[(&str, &'static str)], word: &str) -> Option<&'static str> 
     None
 }
 
-/// The first place at which a line's words differ from a form, of which the words from the third on are the parts.
+/// The first place at which a line's words differ from a form, of which the words from the third on are the parts. Of words too many it is the
+/// first that can't name what the form has there.
 pub(crate) fn misfit_of(form: Form, words: &[&str]) -> Option<Misfit> {
-    let behind = if form.starts { "-> D" } else { "" };
-    let mut at = 2;
-    for part in form.parts.split_whitespace() {
-        match fit(part, words, at) {
-            Ok(next) => at = next,
-            Err(misfit) => return Some(misfit),
-        }
+    match misfit_in(form, words)? {
+        Misfit::Surplus(place) => Some(Misfit::Surplus(nameless(form, words).unwrap_or(place))),
+        other => Some(other),
     }
-    for part in behind.split_whitespace() {
-        match fit(part, words, at) {
+}
+
+fn misfit_in(form: Form, words: &[&str]) -> Option<Misfit> {
+    let behind = if form.starts { "-> D" } else { "" };
+    let has_arrow = form.starts || form.parts.contains("->");
+    let mut at = 2;
+    for part in form
+        .parts
+        .split_whitespace()
+        .chain(behind.split_whitespace())
+    {
+        match fit(part, words, at, has_arrow) {
             Ok(next) => at = next,
             Err(misfit) => return Some(misfit),
         }
@@ -105,21 +114,42 @@ pub(crate) fn misfit_of(form: Form, words: &[&str]) -> Option<Misfit> {
     None
 }
 
+// The first place at which a communicator or a request is to be named, and the word doesn't begin as a name.
+fn nameless(form: Form, words: &[&str]) -> Option<usize> {
+    for (nth, part) in form.parts.split_whitespace().enumerate() {
+        let place = nth.saturating_add(2);
+        if (part == "C" || part == "Q") && !is_name(words.get(place)?) {
+            return Some(place);
+        }
+    }
+    None
+}
+
+fn is_name(word: &str) -> bool {
+    match word.as_bytes().first() {
+        Some(first) => first.is_ascii_lowercase(),
+        None => false,
+    }
+}
+
 // The place behind a part that stands at this one.
-fn fit(part: &'static str, words: &[&str], at: usize) -> Result<usize, Misfit> {
+fn fit(part: &'static str, words: &[&str], at: usize, has_arrow: bool) -> Result<usize, Misfit> {
     if part == "ITEMS" || part == ".." {
         return Ok(behind_items(words, at));
     }
     let Some(word) = words.get(at) else {
         return Err(Misfit::Missing(part, at));
     };
-    if part != "->" && *word != "->" {
+    if part == "->" {
+        return fit_arrow(word, words, at);
+    }
+    if *word != "->" {
         return Ok(at.saturating_add(1));
     }
-    if part != "->" {
+    if has_arrow {
         return Err(Misfit::Missing(part, at));
     }
-    fit_arrow(word, words, at)
+    Err(Misfit::Surplus(at))
 }
 
 // The same of an arrow, where this word stands.
@@ -132,6 +162,9 @@ fn fit_arrow(word: &str, words: &[&str], at: usize) -> Result<usize, Misfit> {
     }
     if words.contains(&"->") {
         return Err(Misfit::Surplus(at));
+    }
+    if words.len().saturating_sub(at) == 2 {
+        return Err(Misfit::Instead(at));
     }
     Err(Misfit::Missing("->", at))
 }

@@ -1,18 +1,19 @@
 //! What a refused statement gives, in words.
 
 use crate::counts_given::{push_counts, push_too_many};
+use crate::items_given::{push_items, push_outside};
 use crate::making_given::{
     push_bad_edge, push_bad_group, push_bad_split, push_bad_tag, push_strange_rank,
     push_too_many_edges,
 };
-use crate::naming::{operation_word, type_word};
-use crate::size::{push_counted, push_world_ranks};
+use crate::naming::{operation_in, type_word};
+use crate::pair_given::push_of_two;
+use crate::size::push_world_ranks;
 use join_core::OutOfMemory;
 use mpx_eval::Complaint;
-use mpx_kind::{Call, Exchange, Kind, Neighbourhood, Reduction};
-use mpx_num::{is_in_range, push_number};
+use mpx_num::push_number;
 use mpx_post::{Draft, PostError};
-use mpx_script::{Posting, Question, Script, Statement, Word};
+use mpx_script::{Posting, Question, Script, Statement};
 
 /// Why a statement was refused.
 #[derive(Clone, Copy)]
@@ -25,6 +26,9 @@ pub(crate) enum Refusal {
 /// Which rank's statement was refused, and on which communicator by its word.
 #[derive(Clone, Copy, Drop)]
 pub(crate) struct Place<'s> {
+    /// The script's text, and the statement's line in it.
+    pub(crate) text: &'s [u8],
+    pub(crate) line: u32,
     /// How many ranks there are.
     pub(crate) ranks: u8,
     pub(crate) rank: u8,
@@ -38,8 +42,10 @@ impl Place<'_> {
     }
 }
 
-/// Adds what a refused call gives, and what was expected, as far as its statement tells it, to an empty text.
+/// Adds what a refused call gives, and what was expected, as far as its statement in this line tells it, to an empty text.
 pub(crate) fn push_given(
+    text: &[u8],
+    line: u32,
     script: &Script,
     call: &Complaint,
     refusal: Refusal,
@@ -55,106 +61,32 @@ pub(crate) fn push_given(
         (Statement::Ask(Question::Translate { from, to, .. }), Refusal::Post(refusal)) => {
             push_of_two(script, call, from, to, refusal, told)
         }
-        _ => push_of_one(script, call, statement, refusal, told),
+        _ => {
+            let Some(on) = communicator_of(statement) else {
+                return Ok(());
+            };
+            let at = Place {
+                text,
+                line,
+                ranks: script.ranks(),
+                rank: call.rank,
+                on,
+            };
+            push_of_one(&at, statement, refusal, told)
+        }
     }
 }
 
 // The same of a statement that names one communicator, or asks for ranks of its first.
 fn push_of_one(
-    script: &Script,
-    call: &Complaint,
+    at: &Place<'_>,
     statement: &Statement,
     refusal: Refusal,
     told: &mut String,
 ) -> Result<(), OutOfMemory> {
-    let Some(on) = communicator_of(statement) else {
-        return Ok(());
-    };
-    let at = Place {
-        ranks: script.ranks(),
-        rank: call.rank,
-        on,
-    };
     match refusal {
-        Refusal::Post(refusal) => push_refused(&at, statement, refusal, told),
-        Refusal::StrayRank => push_stray(&at, statement, told),
-    }
-}
-
-// Which of both communicators is null or freed, where that is plain: `world` is never null.
-fn push_of_two(
-    script: &Script,
-    call: &Complaint,
-    first: &Word,
-    second: &Word,
-    refusal: PostError,
-    told: &mut String,
-) -> Result<(), OutOfMemory> {
-    match refusal {
-        PostError::NotMember => {
-            push_one_of(first, is_made(first), second, is_made(second), told)?;
-            Ok(told.push_str(
-                " is null here: its call was refused or a fault, or left this rank out",
-            )?)
-        }
-        PostError::Closed => {
-            let before = script
-                .statements(call.rank)
-                .get(..call.statement)
-                .unwrap_or(&[]);
-            told.push_str("this rank has freed ")?;
-            push_one_of(
-                first,
-                is_freed(first, before),
-                second,
-                is_freed(second, before),
-                told,
-            )
-        }
-        _ => Ok(()),
-    }
-}
-
-// Adds the one of both words that is such a one, or that one of them is.
-fn push_one_of(
-    first: &Word,
-    is_first: bool,
-    second: &Word,
-    is_second: bool,
-    told: &mut String,
-) -> Result<(), OutOfMemory> {
-    if is_first && (!is_second || first == second) {
-        return push_communicator(first, told);
-    }
-    if is_second && !is_first {
-        return push_communicator(second, told);
-    }
-    Ok(told.push_str("one of the communicators")?)
-}
-
-fn push_communicator(word: &Word, told: &mut String) -> Result<(), OutOfMemory> {
-    match str::from_utf8(word.as_bytes()) {
-        Ok(word) => Ok(told.push_str(word)?),
-        Err(_) => Ok(told.push_str("one of the communicators")?),
-    }
-}
-
-// Whether a word stands for a communicator that a call has made.
-fn is_made(word: &Word) -> bool {
-    word.as_bytes() != b"world".as_slice()
-}
-
-// Whether one of these statements frees the communicator of this word.
-fn is_freed(word: &Word, statements: &[Statement]) -> bool {
-    statements.iter().any(|statement| frees(statement, word))
-}
-
-fn frees(statement: &Statement, word: &Word) -> bool {
-    match statement {
-        Statement::Post(Posting::Call { on, draft }) => {
-            draft.call.kind() == Kind::Free && on == word
-        }
-        _ => false,
+        Refusal::Post(refusal) => push_refused(at, statement, refusal, told),
+        Refusal::StrayRank => push_stray(at, statement, told),
     }
 }
 
@@ -220,7 +152,7 @@ fn push_draft(
 ) -> Result<(), OutOfMemory> {
     match refusal {
         PostError::RootOutOfRange => push_root(at, draft, told),
-        PostError::OpNotForType => push_operation(draft, told),
+        PostError::OpNotForType => push_operation(at, draft, told),
         PostError::ItemsLength => push_items(at, draft, told),
         PostError::ItemOutOfRange => push_outside(draft, told),
         PostError::CountsLength => push_counts(at, draft, told),
@@ -288,143 +220,9 @@ fn push_root(at: &Place<'_>, draft: &Draft, told: &mut String) -> Result<(), Out
     Ok(())
 }
 
-fn push_operation(draft: &Draft, told: &mut String) -> Result<(), OutOfMemory> {
-    told.push_str(operation_word(draft.op))?;
+fn push_operation(at: &Place<'_>, draft: &Draft, told: &mut String) -> Result<(), OutOfMemory> {
+    told.push_str(operation_in(at.text, at.line, draft))?;
     told.push_str(" isn't for ")?;
     told.push_str(type_word(draft.ty))?;
     Ok(())
-}
-
-// Adds how many items are given, and how many are expected, where that is known.
-fn push_items(at: &Place<'_>, draft: &Draft, told: &mut String) -> Result<(), OutOfMemory> {
-    let numbers = draft.items.as_slice().len();
-    told.push_str("gave ")?;
-    if draft.ty.item_len() == 2 && numbers % 2 == 1 {
-        push_counted(numbers, "number", told)?;
-        return Ok(told.push_str(", and two make an item")?);
-    }
-    push_counted(numbers / draft.ty.item_len().max(1), "item", told)?;
-    push_expected(at, draft, told)
-}
-
-// How many items a call takes of a rank.
-#[derive(Clone, Copy, Drop)]
-enum Expectation<'s> {
-    /// So many as the one count says, behind these words.
-    Count(&'static str, &'s [i128]),
-    /// So many as the counts add up to.
-    Sum(&'s [i128]),
-}
-
-// Adds how many items the call takes of this rank, by its counts.
-fn push_expected(at: &Place<'_>, draft: &Draft, told: &mut String) -> Result<(), OutOfMemory> {
-    if let Some(wanted) = wanted(draft) {
-        return push_wanted(wanted, told);
-    }
-    match wanted_of_root(draft) {
-        Some(wanted) => push_of_root(at, draft, wanted, told),
-        None => Ok(()),
-    }
-}
-
-// What a call takes of each rank.
-fn wanted(draft: &Draft) -> Option<Expectation<'_>> {
-    let sent = draft.scounts.as_slice();
-    let received = draft.rcounts.as_slice();
-    match draft.call {
-        Call::Exchange(Exchange::Alltoall, _) => {
-            Some(Expectation::Count("COUNT for each rank is", received))
-        }
-        Call::Exchange(Exchange::Alltoallv, _) => Some(Expectation::Sum(sent)),
-        Call::Reduction(Reduction::ReduceScatterBlock, _) => {
-            Some(Expectation::Count("COUNT for each rank is", received))
-        }
-        Call::Reduction(Reduction::ReduceScatter, _) => Some(Expectation::Sum(received)),
-        Call::Neighbourhood(Neighbourhood::Alltoall, _) => {
-            Some(Expectation::Count("SCOUNT for each destination is", sent))
-        }
-        Call::Neighbourhood(Neighbourhood::Alltoallv, _) => Some(Expectation::Sum(sent)),
-        _ => None,
-    }
-}
-
-// What a call takes of its root alone.
-fn wanted_of_root(draft: &Draft) -> Option<Expectation<'_>> {
-    let received = draft.rcounts.as_slice();
-    match draft.call {
-        Call::Exchange(Exchange::Bcast, _) => Some(Expectation::Count("COUNT is", received)),
-        Call::Exchange(Exchange::Scatter, _) => {
-            Some(Expectation::Count("COUNT for each rank is", received))
-        }
-        Call::Exchange(Exchange::Scatterv, _) => Some(Expectation::Sum(draft.scounts.as_slice())),
-        _ => None,
-    }
-}
-
-// Adds what is expected of the root alone: on `world` it is known who that is, elsewhere both are told.
-fn push_of_root(
-    at: &Place<'_>,
-    draft: &Draft,
-    wanted: Expectation<'_>,
-    told: &mut String,
-) -> Result<(), OutOfMemory> {
-    if !at.is_world() {
-        push_wanted(wanted, told)?;
-        return Ok(told.push_str("; the root alone gives any")?);
-    }
-    if draft.root == i128::from(at.rank) {
-        return push_wanted(wanted, told);
-    }
-    told.push_str(", the root alone gives any")?;
-    Ok(())
-}
-
-fn push_wanted(wanted: Expectation<'_>, told: &mut String) -> Result<(), OutOfMemory> {
-    match wanted {
-        Expectation::Count(what, counts) => push_count(what, counts, told),
-        Expectation::Sum(counts) => push_sum(counts, told),
-    }
-}
-
-// Adds the one count, where there is one.
-fn push_count(what: &str, counts: &[i128], told: &mut String) -> Result<(), OutOfMemory> {
-    let [count] = counts else {
-        return Ok(());
-    };
-    told.push_str(", ")?;
-    told.push_str(what)?;
-    told.push_str(" ")?;
-    push_number(told, *count)?;
-    Ok(())
-}
-
-// Adds what the counts add up to.
-fn push_sum(counts: &[i128], told: &mut String) -> Result<(), OutOfMemory> {
-    let mut sum: i128 = 0;
-    for count in counts {
-        sum = sum.saturating_add(*count);
-    }
-    told.push_str(", the counts add up to ")?;
-    push_number(told, sum)?;
-    Ok(())
-}
-
-// Adds the first number that is outside its type.
-fn push_outside(draft: &Draft, told: &mut String) -> Result<(), OutOfMemory> {
-    let Some(number) = outside(draft) else {
-        return Ok(());
-    };
-    push_number(told, number)?;
-    told.push_str(" is outside ")?;
-    told.push_str(type_word(draft.ty))?;
-    Ok(())
-}
-
-fn outside(draft: &Draft) -> Option<i128> {
-    for number in draft.items.as_slice() {
-        if !is_in_range(draft.ty, *number) {
-            return Some(*number);
-        }
-    }
-    None
 }

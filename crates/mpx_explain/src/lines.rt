@@ -1,32 +1,34 @@
 //! The refused lines of a script.
-ghost use Rattle.std.specs.Prelude.{◌≡◌, ◌++◌, [], cond, nat_lt, false, true, IfErr, IfNone, IfOk, IfSome, OnErr, OnOk, string_bytes};
+ghost use Rattle.std.specs.Prelude.{◌≡◌, ◌<◌, ◌++◌, [], cond, nat_lt, false, true, IfErr, IfNone, IfOk, IfSome, OnErr, OnOk, string_bytes};
 ghost use Rattle.std.specs.Option.{option_map};
 ghost use Rattle.mpx_script.specs.Reading.{reading};
 ghost use Rattle.mpx_script.specs.declared.faults.ScriptFault.TheVariants.{NameUnknown};
-ghost use Rattle.mpx_explain.specs.RefusedLines.{AreRefusalsTold, IsEndTold, IsLineTold, IsRefusalTold, IsToldUnlessUnknown, Keeps, beside_text, ends_all, feed_before, refusal_in, refusal_text, with_line, without_refused};
+ghost use Rattle.mpx_explain.specs.RefusedLines.{AreRefusalsTold, IsLastTold, IsLineTold, IsMoreTold, IsRefusalTold, IsToldOrPassed, Keeps, beside_text, ends_all, feed_before, refusal_in, refusal_text, with_line, with_line_told, without_refused};
 
-use crate::blame::word_to_blame;
-use crate::detail::{detail_of, is_shown};
+use crate::detail::detail_of;
+use crate::left_out::{Unbound, is_bound_with, push_unbound};
 use join_core::OutOfMemory;
 use mpx_num::{Listing, Ops};
 use mpx_script::{ReadScriptError, ScriptError, ScriptFault, read_script};
 use std::alloc::Global;
 
-// More refused lines than these are not looked for.
+// More refused lines than these are not told.
 const MOST_LINES: usize = 10;
 
-// What a line that was left out was to bind: its label, and the word behind its arrow.
+// More refused lines than these are not left out: each takes some readings of the text.
+const MOST_LEFT_OUT: usize = 100;
+
+// What is left of a text without its refused line, and whether that line is passed over.
 #[derive(Drop)]
-struct Unbound {
-    line: u32,
-    label: Vec<u8>,
-    name: Vec<u8>,
+pub(crate) struct LeftText {
+    pub(crate) text: Vec<u8>,
+    pub(crate) is_passed: bool,
 }
 
 /// Tells each refused line of a script, at most ten: a line with its refusal, and one behind it, two blanks to the right, with the word
 /// that is missing, one too many or wrong, and what was meant, where these can be told. The first refusal, which the program tells anyway,
-/// isn't told again. Each but the first is found by leaving out those before it, and isn't told where these would bind its name for all its
-/// ranks.
+/// isn't told again. Each but the first is found by leaving out those before it, at most a hundred, and is passed over where these would bind its
+/// name for all its ranks.
 pub fn explain_refusals(
     alloc: Global,
     text: &[u8],
@@ -54,17 +56,32 @@ fn push_refusals(
     ensures told { OnOk result (AreRefusalsTold (⟦<Ops as Listing>⟧.operations ops.now) text.now told.old.items told.new.items) }
 {
     let mut rest = copied(alloc, text)?;
-    for nth in 0..MOST_LINES {
+    let mut many = 0usize;
+    for nth in 0..MOST_LEFT_OUT {
+        if many == MOST_LINES {
+            return push_whether_more(alloc, &rest, ops, told);
+        }
         match explain_refusal(alloc, &rest, nth, unbound, ops, told)? {
-            Some(behind) => rest = behind,
+            Some(left) => {
+                many = with_one(many, left.is_passed);
+                rest = left.text;
+            }
             None => return Ok(()),
         }
     }
     push_whether_more(alloc, &rest, ops, told)
 }
 
-// Tells a script's refusal, of which so many were left out before. It gives the text without the refused line; none where nothing more is
-// to be said.
+// With one told line more, unless it is passed over.
+fn with_one(many: usize, is_passed: bool) -> usize
+    requires { many < 10 }
+    ensures { result ≡ with_line_told is_passed many }
+{
+    if is_passed { many } else { many + 1 }
+}
+
+// Tells a script's refusal, of which so many were left out before. It gives what is left without that line; none where nothing more is to be
+// said.
 fn explain_refusal(
     alloc: Global,
     text: &[u8],
@@ -72,10 +89,10 @@ fn explain_refusal(
     unbound: &mut Vec<Unbound>,
     ops: &Ops,
     told: &mut Vec<u8>,
-) -> Result<Option<Vec<u8>>, OutOfMemory>
-    ensures told { IfOk result (λ left. IfSome left (λ _. IsLineTold (nat_lt 0 nth) (reading (⟦<Ops as Listing>⟧.operations ops.now) text.now) told.old.items told.new.items)) }
-    ensures left { IfOk result (λ left. IfSome left (λ behind. behind.items ≡ without_refused (reading (⟦<Ops as Listing>⟧.operations ops.now) text.now) text.now)) }
-    ensures end { IfOk result (λ left. IfNone left (IsEndTold nth (reading (⟦<Ops as Listing>⟧.operations ops.now) text.now) told.old.items told.new.items)) }
+) -> Result<Option<LeftText>, OutOfMemory>
+    ensures told { IfOk result (λ left. IfSome left (λ it. IsLineTold it.is_passed (nat_lt 0 nth) (reading (⟦<Ops as Listing>⟧.operations ops.now) text.now) told.old.items told.new.items)) }
+    ensures left { IfOk result (λ left. IfSome left (λ it. it.text.items ≡ without_refused (reading (⟦<Ops as Listing>⟧.operations ops.now) text.now) text.now)) }
+    ensures end { IfOk result (λ left. IfNone left (IsLastTold (reading (⟦<Ops as Listing>⟧.operations ops.now) text.now) told.old.items told.new.items)) }
     ensures err { IfErr result (λ _. told.new.items ≡ told.old.items) }
 {
     let Some(refusal) = refusal_of(alloc, text, ops)? else {
@@ -85,11 +102,14 @@ fn explain_refusal(
         push_last(alloc, text, refusal, nth, ops, told)?;
         return Ok(None);
     }
-    let is_passed_over = follows(alloc, text, refusal, unbound.as_slice(), ops)?;
+    let is_passed = follows(alloc, text, refusal, unbound.as_slice(), ops)?;
     push_unbound(alloc, text, refusal.line, unbound, ops)?;
-    let behind = with_line(alloc, text, refusal.line, b"")?;
-    push_line(alloc, text, refusal, nth > 0, is_passed_over, ops, told)?;
-    Ok(Some(behind))
+    let left = with_line(alloc, text, refusal.line, b"")?;
+    push_line(alloc, text, refusal, nth > 0, is_passed, ops, told)?;
+    Ok(Some(LeftText {
+        text: left,
+        is_passed,
+    }))
 }
 
 // Tells what is beside a refusal behind which nothing can be said, where it is the first.
@@ -116,15 +136,15 @@ fn push_line(
     text: &[u8],
     refusal: ScriptError,
     with_refusal: bool,
-    is_passed_over: bool,
+    is_passed: bool,
     ops: &Ops,
     told: &mut Vec<u8>,
 ) -> Result<(), OutOfMemory>
-    requires { is_passed_over ≡ true → refusal.what ≡ NameUnknown }
-    ensures told { OnOk result (IsToldUnlessUnknown with_refusal refusal told.old.items told.new.items) }
+    requires { is_passed ≡ true → refusal.what ≡ NameUnknown }
+    ensures told { OnOk result (IsToldOrPassed is_passed with_refusal refusal told.old.items told.new.items) }
     ensures err { OnErr result (told.new.items ≡ told.old.items) }
 {
-    if is_passed_over {
+    if is_passed {
         return Ok(());
     }
     push_refused(alloc, text, refusal, with_refusal, ops, told)
@@ -137,7 +157,7 @@ fn push_whether_more(
     ops: &Ops,
     told: &mut Vec<u8>,
 ) -> Result<(), OutOfMemory>
-    ensures told { OnOk result (IsEndTold 10 (reading (⟦<Ops as Listing>⟧.operations ops.now) text.now) told.old.items told.new.items) }
+    ensures told { OnOk result (IsMoreTold (reading (⟦<Ops as Listing>⟧.operations ops.now) text.now) told.old.items told.new.items) }
     ensures err { OnErr result (told.new.items ≡ told.old.items) }
 {
     match refusal_of(alloc, text, ops)? {
@@ -174,8 +194,7 @@ fn ends_all(what: ScriptFault) -> bool
     )
 }
 
-// Whether a line is refused only because lines that were left out would bind its name: with others that bind it for the same ranks, to a
-// communicator or to a request, it isn't.
+// Whether a line is refused only because lines that were left out would bind its name.
 fn follows(
     alloc: Global,
     text: &[u8],
@@ -190,102 +209,6 @@ fn follows(
             is_bound_with(alloc, text, refusal, unbound, ops)
         }
         _ => Ok(false),
-    }
-}
-
-// The same of a name that is unknown.
-fn is_bound_with(
-    alloc: Global,
-    text: &[u8],
-    refusal: ScriptError,
-    unbound: &[Unbound],
-    ops: &Ops,
-) -> Result<bool, OutOfMemory> {
-    if !would_bind(alloc, text, refusal, unbound, ops)? {
-        return Ok(false);
-    }
-    if is_known_with(alloc, text, refusal.line, unbound, TO_COMMUNICATORS, ops)? {
-        return Ok(true);
-    }
-    is_known_with(alloc, text, refusal.line, unbound, TO_REQUESTS, ops)
-}
-
-// Whether one of these would bind the word that is to blame, which can be shown.
-fn would_bind(
-    alloc: Global,
-    text: &[u8],
-    refusal: ScriptError,
-    unbound: &[Unbound],
-    ops: &Ops,
-) -> Result<bool, OutOfMemory> {
-    match word_to_blame(alloc, text, refusal, ops)? {
-        Some(blamed) => Ok(would_bind_to(unbound, blamed.word.as_bytes())),
-        None => Ok(false),
-    }
-}
-
-fn would_bind_to(unbound: &[Unbound], name: &[u8]) -> bool {
-    is_shown(name) && unbound.iter().any(|one| one.name.as_slice() == name)
-}
-
-// Statements that bind a name.
-const TO_COMMUNICATORS: &[u8] = b" dup world -> ";
-
-const TO_REQUESTS: &[u8] = b" ibarrier world -> ";
-
-// Whether a script isn't refused before this line, nor there for a name that is unknown, where lines with such a statement stand for those
-// that were left out.
-fn is_known_with(
-    alloc: Global,
-    text: &[u8],
-    line: u32,
-    unbound: &[Unbound],
-    statement: &[u8],
-    ops: &Ops,
-) -> Result<bool, OutOfMemory> {
-    let bound = with_bound(alloc, text, unbound, statement)?;
-    is_known(alloc, &bound, line, ops)
-}
-
-// The text in which lines with such a statement stand for those that were left out.
-fn with_bound(
-    alloc: Global,
-    text: &[u8],
-    unbound: &[Unbound],
-    statement: &[u8],
-) -> Result<Vec<u8>, OutOfMemory> {
-    let mut bound = copied(alloc, text)?;
-    for one in unbound {
-        bound = with_binding(alloc, &bound, one, statement)?;
-    }
-    Ok(bound)
-}
-
-// The text in which a line with such a statement stands for one that was left out.
-fn with_binding(
-    alloc: Global,
-    text: &[u8],
-    one: &Unbound,
-    statement: &[u8],
-) -> Result<Vec<u8>, OutOfMemory> {
-    let line = binding(alloc, one, statement)?;
-    with_line(alloc, text, one.line, &line)
-}
-
-// The line with this statement that binds the name for the same ranks.
-fn binding(alloc: Global, one: &Unbound, statement: &[u8]) -> Result<Vec<u8>, OutOfMemory> {
-    let mut line = copied(alloc, &one.label)?;
-    line.extend_from_slice(statement)?;
-    line.extend_from_slice(&one.name)?;
-    Ok(line)
-}
-
-// The same of this text.
-fn is_known(alloc: Global, text: &[u8], line: u32, ops: &Ops) -> Result<bool, OutOfMemory> {
-    match refusal_of(alloc, text, ops)? {
-        Some(refusal) if refusal.line == line => Ok(refusal.what != ScriptFault::NameUnknown),
-        Some(refusal) => Ok(refusal.line > line),
-        None => Ok(true),
     }
 }
 
@@ -323,7 +246,8 @@ fn refused_line(
     }
 }
 
-fn copied(alloc: Global, text: &[u8]) -> Result<Vec<u8>, OutOfMemory>
+/// The text once more.
+pub(crate) fn copied(alloc: Global, text: &[u8]) -> Result<Vec<u8>, OutOfMemory>
     ensures { IfOk result (λ copy. copy.items ≡ text.now) }
 {
     let mut copy = Vec::new(alloc);
@@ -331,8 +255,13 @@ fn copied(alloc: Global, text: &[u8]) -> Result<Vec<u8>, OutOfMemory>
     Ok(copy)
 }
 
-// The text in which the line with this number, from 1 on, is this one.
-fn with_line(alloc: Global, text: &[u8], number: u32, other: &[u8]) -> Result<Vec<u8>, OutOfMemory>
+/// The text in which the line with this number, from 1 on, is this one.
+pub(crate) fn with_line(
+    alloc: Global,
+    text: &[u8],
+    number: u32,
+    other: &[u8],
+) -> Result<Vec<u8>, OutOfMemory>
     ensures { IfOk result (λ changed. changed.items ≡ with_line text.now number other.now) }
 {
     let mut changed = Vec::new(alloc);
@@ -358,90 +287,4 @@ fn chosen<'t>(is_other: bool, other: &'t [u8], line: &'t [u8]) -> &'t [u8]
     ensures { result.now ≡ cond is_other other.now line.now }
 {
     if is_other { other } else { line }
-}
-
-// Adds what the line with this number, from 1 on, was to bind, unless no line could bind that there.
-fn push_unbound(
-    alloc: Global,
-    text: &[u8],
-    number: u32,
-    unbound: &mut Vec<Unbound>,
-    ops: &Ops,
-) -> Result<(), OutOfMemory> {
-    let Some(line) = line_with(text, number) else {
-        return Ok(());
-    };
-    match unbound_by(alloc, line, number)? {
-        Some(one) => push_where_free(alloc, text, one, unbound, ops),
-        None => Ok(()),
-    }
-}
-
-// The line with this number, from 1 on.
-fn line_with(text: &[u8], number: u32) -> Option<&[u8]> {
-    let mut at: u32 = 0;
-    for line in text.split(|byte| *byte == b'\n') {
-        at = at.saturating_add(1);
-        if at == number {
-            return Some(line);
-        }
-    }
-    None
-}
-
-fn push_where_free(
-    alloc: Global,
-    text: &[u8],
-    one: Unbound,
-    unbound: &mut Vec<Unbound>,
-    ops: &Ops,
-) -> Result<(), OutOfMemory> {
-    match is_free(alloc, text, &one, ops) {
-        Ok(true) => Ok(unbound.push(one)?),
-        Ok(false) => {
-            drop(one);
-            Ok(())
-        }
-        Err(e) => {
-            drop(one);
-            Err(e)
-        }
-    }
-}
-
-// Whether a line could bind what a line that was left out was to bind.
-fn is_free(alloc: Global, text: &[u8], one: &Unbound, ops: &Ops) -> Result<bool, OutOfMemory> {
-    let bound = with_binding(alloc, text, one, TO_COMMUNICATORS)?;
-    match refusal_of(alloc, &bound, ops)? {
-        Some(refusal) => Ok(refusal.line > one.line),
-        None => Ok(true),
-    }
-}
-
-// What a line was to bind: the word behind its arrow.
-fn unbound_by(alloc: Global, line: &[u8], number: u32) -> Result<Option<Unbound>, OutOfMemory> {
-    let mut label: Option<&[u8]> = None;
-    let mut is_behind_arrow = false;
-    for word in line.split(|byte| *byte == b' ' || *byte == b'\t' || *byte == b'\r') {
-        if word.is_empty() {
-            continue;
-        }
-        match label {
-            Some(label) if is_behind_arrow => return unbound_of(alloc, number, label, word),
-            Some(_) => is_behind_arrow = word == b"->".as_slice(),
-            None => label = Some(word),
-        }
-    }
-    Ok(None)
-}
-
-fn unbound_of(
-    alloc: Global,
-    line: u32,
-    label: &[u8],
-    name: &[u8],
-) -> Result<Option<Unbound>, OutOfMemory> {
-    let label = copied(alloc, label)?;
-    let name = copied(alloc, name)?;
-    Ok(Some(Unbound { line, label, name }))
 }

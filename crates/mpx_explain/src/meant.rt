@@ -186,7 +186,7 @@ fn lacking(bare: &str, is_statement: bool) -> Option<&'static str> {
         return another(&OTHERS, bare);
     }
     if is_floating(bare) {
-        return Some("scripts have whole numbers alone");
+        return Some("scripts have only whole numbers");
     }
     None
 }

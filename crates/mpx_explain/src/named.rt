@@ -4,7 +4,7 @@ ghost use Rattle.std.specs.List.{flat_map};
 ghost use Rattle.mpx_eval.specs.Found.{complaint_view};
 ghost use Rattle.mpx_explain.specs.Findings.{named_text, named_view, placed_call, placed_at};
 
-use crate::reasons::why_of;
+use crate::reasons::{Telling, why_of};
 use join_core::OutOfMemory;
 use mpx_eval::{Complaint, WaitingRank};
 use mpx_script::Script;
@@ -61,12 +61,17 @@ fn push_first(
     let Some(first) = calls.first() else {
         return Ok(());
     };
+    let telling = Telling {
+        text,
+        script,
+        calls,
+        waiting,
+    };
     let mut lines = lines_of(alloc, text, first.rank)?;
     let some = first_of(calls, MOST_CALLS);
     for call in some {
         lines = lines_now(alloc, text, call.rank, lines)?;
-        let numbers = lines.numbers.as_slice();
-        push_named(alloc, script, numbers, call, calls, waiting, named)?;
+        push_named(alloc, &telling, lines.numbers.as_slice(), call, named)?;
     }
     Ok(())
 }
@@ -85,16 +90,14 @@ fn first_of(calls: &[Complaint], most: usize) -> &[Complaint]
 // Names one of a rank whose statements have these lines.
 fn push_named(
     alloc: Global,
-    script: &Script,
+    telling: &Telling<'_>,
     numbers: &[u32],
     call: &Complaint,
-    calls: &[Complaint],
-    waiting: Option<&[WaitingRank]>,
     named: &mut Vec<NamedCall>,
 ) -> Result<(), OutOfMemory>
     ensures { OnOk result (map named_view named.new.items ≡ map named_view named.old.items ++ placed_at numbers.now (complaint_view call.now) ∷ []) }
 {
-    let why = why_of(alloc, script, numbers, call, calls, waiting)?;
+    let why = why_of(alloc, telling, numbers, call)?;
     named.push(with_why(alloc, numbers, call, why)?)?;
     Ok(())
 }

@@ -1,7 +1,9 @@
 //! The words that scripts have for calls, operations and types.
 
-use mpx_kind::{Exchange, Kind, Neighbourhood, NewCommunicator, Reduction};
+use mpx_kind::{Call, Exchange, Kind, Neighbourhood, NewCommunicator, Reduction};
 use mpx_num::{Op, Ty};
+use mpx_post::Draft;
+use mpx_script::later_words_of_line;
 
 /// The word of a kind of call that blocks.
 pub(crate) fn call_word(kind: Kind) -> &'static str {
@@ -60,8 +62,30 @@ fn neighbourhood_word(exchange: Neighbourhood) -> &'static str {
     }
 }
 
-/// The word of an operation: an operation of the job's own has one that isn't known here.
-pub(crate) fn operation_word(op: Op) -> &'static str {
+/// The word of a draft's operation: one of the job's own is called as in the line of the statement that posts the draft.
+pub(crate) fn operation_in<'t>(text: &'t [u8], line: u32, draft: &Draft) -> &'t str {
+    if let Op::Own(_) = draft.op {
+        return own_word(text, line, draft.call);
+    }
+    operation_word(draft.op)
+}
+
+// OP stands behind C, of `reduce` behind ROOT.
+fn own_word(text: &[u8], line: u32, call: Call) -> &str {
+    let (fourth, fifth) = later_words_of_line(text, line);
+    let word = match call {
+        Call::Reduction(Reduction::Reduce, _) => fifth,
+        _ => fourth,
+    };
+    match str::from_utf8(word.unwrap_or(&[])) {
+        Ok(word) => word,
+        Err(_) => OWN,
+    }
+}
+
+const OWN: &str = "an operation of the job's own";
+
+fn operation_word(op: Op) -> &'static str {
     match op {
         Op::Max => "max",
         Op::Min => "min",
@@ -75,7 +99,7 @@ pub(crate) fn operation_word(op: Op) -> &'static str {
         Op::Bxor => "bxor",
         Op::Maxloc => "maxloc",
         Op::Minloc => "minloc",
-        Op::Own(_) => "an operation of the job's own",
+        Op::Own(_) => OWN,
     }
 }
 

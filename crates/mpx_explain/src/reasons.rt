@@ -11,33 +11,40 @@ use mpx_value::Outcome;
 use mpx_waiting::line_at;
 use std::alloc::Global;
 
+/// What calls are told with: a script and its text, all calls that are told, and which ranks wait, where no transcript tells the calls.
+#[derive(Clone, Copy, Drop)]
+pub(crate) struct Telling<'s> {
+    pub(crate) text: &'s [u8],
+    pub(crate) script: &'s Script,
+    pub(crate) calls: &'s [Complaint],
+    pub(crate) waiting: Option<&'s [WaitingRank]>,
+}
+
 /// What its statement gives, or who gives something else at a fault, where that can be told. Where no transcript tells it, behind that whether
-/// its rank has waited for it.
+/// its rank has waited for it. The rank's statements have these lines.
 pub(crate) fn why_of(
     alloc: Global,
-    script: &Script,
+    telling: &Telling<'_>,
     numbers: &[u32],
     call: &Complaint,
-    calls: &[Complaint],
-    waiting: Option<&[WaitingRank]>,
 ) -> Result<String, OutOfMemory> {
     let mut why = String::new(alloc);
-    push_more(alloc, script, call, calls, &mut why)?;
-    if let Some(waiting) = waiting {
-        push_unheard(script, numbers, call, waiting, &mut why)?;
+    push_more(alloc, telling, numbers, call, &mut why)?;
+    if let Some(waiting) = telling.waiting {
+        push_unheard(telling.script, numbers, call, waiting, &mut why)?;
     }
     Ok(why)
 }
 
 fn push_more(
     alloc: Global,
-    script: &Script,
+    telling: &Telling<'_>,
+    numbers: &[u32],
     call: &Complaint,
-    calls: &[Complaint],
     why: &mut String,
 ) -> Result<(), OutOfMemory> {
     let mut more = String::new(alloc);
-    push_reason(alloc, script, call, calls, &mut more)?;
+    push_reason(alloc, telling, numbers, call, &mut more)?;
     if !more.is_empty() {
         why.push_str(": ")?;
         why.push_str(more.as_str())?;
@@ -48,20 +55,32 @@ fn push_more(
 // Adds what a call's statement gives, or who gives something else at a fault, to an empty text.
 fn push_reason(
     alloc: Global,
-    script: &Script,
+    telling: &Telling<'_>,
+    numbers: &[u32],
     call: &Complaint,
-    calls: &[Complaint],
     told: &mut String,
 ) -> Result<(), OutOfMemory> {
-    match &call.line {
+    let refusal = match &call.line {
         Line::Told {
             outcome: Outcome::Fault(fault),
             ..
-        } => push_minority(alloc, script, call, *fault, calls, told),
-        Line::Refused(refusal) => push_given(script, call, Refusal::Post(*refusal), told),
-        Line::StrayRank => push_given(script, call, Refusal::StrayRank, told),
-        _ => Ok(()),
-    }
+        } => {
+            return push_minority(
+                alloc,
+                telling.text,
+                telling.script,
+                call,
+                *fault,
+                telling.calls,
+                told,
+            );
+        }
+        Line::Refused(refusal) => Refusal::Post(*refusal),
+        Line::StrayRank => Refusal::StrayRank,
+        _ => return Ok(()),
+    };
+    let line = line_at(numbers, call.statement);
+    push_given(telling.text, line, telling.script, call, refusal, told)
 }
 
 // Adds that the rank of a call whose fault no line tells has not waited for it, or at which line it does.

@@ -19,7 +19,7 @@ pub(crate) fn push_counted(
 /// Adds the ranks of `world`, of which there are so many.
 pub(crate) fn push_world_ranks(ranks: u8, told: &mut String) -> Result<(), OutOfMemory> {
     if ranks == 1 {
-        return Ok(told.push_str("world has rank 0 alone")?);
+        return Ok(told.push_str("world has only rank 0")?);
     }
     told.push_str("world has ranks 0 to ")?;
     push_number(told, i128::from(ranks.saturating_sub(1)))?;

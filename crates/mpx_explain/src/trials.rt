@@ -23,6 +23,8 @@ pub(crate) enum Change {
     Numbers(usize),
     /// A number at this place and in each one behind it up to an arrow, but for operations and types.
     NumbersToArrow(usize),
+    /// No count, rank or edge at this place and in each one behind it where a list of them stands by the form.
+    Lists(usize),
 }
 
 /// Before a line that is tried alone.
@@ -48,16 +50,45 @@ fn is_named(words: &[&str], place: usize, word: &str, ops: &Ops) -> bool {
     if !is_value(word) && ops.place_named(word.as_bytes()).is_none() {
         return false;
     }
-    match words.get(1).and_then(|statement| form_of(statement)) {
+    match form_in(words) {
         Some(form) => names_value(form, place),
         None => true,
     }
 }
 
+fn form_in(words: &[&str]) -> Option<Form> {
+    form_of(words.get(1)?)
+}
+
 // Whether the word at this place of a line stands for an operation or a type by its form.
 fn names_value(form: Form, place: usize) -> bool {
-    match form.parts.split_whitespace().nth(place.saturating_sub(2)) {
+    match part_at(form, place) {
         Some(part) => part == "OP" || part == "TYPE",
+        None => false,
+    }
+}
+
+fn part_at(form: Form, place: usize) -> Option<&'static str> {
+    form.parts.split_whitespace().nth(place.saturating_sub(2))
+}
+
+// The parts of forms that are lists.
+const LISTS: [&str; 6] = [
+    "SCOUNTS",
+    "RCOUNTS",
+    "RANKS",
+    "EDGES",
+    "SOURCES",
+    "DESTINATIONS",
+];
+
+// Whether a list stands at this place of a line by its statement's form.
+fn is_list(words: &[&str], place: usize) -> bool {
+    match form_in(words) {
+        Some(form) => match part_at(form, place) {
+            Some(part) => LISTS.contains(&part),
+            None => false,
+        },
         None => false,
     }
 }
@@ -78,6 +109,7 @@ fn tried(
             place,
             word,
             is_named: is_named(words, place, word, ops),
+            is_list: is_list(words, place),
             is_behind_arrow,
         };
         push_changed(alloc, &tried, change, &mut text)?;
@@ -85,12 +117,14 @@ fn tried(
     Ok(text)
 }
 
-// A word of a line: its place, and whether it is an operation or a type where one may stand, and an arrow or behind one.
+// A word of a line: its place, and whether it is an operation or a type where one may stand, stands where a list does, and is an arrow or behind
+// one.
 #[derive(Clone, Copy, Drop)]
 struct TriedWord<'w> {
     place: usize,
     word: &'w str,
     is_named: bool,
+    is_list: bool,
     is_behind_arrow: bool,
 }
 
@@ -126,6 +160,7 @@ fn is_changed(alloc: Global, tried: &TriedWord<'_>, change: Change) -> Result<bo
         Change::More(_, _) => Ok(false),
         Change::MoreTyped(_, _) => is_foreign_type(alloc, tried.word),
         Change::Numbers(from) => Ok(tried.place >= from && !tried.is_named),
+        Change::Lists(from) => Ok(tried.place >= from && tried.is_list),
         Change::NumbersToArrow(from) => {
             Ok(tried.place >= from && !tried.is_behind_arrow && !tried.is_named)
         }
@@ -138,6 +173,7 @@ fn other_word(change: Change) -> &'static str {
         Change::One(_, other) => other,
         Change::MoreTyped(_, _) => "i32",
         Change::Numbers(_) | Change::NumbersToArrow(_) => "0",
+        Change::Lists(_) => "-",
         Change::Cut(_) | Change::More(_, _) => "",
     }
 }

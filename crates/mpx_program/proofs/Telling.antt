@@ -20,6 +20,7 @@ use Rattle.mpx_run.specs.Founded.{IsFounded}
 use Rattle.mpx_run.specs.Left.{Leaves}
 use Rattle.mpx_run.specs.Reports.{told_cause}
 use Rattle.mpx_run.specs.Texts.{ComesTo}
+use Rattle.mpx_run.specs.declared.end.Cause.{Cause}
 use Rattle.mpx_run.specs.declared.end.Cause.TheVariants.{InEveryRun, TurnsUsedUp, AllLost, Unknown}
 use Rattle.mpx_run.specs.declared.end.End.{End}
 use Rattle.mpx_run.specs.declared.end.End.TheVariants.{Finished, Waiting}
@@ -38,15 +39,15 @@ module _ (ops : List Operation) (script : ScriptView) (text : List ℕ) (waiting
   calls_of_end old new calls = subst (λ cs. AreCalls text script.statements cs (unheard_in ops script.statements script.ranks f.end) old new) f.complaints_are
       (subst (λ us. AreCalls text script.statements complaints us old new) f.unheard_are calls)
 
-  pub early_tells : (ended : RunEnded) (here waits lines more : List ℕ) → IsToldOfRun script text ended [] here → IsBehind here (waiting_told text script.statements waiting) waits → AreCalls text script.statements complaints unheard [] lines → IsHeaded waits lines more
-      → TellsEarly ops script text ended more
-  early_tells ended here waits lines more itself behind calls headed = record {
+  pub early_tells : (ended : RunEnded) (cause : Cause) (here waits lines more : List ℕ) → IsToldOfRun script text ended [] here → IsBehind cause here (waiting_told text script.statements waiting) waits → AreCalls text script.statements complaints unheard [] lines → IsHeaded waits lines more
+      → TellsEarly ops script text ended cause more
+  early_tells ended cause here waits lines more itself behind calls headed = record {
     end = f.end;
     evaluation = f.evaluation;
     here = here;
     itself = itself;
     waits = waits;
-    behind = subst (λ ws. IsBehind here (waiting_told text script.statements ws) waits) f.waiting_are behind;
+    behind = subst (λ ws. IsBehind cause here (waiting_told text script.statements ws) waits) f.waiting_are behind;
     lines = lines;
     calls = calls_of_end [] lines calls;
     headed = headed;

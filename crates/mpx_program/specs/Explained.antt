@@ -27,7 +27,8 @@ use Rattle.mpx_explain.specs.Overflows.{AreOverflows}
 use Rattle.mpx_explain.specs.RefusedLines.{AreRefusalsTold}
 use Rattle.mpx_explain.specs.RunEnds.{IsRunTold}
 use Rattle.mpx_explain.specs.declared.ended.EndedRun.{EndedRun}
-use Rattle.mpx_run.specs.declared.end.Cause.TheVariants.{InEveryRun}
+use Rattle.mpx_run.specs.declared.end.Cause.{Cause}
+use Rattle.mpx_run.specs.declared.end.Cause.TheVariants.{InEveryRun, TurnsUsedUp, AllLost}
 use Rattle.mpx_run.specs.declared.end.End.{End}
 use Rattle.mpx_run.specs.declared.end.End.TheVariants.{Finished, Waiting}
 use Rattle.mpx_run.specs.declared.report.Left.{Left}
@@ -60,9 +61,16 @@ abbrev pub SaysOrHeads : (here there more : List ℕ) → Type 0
 SaysOrHeads here there more = ((here ≡ there) × ((is_cut there ≡ false) × (more ≡ here ++ codes "in the evaluation these ranks wait there too\n")))
     ⊎ (more ≡ (here ++ codes "in the evaluation ranks wait here:\n") ++ there)
 
--- the lines of the evaluation's waits stand behind those of a run, or it is said that they are the same, or that nobody waits
-abbrev pub IsBehind : (here there more : List ℕ) → Type 0
-IsBehind here there more = ((there ≡ []) × (more ≡ here ++ codes "in the evaluation nobody waits\n")) ⊎ ((0 < length there) × SaysOrHeads here there more)
+-- what would let all ranks finish, where nobody waits in the evaluation
+abbrev pub finish_text : Cause → List ℕ
+finish_text (TurnsUsedUp turns) = codes "with more turns all ranks would finish\n"
+finish_text AllLost = codes "with a loss under 100 all ranks would finish\n"
+finish_text other = codes "the script lets all ranks finish\n"
+
+-- the lines of the evaluation's waits stand behind those of a run that ended for this cause, or it is said that they are the same; where nobody waits, what would let all
+-- ranks finish
+abbrev pub IsBehind : Cause → (here there more : List ℕ) → Type 0
+IsBehind cause here there more = ((there ≡ []) × (more ≡ here ++ finish_text cause)) ⊎ ((0 < length there) × SaysOrHeads here there more)
 
 -- the lines of calls stand behind a heading, where there are some
 abbrev pub IsHeaded : (before calls more : List ℕ) → Type 0
@@ -96,14 +104,14 @@ pub record IsToldOfRun (script : ScriptView) (text : List ℕ) (ended : RunEnded
   pub processes : processes_of run.nodes.now ≡ ended.processes
   pub told : IsRunTold text run old new
 
--- behind lines of the run itself, which ended so, early, the same of the evaluation
-pub record TellsEarly (ops : List Operation) (script : ScriptView) (text : List ℕ) (ended : RunEnded) (more : List ℕ) : Type 0 where
+-- behind lines of the run itself, which ended so, early, for this cause, the same of the evaluation
+pub record TellsEarly (ops : List Operation) (script : ScriptView) (text : List ℕ) (ended : RunEnded) (cause : Cause) (more : List ℕ) : Type 0 where
   pub end : State
   pub evaluation : IsEvaluation ops script.statements script.ranks end
   pub here : List ℕ
   pub itself : IsToldOfRun script text ended [] here
   pub waits : List ℕ
-  pub behind : IsBehind here (waiting_told text script.statements (waiting_in_full ops script.statements script.ranks end)) waits
+  pub behind : IsBehind cause here (waiting_told text script.statements (waiting_in_full ops script.statements script.ranks end)) waits
   pub lines : List ℕ
   pub calls : AreCalls text script.statements (complaints_in script.statements script.ranks end) (unheard_in ops script.statements script.ranks end) [] lines
   pub headed : IsHeaded waits lines more
@@ -112,7 +120,7 @@ pub record TellsEarly (ops : List Operation) (script : ScriptView) (text : List 
 abbrev pub TellsEnd : List Operation → ScriptView → (text : List ℕ) → RunEnded → End → (more : List ℕ) → Type 0
 TellsEnd ops script text ended Finished more = TellsEvaluation ops script text more
 TellsEnd ops script text ended (Waiting ranks InEveryRun) more = TellsEvaluation ops script text more
-TellsEnd ops script text ended (Waiting ranks cause) more = TellsEarly ops script text ended more
+TellsEnd ops script text ended (Waiting ranks cause) more = TellsEarly ops script text ended cause more
 
 -- what is said of how a run with this end and text ended
 abbrev pub OfEnds : Type 1

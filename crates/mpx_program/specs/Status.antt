@@ -54,7 +54,7 @@ advice complains explains answer = []
 
 -- why ranks wait
 abbrev pub cause_text : Cause → List ℕ
-cause_text InEveryRun = codes "these ranks wait in every run\n"
+cause_text InEveryRun = codes "deadlock: these ranks wait whatever the network does\n"
 cause_text (TurnsUsedUp turns) = codes "turns used up: " ++ decimal turns ++ codes "\n"
 cause_text AllLost = codes "every frame was lost\n"
 cause_text Unknown = codes "whether they wait in every run isn't known\n"

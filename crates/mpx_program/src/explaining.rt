@@ -1,5 +1,5 @@
 //! What `--explain` tells beside why a run ended.
-ghost use Rattle.std.specs.Prelude.{◌≡◌, [], IfErr, IfOk, List, OnOk, false, map, take, true};
+ghost use Rattle.std.specs.Prelude.{◌≡◌, ◌++◌, [], IfErr, IfOk, List, OnOk, false, map, take, true};
 ghost use Rattle.mpx_num.specs.declared.own.Operation.{Operation};
 ghost use Rattle.mpx_node.specs.Nodes.{NodeView};
 ghost use Rattle.mpx_eval.specs.Findings.{AreFindings};
@@ -7,7 +7,7 @@ ghost use Rattle.mpx_eval.specs.Found.{complaint_view, waiting_view};
 ghost use Rattle.mpx_explain.specs.RefusedLines.{AreRefusalsTold};
 ghost use Rattle.mpx_run.specs.declared.report.Left.{Left};
 ghost use Rattle.mpx_waiting.specs.ToldLines.{waiting_told};
-ghost use Rattle.mpx_program.specs.Explained.{AreCalls, AreCertain, HasTold, IsBehind, IsHeaded, IsToldOfRun, TellsEarly, TellsEnd, TellsEvaluation, ended_by, ended_in, processes_in, processes_of, unexplained};
+ghost use Rattle.mpx_program.specs.Explained.{AreCalls, AreCertain, HasTold, IsBehind, IsHeaded, IsToldOfRun, TellsEarly, TellsEnd, TellsEvaluation, ended_by, ended_in, finish_text, processes_in, processes_of, unexplained};
 
 use crate::found::Found;
 use crate::prepared::Prepared;
@@ -131,14 +131,20 @@ fn end_told(
     match answer {
         Ok(End::Finished) => evaluation_told(alloc, prepared, found),
         Ok(End::Waiting(_, Cause::InEveryRun)) => evaluation_told(alloc, prepared, found),
-        Ok(End::Waiting(_, Cause::TurnsUsedUp(_))) => run_told(alloc, prepared, left, found),
-        Ok(End::Waiting(_, Cause::AllLost)) => run_told(alloc, prepared, left, found),
-        Ok(End::Waiting(_, Cause::Unknown)) => run_told(alloc, prepared, left, found),
+        Ok(End::Waiting(_, Cause::TurnsUsedUp(turns))) => {
+            run_told(alloc, prepared, left, Cause::TurnsUsedUp(*turns), found)
+        }
+        Ok(End::Waiting(_, Cause::AllLost)) => {
+            run_told(alloc, prepared, left, Cause::AllLost, found)
+        }
+        Ok(End::Waiting(_, Cause::Unknown)) => {
+            run_told(alloc, prepared, left, Cause::Unknown, found)
+        }
         Err(error) => fault_told(alloc, prepared, left, found, error),
     }
 }
 
-// What is told where the text couldn't be written.
+// What is told where the text couldn't be written: that is no end, so no cause is known.
 fn fault_told(
     alloc: Global,
     prepared: &Prepared,
@@ -148,41 +154,43 @@ fn fault_told(
 ) -> Result<Vec<u8>, OutOfMemory> {
     let mut told = Vec::new(alloc);
     push_reason(alloc, error, &mut told)?;
-    let early = early_told(alloc, prepared, left, &[], found)?;
+    let early = early_told(alloc, prepared, left, &[], Cause::Unknown, found)?;
     told.extend_from_slice(&early)?;
     Ok(told)
 }
 
-// What is told of a run that ended early.
+// What is told of a run that ended early, for this cause.
 fn run_told(
     alloc: Global,
     prepared: &Prepared,
     left: &Left,
+    cause: Cause,
     found: &Findings,
 ) -> Result<Vec<u8>, OutOfMemory>
     ensures { IfOk result (λ told. (ops : List Operation) → AreFindings ops prepared.now.script (map waiting_view found.now.waiting.items) (map complaint_view found.now.complaints.items) (map complaint_view found.now.unheard.items)
-        → TellsEarly ops prepared.now.script prepared.now.text.items (ended_in prepared.now.script.ranks left.now) told.items) }
+        → TellsEarly ops prepared.now.script prepared.now.text.items (ended_in prepared.now.script.ranks left.now) cause told.items) }
 {
     let ends = left.ends.as_slice();
-    early_told(alloc, prepared, left, ends, found)
+    early_told(alloc, prepared, left, ends, cause, found)
 }
 
-// The lines of a run that ended early, its ranks so, and behind a heading those of the evaluation. Where ranks wait in the evaluation isn't told
-// twice.
+// The lines of a run that ended early for this cause, its ranks so, and behind a heading those of the evaluation. Where ranks wait in the
+// evaluation isn't told twice.
 fn early_told(
     alloc: Global,
     prepared: &Prepared,
     left: &Left,
     ends: &[RankEnd],
+    cause: Cause,
     found: &Findings,
 ) -> Result<Vec<u8>, OutOfMemory>
     ensures { IfOk result (λ told. (ops : List Operation) → AreFindings ops prepared.now.script (map waiting_view found.now.waiting.items) (map complaint_view found.now.complaints.items) (map complaint_view found.now.unheard.items)
-        → TellsEarly ops prepared.now.script prepared.now.text.items (ended_by ends.now (processes_in prepared.now.script.ranks left.now)) told.items) }
+        → TellsEarly ops prepared.now.script prepared.now.text.items (ended_by ends.now (processes_in prepared.now.script.ranks left.now)) cause told.items) }
 {
     let mut told = Vec::new(alloc);
     push_run_end(alloc, prepared, left, ends, &mut told)?;
     let there = waits_told(alloc, prepared, found)?;
-    push_behind(there.as_slice(), &mut told)?;
+    push_behind(cause, there.as_slice(), &mut told)?;
     drop(there);
     let calls = calls_told(alloc, prepared, found)?;
     push_headed(calls.as_slice(), &mut told)?;
@@ -190,13 +198,13 @@ fn early_told(
     Ok(told)
 }
 
-// Adds what waits of the evaluation are told there, behind those of the run, or that nobody waits. Of a text that was cut the rest isn't known.
-fn push_behind(there: &[u8], told: &mut Vec<u8>) -> Result<(), OutOfMemory>
-    ensures { OnOk result (IsBehind told.old.items there.now told.new.items) }
+// Adds what waits of the evaluation are told there, behind those of the run; where nobody waits, what would let all ranks finish. Of a text
+// that was cut the rest isn't known.
+fn push_behind(cause: Cause, there: &[u8], told: &mut Vec<u8>) -> Result<(), OutOfMemory>
+    ensures { OnOk result (IsBehind cause told.old.items there.now told.new.items) }
 {
     if there.is_empty() {
-        told.extend_from_slice(b"in the evaluation nobody waits\n")?;
-        return Ok(());
+        return push_finish(cause, told);
     }
     if told.as_slice() == there && !there.ends_with(b" more\n") {
         told.extend_from_slice(b"in the evaluation these ranks wait there too\n")?;
@@ -204,6 +212,23 @@ fn push_behind(there: &[u8], told: &mut Vec<u8>) -> Result<(), OutOfMemory>
     }
     told.extend_from_slice(b"in the evaluation ranks wait here:\n")?;
     told.extend_from_slice(there)?;
+    Ok(())
+}
+
+// Adds what would let all ranks finish, where nobody waits in the evaluation.
+fn push_finish(cause: Cause, told: &mut Vec<u8>) -> Result<(), OutOfMemory>
+    ensures { OnOk result (told.new.items ≡ told.old.items ++ finish_text cause) }
+{
+    match cause {
+        Cause::TurnsUsedUp(_) => {
+            told.extend_from_slice(b"with more turns all ranks would finish\n")?;
+        }
+        Cause::AllLost => {
+            told.extend_from_slice(b"with a loss under 100 all ranks would finish\n")?;
+        }
+        Cause::InEveryRun => told.extend_from_slice(b"the script lets all ranks finish\n")?,
+        Cause::Unknown => told.extend_from_slice(b"the script lets all ranks finish\n")?,
+    }
     Ok(())
 }
 

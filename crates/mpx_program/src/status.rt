@@ -141,7 +141,9 @@ fn write_cause<W: Write>(cause: Cause, writer: &mut W) -> io::Result<()>
     ensures { OnOk result (Appends (W.contents writer.old) (W.contents writer.new) (cause_text cause)) }
 {
     match cause {
-        Cause::InEveryRun => writer.write_all(b"these ranks wait in every run\n"),
+        Cause::InEveryRun => {
+            writer.write_all(b"deadlock: these ranks wait whatever the network does\n")
+        }
         Cause::TurnsUsedUp(turns) => writeln!(writer, "turns used up: {turns}"),
         Cause::AllLost => writer.write_all(b"every frame was lost\n"),
         Cause::Unknown => writer.write_all(b"whether they wait in every run isn't known\n"),

@@ -1,9 +1,9 @@
--- The lines that tell who waits, and which calls were refused or are faults.
+-- The lines that tell who waits.
 use Rattle.std.specs.Prelude.{ℕ, zero, suc, ◌+◌, ◌-◌, ◌==◌, Bool, true, false, ◌&&◌, List, [], ◌∷◌, ◌++◌, bytes_eq, codes, cond, if◌then◌else◌, length, map, slice_get, slice_index_or, take, Option, Some, None, unwrap_or}
 use Rattle.std.specs.Fmt.{decimal}
 use Rattle.std.specs.List.{flat_map}
 use Rattle.mpx_eval.specs.declared.missing.MissingMember.{MissingMember}
-use Rattle.mpx_eval.specs.Complaints.{ComplaintView, started_at}
+use Rattle.mpx_eval.specs.Complaints.{started_at}
 use Rattle.mpx_eval.specs.Waiting.{MissingCallView, WaitingView}
 use Rattle.mpx_script.specs.LinesGiven.{lines_given, words_at}
 use Rattle.mpx_statement.specs.declared.statement.Statement.{Statement}
@@ -65,21 +65,21 @@ place_in places member = cond member.closed P.Closed (place_at (standing places 
 abbrev pub place_text : Whereabouts → List ℕ
 place_text P.Closed = codes "closed"
 place_text P.Finished = codes "finished"
-place_text (P.Line line) = codes "line " ++ decimal line
+place_text (P.Line line) = codes "at line " ++ decimal line
 
 -- ranks, and where they stand
 abbrev pub placed_text : (ranks : List ℕ) → Whereabouts → List ℕ
 placed_text ranks place = ranks ++ codes " (" ++ place_text place ++ codes ")"
 
 abbrev pub member_text : (places : List (ℕ × ℕ)) → MissingMember → List ℕ
-member_text places member = placed_text (decimal member.rank) (place_in places member)
+member_text places member = placed_text (codes "rank " ++ decimal member.rank) (place_in places member)
 
 -- members in a row that stand at one place, from the first to the last
 abbrev pub row_text : (places : List (ℕ × ℕ)) → (first last : MissingMember) → List ℕ
 row_text places first last =
     if first.rank == last.rank then member_text places last else
     if first.rank + 1 == last.rank then member_text places first ++ codes ", " ++ member_text places last else
-    placed_text (decimal first.rank ++ codes " to " ++ decimal last.rank) (place_in places last)
+    placed_text (codes "ranks " ++ decimal first.rank ++ codes " to " ++ decimal last.rank) (place_in places last)
 
 abbrev pub is_same_place : Whereabouts → Whereabouts → Bool
 is_same_place P.Closed P.Closed = true
@@ -114,7 +114,7 @@ start_text rank line = codes "rank " ++ decimal rank ++ codes ", line " ++ decim
 
 -- and how it ends
 abbrev pub end_text : (places : List (ℕ × ℕ)) → (call : ℕ) → (missing : List MissingMember) → List ℕ
-end_text places call missing = codes ", call " ++ decimal call ++ codes ": no post of " ++ members_text places missing ++ codes "\n"
+end_text places call missing = codes ", call " ++ decimal call ++ codes ": waits for " ++ members_text places missing ++ codes "\n"
 
 -- the whole line, of a rank with these statements and their lines
 abbrev pub call_text : (text : List ℕ) → List Statement → (numbers : List ℕ) → (places : List (ℕ × ℕ)) → (rank line : ℕ) → MissingCallView → List ℕ
@@ -143,18 +143,3 @@ more_text (suc n) = codes "and " ++ decimal (suc n) ++ codes " more\n"
 -- of all that wait, at most a hundred, and how many more there are
 abbrev pub waiting_told : (text : List ℕ) → List (List Statement) → List WaitingView → List ℕ
 waiting_told text statements found = ranks_text text statements (map (place_of text) found) 100 found ++ more_text (calls_in found - 100)
-
--- COMPLAINTS
-
--- where a call stands that was refused or is a fault, and what the transcript says of it
-abbrev pub complaint_text : (numbers : List ℕ) → ComplaintView → List ℕ
-complaint_text numbers c = start_text c.rank (line_at numbers c.statement) ++ c.text ++ codes "\n"
-
-abbrev pub complaint_told : (text : List ℕ) → ComplaintView → List ℕ
-complaint_told text c = complaint_text (lines_given c.rank text) c
-
--- ALL
-
--- of all that wait, and then of all complaints
-abbrev pub all_told : (text : List ℕ) → List (List Statement) → List WaitingView → List ComplaintView → List ℕ
-all_told text statements waiting complaints = waiting_told text statements waiting ++ flat_map (complaint_told text) complaints

@@ -1,17 +1,16 @@
-//! Who waits at the end of a script's evaluation, as lines of text: at which line, for which calls, and which ranks have not posted to
-//! them. And which calls were refused or are faults.
+//! Who waits at the end of a script's evaluation, as lines of text: at which line, for which calls, and for which ranks.
 //!
-//! [`push_waiting`] writes the first, [`all_told`] both. [`lines_of`] finds the lines of a rank's statements, [`push_start`],
-//! [`push_members`] and [`push_more`] write parts of lines, for those that tell more of a call.
+//! [`push_waiting`] writes them. [`lines_of`] finds the lines of a rank's statements, [`push_start`], [`push_members`] and [`push_more`] write
+//! parts of lines, for those that tell more of a call.
 #![tactic(auto)]
 
-mod complaints;
+mod lines;
 mod members;
 mod number_text;
 mod places;
 mod told;
 
-pub use complaints::{RankLines, lines_now, lines_of};
+pub use lines::{RankLines, lines_now, lines_of};
 pub use members::push_members;
 pub use places::{line_at, places_of};
-pub use told::{all_told, push_more, push_start, push_waiting};
+pub use told::{push_more, push_start, push_waiting};

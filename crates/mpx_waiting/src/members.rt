@@ -1,4 +1,4 @@
-//! The text of the members that have not posted to a call, with where they stand.
+//! The text of the ranks that have not posted to a call, with where they stand.
 ghost use Rattle.std.specs.Prelude.{◌≡◌, ◌++◌, [], OnOk};
 ghost use Rattle.mpx_waiting.specs.ToldLines.{follows, is_same_place, member_text, members_text, place_in, place_text, placed_text, row_text, standing};
 
@@ -85,6 +85,7 @@ fn push_row(
         told.extend_from_slice(b", ")?;
         return push_member(alloc, places, last, told);
     }
+    told.extend_from_slice(b"ranks ")?;
     push_decimal(alloc, told, u32::from(first.rank))?;
     told.extend_from_slice(b" to ")?;
     push_decimal(alloc, told, u32::from(last.rank))?;
@@ -100,6 +101,7 @@ fn push_member(
 ) -> Result<(), OutOfMemory>
     ensures { OnOk result (told.new.items ≡ told.old.items ++ member_text places.now member) }
 {
+    told.extend_from_slice(b"rank ")?;
     push_decimal(alloc, told, u32::from(member.rank))?;
     push_place(alloc, place_in(places, member), told)
 }
@@ -122,7 +124,7 @@ fn push_standing(alloc: Global, place: Whereabouts, told: &mut Vec<u8>) -> Resul
         Whereabouts::Closed => Ok(told.extend_from_slice(b"closed")?),
         Whereabouts::Finished => Ok(told.extend_from_slice(b"finished")?),
         Whereabouts::Line(line) => {
-            told.extend_from_slice(b"line ")?;
+            told.extend_from_slice(b"at line ")?;
             push_decimal(alloc, told, line)
         }
     }

@@ -1,32 +1,16 @@
-//! The text of the lines that tell who waits, and of all lines.
-ghost use Rattle.std.specs.Prelude.{◌≡◌, ◌++◌, IfOk, OnOk, bytes_eq, codes, map, take};
+//! The text of the lines that tell who waits.
+ghost use Rattle.std.specs.Prelude.{◌≡◌, ◌++◌, OnOk, bytes_eq, codes, map, take};
 ghost use Rattle.std.specs.Option.{option_copied};
-ghost use Rattle.mpx_eval.specs.Found.{complaint_view, missing_view, waiting_view};
-ghost use Rattle.mpx_waiting.specs.ToldLines.{all_told, apart_words, call_text, call_words, calls_in, end_text, more_text, rank_text, ranks_text, request_text, second_word, start_text, waiting_told, what_text, word_in};
+ghost use Rattle.mpx_eval.specs.Found.{missing_view, waiting_view};
+ghost use Rattle.mpx_waiting.specs.ToldLines.{apart_words, call_text, call_words, calls_in, end_text, more_text, rank_text, ranks_text, request_text, second_word, start_text, waiting_told, what_text, word_in};
 
-use crate::complaints::push_complaints;
 use crate::members::push_members;
 use crate::number_text::push_decimal;
 use crate::places::{line_at, places_of};
 use join_core::OutOfMemory;
-use mpx_eval::{Findings, MissingCall, WaitingRank, started_at};
+use mpx_eval::{MissingCall, WaitingRank, started_at};
 use mpx_script::{Script, Statement, Word, later_words_of_line, statement_lines, words_of_line};
 use std::alloc::Global;
-
-/// A line for each call that is missing, and behind these one for each call that was refused or is a fault.
-pub fn all_told(
-    alloc: Global,
-    text: &[u8],
-    script: &Script,
-    found: &Findings,
-) -> Result<Vec<u8>, OutOfMemory>
-    ensures { IfOk result (λ told. told.items ≡ all_told text.now script.now.statements (map waiting_view found.now.waiting.items) (map complaint_view found.now.complaints.items)) }
-{
-    let mut told = Vec::new(alloc);
-    push_waiting(alloc, text, script, found.waiting.as_slice(), &mut told)?;
-    push_complaints(alloc, text, found.complaints.as_slice(), &mut told)?;
-    Ok(told)
-}
 
 // More calls than these are not told.
 const MOST_CALLS: usize = 100;
@@ -185,7 +169,7 @@ fn push_end(
 {
     told.extend_from_slice(b", call ")?;
     push_decimal(alloc, told, call.call)?;
-    told.extend_from_slice(b": no post of ")?;
+    told.extend_from_slice(b": waits for ")?;
     push_members(alloc, places, call.missing.as_slice(), told)?;
     told.extend_from_slice(b"\n")?;
     Ok(())

@@ -1,9 +1,8 @@
-use Rattle.std.proofs.Common.{inr, refl}
-use Rattle.mpx_explain.proofs.RefusedTexts.{told_or_unknown}
+use Rattle.mpx_explain.proofs.RefusedTexts.{passed_over, told_unless}
 use Rattle.mpx_explain.proofs.lines.push_line.Goals as goal
 
-pub returns-then-is_passed_over-clause-told : goal.returns-then-is_passed_over-clause-told
-returns-then-is_passed_over-clause-told g c = inr (c.requires c.if-is_passed_over.true, refl)
+pub returns-then-is_passed-clause-told : goal.returns-then-is_passed-clause-told
+returns-then-is_passed-clause-told g c = passed_over c.args.is_passed c.args.with_refusal c.args.refusal c.args.told.now.items c.if-is_passed.true (c.requires c.if-is_passed.true)
 
 pub returns-clause-told : goal.returns-clause-told
-returns-clause-told g c = told_or_unknown c.args.with_refusal c.args.refusal c.args.told.now.items c.push_refused.new.told.items c.push_refused.result c.push_refused.ensures.told
+returns-clause-told g c = told_unless c.args.is_passed c.args.with_refusal c.args.refusal c.args.told.now.items c.push_refused.new.told.items c.push_refused.result c.if-is_passed.false c.push_refused.ensures.told

@@ -11,6 +11,6 @@ returns c =
     let script = c.args.prepared.now.script in
     let left = c.args.left.now in
     let found = c.args.found.now in
-    subst (λ ended. IfOk c.early_told.result (λ told. (ops : List Operation) → AreFindings ops script (map waiting_view found.waiting.items) (map complaint_view found.complaints.items) (map complaint_view found.unheard.items) → TellsEarly ops script c.args.prepared.now.text.items ended told.items))
+    subst (λ ended. IfOk c.early_told.result (λ told. (ops : List Operation) → AreFindings ops script (map waiting_view found.waiting.items) (map complaint_view found.complaints.items) (map complaint_view found.unheard.items) → TellsEarly ops script c.args.prepared.now.text.items ended c.args.cause told.items))
     (ap (λ es. ended_by es (processes_in script.ranks left)) c.as_slice-ends.ensures.value ∙ ended_so script.ranks left)
     c.early_told.ensures
