@@ -147,7 +147,7 @@ done_more op given i index old had exact within was one below (inr l) =
     let same : i ≡ index = omega (arith, l, below) in
     let here : slice_index_or (set had i exact) i None ≡ exact = get_or-set_same had i exact None within in
     let first : IsAdded op (slice_get given i) (slice_index_or old i None) (slice_index_or (set had i exact) i None) =
-        subst (λ (e : Option ℤ). IsAdded op (slice_get given i) (slice_index_or old i None) e) (sym here) (subst (λ (b : Option ℤ). IsAdded op (slice_get given i) b exact) (was.rest i (omega arith)) one) in
+    subst (λ (e : Option ℤ). IsAdded op (slice_get given i) (slice_index_or old i None) e) (sym here) (subst (λ (b : Option ℤ). IsAdded op (slice_get given i) b exact) (was.rest i (omega arith)) one) in
     subst (λ (k : ℕ). IsAdded op (slice_get given k) (slice_index_or old k None) (slice_index_or (set had i exact) k None)) same first
 
 -- one number more

@@ -243,12 +243,7 @@ fn taken(reduction: Reduction, ranks: usize, rank: u8) -> usize
 }
 
 // The first number of a rank's result that is past its type, where just so many ranks count for it.
-fn overflow_of(
-    row: &Row<'_>,
-    rank: u8,
-    ranks: usize,
-    sums: &[Option<i128>],
-) -> Option<Overflow>
+fn overflow_of(row: &Row<'_>, rank: u8, ranks: usize, sums: &[Option<i128>]) -> Option<Overflow>
     requires row { IsRow row.now }
     requires counts { taken row.now.reduction (length row.now.script.now.statements) rank ≡ ranks }
     requires sums { AreUpto row.now.draft.now.op (given_to row.now.script.now.statements (posts_in row.now.posts.now) row.now.call) ranks sums.now }

@@ -102,7 +102,9 @@ fn mark_one(rank: u8, complaint: &Complaint, named: &mut Vec<bool>)
 fn waits_before(rank: u8, place: usize, waiting: &[WaitingRank]) -> bool
     ensures { result ≡ waits_before rank place (map waiting_view waiting.now) }
 {
-    waiting.iter().any(|one| one.rank == rank && one.statement < place)
+    waiting
+        .iter()
+        .any(|one| one.rank == rank && one.statement < place)
 }
 
 /// What the rank's statement with this place posts on `world`.
