@@ -8,7 +8,7 @@ use crate::members::push_members;
 use crate::number_text::push_decimal;
 use crate::places::{line_at, places_of};
 use join_core::OutOfMemory;
-use mpx_eval::{MissingCall, WaitingRank, started_at};
+use mpx_eval::{MissingCall, MissingMember, WaitingRank, started_at};
 use mpx_script::{Script, Statement, Word, later_words_of_line, statement_lines, words_of_line};
 use std::alloc::Global;
 
@@ -143,7 +143,7 @@ fn push_call(
         call.request.as_ref(),
         told,
     )?;
-    push_end(alloc, places, call, told)
+    push_end(alloc, places, call.call, call.missing.as_slice(), told)
 }
 
 /// Adds how a line begins that tells of a rank at a line.
@@ -158,19 +158,20 @@ pub fn push_start(alloc: Global, rank: u8, line: u32, told: &mut Vec<u8>) -> Res
     Ok(())
 }
 
-// Adds how it ends.
+// Adds how it ends: the call's number, and the ranks that have not posted to it.
 fn push_end(
     alloc: Global,
     places: &[(u8, u32)],
-    call: &MissingCall,
+    call: u32,
+    missing: &[MissingMember],
     told: &mut Vec<u8>,
 ) -> Result<(), OutOfMemory>
-    ensures { OnOk result (told.new.items ≡ told.old.items ++ end_text places.now (missing_view call.now).call (missing_view call.now).missing) }
+    ensures { OnOk result (told.new.items ≡ told.old.items ++ end_text places.now call missing.now) }
 {
     told.extend_from_slice(b", call ")?;
-    push_decimal(alloc, told, call.call)?;
+    push_decimal(alloc, told, call)?;
     told.extend_from_slice(b": waits for ")?;
-    push_members(alloc, places, call.missing.as_slice(), told)?;
+    push_members(alloc, places, missing, told)?;
     told.extend_from_slice(b"\n")?;
     Ok(())
 }

@@ -1,4 +1,4 @@
-use Rattle.std.proofs.Common.{◌≡◌, List, ℕ, ◌+◌, ◌-◌, ◌++◌, drop, length, map, append_assoc, ap, sym, ◌∙◌}
+use Rattle.std.proofs.Common.{◌≡◌, ℕ, ◌+◌, ◌-◌, ◌++◌, drop, length, map, append_assoc, ap, sym, ◌∙◌}
 use Rattle.mpx_eval.specs.declared.who_waits.WaitingRank.{WaitingRank}
 use Rattle.mpx_eval.specs.Found.{waiting_view}
 use Rattle.mpx_waiting.specs.ToldLines.{rank_text, ranks_text}
