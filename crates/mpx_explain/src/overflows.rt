@@ -54,15 +54,16 @@ fn push_all(
 ) -> Result<(), OutOfMemory>
     ensures { OnOk result (told.new.items ≡ (told.old.items ++ flat_map (overflow_text text.now) (take 100 all.now)) ++ more_text (length all.now - 100)) }
 {
-    push_lines(alloc, text, first_of(all), told)?;
+    push_lines(alloc, text, first_of(all, MOST_RESULTS), told)?;
     push_more(alloc, (all.len() as u128).saturating_sub(100), told)
 }
 
-fn first_of(all: &[Overflow]) -> &[Overflow]
-    ensures { result.now ≡ take 100 all.now }
+// The first so many of these.
+fn first_of(all: &[Overflow], most: usize) -> &[Overflow]
+    ensures { result.now ≡ take most all.now }
 {
-    if MOST_RESULTS < all.len() {
-        &all[..MOST_RESULTS]
+    if most < all.len() {
+        &all[..most]
     } else {
         all
     }
