@@ -22,7 +22,7 @@ moved : (ops : List Operation) (script : Script) (ranks size : ℕ) (processes :
 moved ops script ranks size processes begun there same run = subst (λ (m : Moment). IsUnderWay ops script ranks size m Alone processes m.frames) same run
 
 pub first-requires-clause-count : goal.first-requires-clause-count
-first-requires-clause-count g c κs within =
+first-requires-clause-count g c =
     let xs = c.in_ok-processes.processes.items in
     let run = c.in_ok-processes.ensures.run [] (schedule_of c.in_ok-network.network.schedule) in
     let many : length xs ≡ c.args.script.now.ranks + c.args.options.now.relays = sym (length-map xs process_of) ∙ run.count in
@@ -125,10 +125,10 @@ exchange-requires g c =
     subst AreReady (sym same ∙ sym c.deref_mut-in-loop-number-2.ensures.value) before
 
 pub first-requires-clause-ready : goal.first-requires-clause-ready
-first-requires-clause-ready g c κs within = subst AreReady (sym c.deref_mut.ensures.value) c.in_ok-processes.ensures.ready
+first-requires-clause-ready g c = subst AreReady (sym c.deref_mut.ensures.value) c.in_ok-processes.ensures.ready
 
 pub go_further-requires-clause-ready : goal.go_further-requires-clause-ready
-go_further-requires-clause-ready g c κs within =
+go_further-requires-clause-ready g c =
     let len = c.loop-number.processes.len in
     let lent-2 = c.deref_mut-in-loop-number-2.ensures in
     let lent-3 = c.deref_mut-in-loop-number-3.ensures in
@@ -136,7 +136,7 @@ go_further-requires-clause-ready g c κs within =
     subst AreReady (sym same-2 ∙ sym lent-3.value) c.in_ok-exchange.ensures.ready
 
 pub go_further-requires-clause-came : goal.go_further-requires-clause-came
-go_further-requires-clause-came g c κs within last =
+go_further-requires-clause-came g c last =
     let len = c.loop-number.processes.len in
     let lent-2 = c.deref_mut-in-loop-number-2.ensures in
     let lent-3 = c.deref_mut-in-loop-number-3.ensures in
