@@ -17,7 +17,7 @@ pub record AreLines (text : List ℕ) (statements : List (List Statement)) (wait
   pub second : List ℕ
   pub heard : AreTold text complaints (waiting_told text statements waiting) first
   pub faults : AreTold text unheard first second
-  pub results : AreOverflows text statements complaints unheard second lines
+  pub results : AreOverflows text statements waiting complaints unheard second lines
 
 -- first this refusal, then what is said beside it, and of further refused lines
 abbrev pub AreRefusedLines : List Operation → (text : List ℕ) → ScriptError → (lines : List ℕ) → Type 0

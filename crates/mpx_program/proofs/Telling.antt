@@ -12,7 +12,7 @@ use Rattle.mpx_eval.specs.Complaints.{ComplaintView, complaints_in}
 use Rattle.mpx_eval.specs.Findings.{AreFindings}
 use Rattle.mpx_eval.specs.Found.{complaint_view}
 use Rattle.mpx_eval.specs.Unheard.{unheard_in}
-use Rattle.mpx_eval.specs.Waiting.{WaitingView}
+use Rattle.mpx_eval.specs.Waiting.{WaitingView, waiting_in_full}
 use Rattle.mpx_explain.specs.Findings.{AreTold}
 use Rattle.mpx_explain.specs.RunEnds.{IsRunTold}
 use Rattle.mpx_explain.specs.declared.ended.EndedRun.{EndedRun}
@@ -34,12 +34,13 @@ use Rattle.mpx_program.specs.declared.found.Found.TheVariants as F
 
 module _ (ops : List Operation) (script : ScriptView) (text : List ℕ) (waiting : List WaitingView) (complaints unheard : List ComplaintView) (f : AreFindings ops script waiting complaints unheard) where
   -- the calls that are found are those of the evaluation
-  calls_of_end : (old new : List ℕ) → AreCalls text script.statements complaints unheard old new
-      → AreCalls text script.statements (complaints_in script.statements script.ranks f.end) (unheard_in ops script.statements script.ranks f.end) old new
-  calls_of_end old new calls = subst (λ cs. AreCalls text script.statements cs (unheard_in ops script.statements script.ranks f.end) old new) f.complaints_are
-      (subst (λ us. AreCalls text script.statements complaints us old new) f.unheard_are calls)
+  calls_of_end : (old new : List ℕ) → AreCalls text script.statements waiting complaints unheard old new
+      → AreCalls text script.statements (waiting_in_full ops script.statements script.ranks f.end) (complaints_in script.statements script.ranks f.end) (unheard_in ops script.statements script.ranks f.end) old new
+  calls_of_end old new calls = subst (λ ws. AreCalls text script.statements ws (complaints_in script.statements script.ranks f.end) (unheard_in ops script.statements script.ranks f.end) old new) f.waiting_are
+      (subst (λ cs. AreCalls text script.statements waiting cs (unheard_in ops script.statements script.ranks f.end) old new) f.complaints_are
+      (subst (λ us. AreCalls text script.statements waiting complaints us old new) f.unheard_are calls))
 
-  pub early_tells : (ended : RunEnded) (cause : Cause) (here waits lines more : List ℕ) → IsToldOfRun script text ended [] here → IsBehind cause here (waiting_told text script.statements waiting) waits → AreCalls text script.statements complaints unheard [] lines → IsHeaded waits lines more
+  pub early_tells : (ended : RunEnded) (cause : Cause) (here waits lines more : List ℕ) → IsToldOfRun script text ended [] here → IsBehind cause here (waiting_told text script.statements waiting) waits → AreCalls text script.statements waiting complaints unheard [] lines → IsHeaded waits lines more
       → TellsEarly ops script text ended cause more
   early_tells ended cause here waits lines more itself behind calls headed = record {
     end = f.end;

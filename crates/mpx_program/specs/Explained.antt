@@ -21,7 +21,7 @@ use Rattle.mpx_eval.specs.Complaints.{ComplaintView, complaints_in}
 use Rattle.mpx_eval.specs.Findings.{AreFindings}
 use Rattle.mpx_eval.specs.Found.{complaint_view, waiting_view}
 use Rattle.mpx_eval.specs.Unheard.{unheard_in}
-use Rattle.mpx_eval.specs.Waiting.{waiting_in_full}
+use Rattle.mpx_eval.specs.Waiting.{WaitingView, waiting_in_full}
 use Rattle.mpx_explain.specs.Findings.{AreTold}
 use Rattle.mpx_explain.specs.Overflows.{AreOverflows}
 use Rattle.mpx_explain.specs.RefusedLines.{AreRefusalsTold}
@@ -37,19 +37,19 @@ use Rattle.mpx_waiting.specs.ToldLines.{waiting_told}
 use Rattle.mpx_program.specs.declared.found.Found.{Found}
 use Rattle.mpx_program.specs.declared.found.Found.TheVariants as F
 
--- behind other lines stand those of these complaints, of these faults that no line tells, and of results that are past their types
-pub record AreCalls (text : List ℕ) (statements : List (List Statement)) (complaints unheard : List ComplaintView) (old new : List ℕ) : Type 0 where
+-- behind other lines stand those of these complaints, of these faults that no line tells, and of results that are past their types, where these ranks wait
+pub record AreCalls (text : List ℕ) (statements : List (List Statement)) (waiting : List WaitingView) (complaints unheard : List ComplaintView) (old new : List ℕ) : Type 0 where
   pub first : List ℕ
   pub second : List ℕ
   pub heard : AreTold text complaints old first
   pub faults : AreTold text unheard first second
-  pub results : AreOverflows text statements complaints unheard second new
+  pub results : AreOverflows text statements waiting complaints unheard second new
 
 -- who waits at the end of the script's evaluation, and the calls that are refused or are faults there
 pub record TellsEvaluation (ops : List Operation) (script : ScriptView) (text more : List ℕ) : Type 0 where
   pub end : State
   pub evaluation : IsEvaluation ops script.statements script.ranks end
-  pub calls : AreCalls text script.statements (complaints_in script.statements script.ranks end) (unheard_in ops script.statements script.ranks end)
+  pub calls : AreCalls text script.statements (waiting_in_full ops script.statements script.ranks end) (complaints_in script.statements script.ranks end) (unheard_in ops script.statements script.ranks end)
       (waiting_told text script.statements (waiting_in_full ops script.statements script.ranks end)) more
 
 -- lines of waits of which there are more than are told
@@ -113,7 +113,7 @@ pub record TellsEarly (ops : List Operation) (script : ScriptView) (text : List 
   pub waits : List ℕ
   pub behind : IsBehind cause here (waiting_told text script.statements (waiting_in_full ops script.statements script.ranks end)) waits
   pub lines : List ℕ
-  pub calls : AreCalls text script.statements (complaints_in script.statements script.ranks end) (unheard_in ops script.statements script.ranks end) [] lines
+  pub calls : AreCalls text script.statements (waiting_in_full ops script.statements script.ranks end) (complaints_in script.statements script.ranks end) (unheard_in ops script.statements script.ranks end) [] lines
   pub headed : IsHeaded waits lines more
 
 -- of a run that ended so, by its end

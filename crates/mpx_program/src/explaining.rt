@@ -328,7 +328,7 @@ fn waits_told(alloc: Global, prepared: &Prepared, found: &Findings) -> Result<Ve
 
 // Which calls are refused or are faults there, and which results are past their types.
 fn calls_told(alloc: Global, prepared: &Prepared, found: &Findings) -> Result<Vec<u8>, OutOfMemory>
-    ensures { IfOk result (λ told. AreCalls prepared.now.text.items prepared.now.script.statements (map complaint_view found.now.complaints.items) (map complaint_view found.now.unheard.items) [] told.items) }
+    ensures { IfOk result (λ told. AreCalls prepared.now.text.items prepared.now.script.statements (map waiting_view found.now.waiting.items) (map complaint_view found.now.complaints.items) (map complaint_view found.now.unheard.items) [] told.items) }
 {
     let mut told = Vec::new(alloc);
     push_calls(alloc, prepared, found, &mut told)?;
@@ -341,7 +341,7 @@ fn push_calls(
     found: &Findings,
     told: &mut Vec<u8>,
 ) -> Result<(), OutOfMemory>
-    ensures { OnOk result (AreCalls prepared.now.text.items prepared.now.script.statements (map complaint_view found.now.complaints.items) (map complaint_view found.now.unheard.items) told.old.items told.new.items) }
+    ensures { OnOk result (AreCalls prepared.now.text.items prepared.now.script.statements (map waiting_view found.now.waiting.items) (map complaint_view found.now.complaints.items) (map complaint_view found.now.unheard.items) told.old.items told.new.items) }
 {
     let (text, script) = (prepared.text.as_slice(), &prepared.script);
     let waiting = found.waiting.as_slice();
