@@ -62,11 +62,7 @@ fn push_all(
 fn first_of(all: &[Overflow], most: usize) -> &[Overflow]
     ensures { result.now ≡ take most all.now }
 {
-    if most < all.len() {
-        &all[..most]
-    } else {
-        all
-    }
+    if most < all.len() { &all[..most] } else { all }
 }
 
 // Adds a line for each.
