@@ -90,7 +90,7 @@ refusal_told is_told refusal beside old line new told is = record {
 }
 
 pub told_unless : {E : Type 0} (is_passed is_told : Bool) (refusal : ScriptError) (old new : List ℕ) (pushed : Result (Unit {0}) E) → is_passed ≡ false → OnOk pushed (IsRefusalTold is_told refusal old new) → OnOk pushed (IsToldOrPassed is_passed is_told refusal old new)
-told_unless is_passed is_told refusal old new pushed no one = subst (λ (b : Bool). OnOk pushed (IsToldOrPassed b is_told refusal old new)) (sym no) one
+told_unless is_passed is_told refusal old new pushed stays one = subst (λ (b : Bool). OnOk pushed (IsToldOrPassed b is_told refusal old new)) (sym stays) one
 
 -- of one that is passed over nothing is
 pub passed_over : (is_passed is_told : Bool) (refusal : ScriptError) (old : List ℕ) → is_passed ≡ true → refusal.what ≡ NameUnknown → IsToldOrPassed is_passed is_told refusal old old
