@@ -1,7 +1,7 @@
 #!/usr/bin/env python3
 """Runs the checks of the repository that need no proof and no MPI, side by side, and counts them. `.ci/run` runs the gate first, and then these.
 
-    bench/checks.py                    all checks: some 17 minutes of one processor, of which a third builds three programs and the library unproved
+    bench/checks.py                    all checks: some 17 minutes of one processor, of which a third builds two programs and the library unproved
     bench/checks.py --only NAME..      these, and what builds the programs for them
     bench/checks.py --list             each check with its command, the tools that it needs, and its time limit
     bench/checks.py --gate [COMMAND]   the gate first: bench/gate.py, or this command in its place
@@ -25,7 +25,7 @@ import tempfile
 import time
 
 TOP = pathlib.Path(__file__).resolve().parent.parent
-PROGRAMS = {"GOSSIPMPI": "out/look/gossipmpi", "WAITS": "out/look/waits"}
+PROGRAM = "out/look/gossipmpi"
 COUNTS = re.compile(r"(?:\w+: )?(\d+) passed, (\d+) failed(?:, (\d+) skipped)?$")
 # Minutes that all checks together may take. The gate needs up to 152 on two processors, and a run of `.ci/run` may have 180.
 MOST, WHOLE = 25, 170
@@ -52,12 +52,12 @@ class Check:
 LOOK = ("bench/look",)
 CHROMIUM = "chromium|chromium-browser|google-chrome|google-chrome-stable"
 CHECKS = [
-    Check("bench/look", "bench/look all", minutes=15),
+    Check("bench/look", "bench/look", minutes=15),
     Check("bench/starve", "bench/starve --trials", ("cc",), minutes=20),
     Check("library/test", "library/test", ("gcc",), minutes=15),
     Check("record/test", "record/test", ("gcc",), LOOK),
     Check("record/planted", "record/planted", (), LOOK),
-    Check("bench/waits.py", "bench/waits.py out/look/gossipmpi 100", (), LOOK),
+    Check("bench/explained.py", "bench/explained.py out/look/gossipmpi 100", (), LOOK),
     Check("picture/test", "picture/test out/look/gossipmpi", ("node",), LOOK),
     Check("picture/look", "picture/look", (CHROMIUM,)),
     Check("bench/wasm", "bench/wasm out/wasm/gossipmpi.wasm", (), LOOK, minutes=15),
@@ -80,7 +80,7 @@ class Running:
     def __init__(self, check, limit):
         self.check, self.began, self.output = check, time.monotonic(), tempfile.TemporaryFile()
         self.limit, self.why = limit, ""
-        said = dict(os.environ, PYTHONDONTWRITEBYTECODE="1", **{name: str(TOP / place) for name, place in PROGRAMS.items()})
+        said = dict(os.environ, PYTHONDONTWRITEBYTECODE="1", GOSSIPMPI=str(TOP / PROGRAM))
         self.process = subprocess.Popen(shlex.split(check.command), cwd=TOP, env=said, stdin=subprocess.DEVNULL, stdout=self.output, stderr=subprocess.STDOUT, start_new_session=True)
 
     def seconds(self):

@@ -158,7 +158,7 @@ def hold_waits(browser):
     choose(browser, "deadlock")
     finished(browser)
     holds("outcome", "Ranks 0 to 2 wait after 14 turns, and in every run.", browser.value(OUTCOME))
-    assert "no post of 1" in browser.value("document.getElementById('explained').textContent")
+    assert "waits for rank 1 (at line 7)" in browser.value("document.getElementById('explained').textContent")
     browser.value("[...document.querySelectorAll('#explained button')].find((it) => it.textContent === 'line 7').click()")
     holds("line of the caret", [7, "text"], browser.value("[editor.line, document.activeElement.id]"))
     holds("what holds the run up", "Ranks 0 to 2 wait for each other: a deadlock.", browser.value("document.getElementById('held').textContent"))

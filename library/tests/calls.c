@@ -53,7 +53,7 @@ int main(void)
     if (!gives(gossipmpi_check, SUMS, GOSSIPMPI_FINISHED, "")) return 5;
     if (!gives(gossipmpi_check, "", GOSSIPMPI_REFUSED, "script line 1: NoRanksLine")) return 6;
     if (!gives(gossipmpi_explain, SUMS, GOSSIPMPI_FINISHED, "")) return 7;
-    if (!gives(gossipmpi_explain, "ranks 2\n0: barrier world\n", GOSSIPMPI_WAITING, "rank 0, line 2: barrier world, call 0: no post of 1 (finished)\n")) return 8;
+    if (!gives(gossipmpi_explain, "ranks 2\n0: barrier world\n", GOSSIPMPI_WAITING, "rank 0, line 2: barrier world, call 0: waits for rank 1 (finished)\n")) return 8;
     for (size_t room = 0; room <= 32; room++) if (!fits(room)) return 9;
     if (!refuses_sizes()) return 10;
     return 0;

@@ -13,7 +13,7 @@ int main()
         if (std::string(error.what()) != "script line 1: RanksOutOfRange") return 3;
     }
     const auto why = gossipmpi::explain("ranks 2\n0: barrier world\n");
-    if (!why.waits || why.text.find("no post of 1") == std::string::npos) return 4;
+    if (!why.waits || why.text.find("waits for rank 1") == std::string::npos) return 4;
     std::string many = "ranks 64\n*: allgather world i64 1 2 3 4 5 6 7 8\n";
     return gossipmpi::eval(many).text.size() > 1024 ? 0 : 5;
 }

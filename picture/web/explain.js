@@ -5,7 +5,7 @@ const MARKS = [
   ["refused", /^script line ([0-9]+): (.*)$/, (found) => found[2]],
   ["refused", /^rank ([0-9]+), line ([0-9]+): (refused .*)$/, (found) => `rank ${found[1]}: ${found[3]}`],
   ["fault", /^rank ([0-9]+), line ([0-9]+): (fault .*)$/, (found) => `rank ${found[1]}: ${found[3]}`],
-  ["waits", /^rank ([0-9]+), line ([0-9]+): .*(no post of .*)$/, (found) => `rank ${found[1]} waits: ${found[3]}`],
+  ["waits", /^rank ([0-9]+), line ([0-9]+): .*: (waits for .*)$/, (found) => `rank ${found[1]} ${found[3]}`],
   ["past", /^rank ([0-9]+), line ([0-9]+): (.* is past .*)$/, (found) => `rank ${found[1]}: ${found[3]}`],
 ];
 const ORDER = MARKS.map(([kind]) => kind);

@@ -2,12 +2,12 @@
 // A run: what every process has after any turn. `runOf` makes it of the events of a trace (read.js), of the script, and of what else the program says.
 // It is asked by functions that change nothing; nothing here draws, or knows of a page.
 
-const NO_POST = /^rank ([0-9]+), line ([0-9]+): (.*): no post of (R(?:, R)*)$/.source.replaceAll("R", "[0-9]+(?: to [0-9]+)?(?: \\([^()]*\\))?");
+const WAITS_FOR = /^rank ([0-9]+), line ([0-9]+): (.*): waits for (R(?:, R)*)$/.source.replaceAll("R", "ranks? [0-9]+(?: to [0-9]+)?(?: \\([^()]*\\))?");
 const SIZE = /^comm ([0-9]+) [0-9]+$/;
 
-// The ranks of a list as "0 (line 4), 2 to 4 (finished)".
+// The ranks of a list as "rank 0 (at line 4), ranks 2 to 4 (finished)".
 function ranksIn(text) {
-  return text.replace(/\([^)]*\)/g, "").split(",").flatMap((part) => {
+  return text.replace(/\([^)]*\)|ranks? /g, "").split(",").flatMap((part) => {
     const [from, to] = part.split(" to ").map(Number);
     return numbers((to === undefined ? from : to) - from + 1).map((rank) => rank + from);
   });
@@ -21,7 +21,7 @@ function saidOfRun(said) {
 
 // Who waits for whom when the run is over, as `--explain` says it.
 function saidWaits(said) {
-  const found = saidOfRun(said).map((line) => new RegExp(NO_POST).exec(line)).filter(Boolean);
+  const found = saidOfRun(said).map((line) => new RegExp(WAITS_FOR).exec(line)).filter(Boolean);
   return found.map(([, rank, line, call, others]) => ({ rank: Number(rank), line: Number(line), call, others: ranksIn(others).filter((it) => it < MOST_PROCESSES), words: others }));
 }
 

@@ -64,7 +64,7 @@ function unheardWords(unheard) {
 function waitsTable(run, turn) {
   if (isSaid(run, turn)) {
     const rows = run.waits.map(({ rank, line, call, words }) => row("rank " + rank, `${call} (line ${line})`, words));
-    return table("At the end, as the program says it", headRow("Rank", "Waits in", "No post of"), rows);
+    return table("At the end, as the program says it", headRow("Rank", "Waits in", "Waits for"), rows);
   }
   const rows = waitsByCall(run, turn).map(([call, { ranks, unmade, unheard }]) => {
     const name = make("th", { scope: "row" }, make("strong", {}, callTitle(run, call)), make("br", {}), make("span", { class: "note" }, [callName(run, call), callLines(run, call)].filter(Boolean).join(", ")));

@@ -136,7 +136,7 @@ function outcomeOf({ status, events, failure, isStopped, unread }, { given, memo
   if (failure) return [`The run failed: ${failure}.`, true];
   if (unread) return [`The trace can't be shown: ${unread}.`, true];
   if (status === 0) return [`All ranks finish${after}.${more}`, false];
-  const always = given.command === "eval" || events.said.includes("these ranks wait in every run") ? ", and in every run" : "";
+  const always = given.command === "eval" || events.said.some((line) => line.startsWith("deadlock:")) ? ", and in every run" : "";
   if (status === 3) return [`${capital(ranksWords(ranks))} ${ranks.length === 1 ? "waits" : "wait"}${after}${always}.${more}`, true];
   if (status === 2) return [`The script is refused: ${(events.said[0] || "").replace(/^script /, "")}.`, true];
   if (status === 4) return [`Out of memory: this needs more than ${memory} MB. Memory above is what it may have.`, true];

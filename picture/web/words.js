@@ -118,9 +118,9 @@ function endWords(run) {
   const ranks = waitingIn(run.said), says = (words) => run.said.some((line) => line.startsWith(words));
   if (!ranks.length) return ["The trace ends here."];
   const why = says("turns used up") ? "The turns are used up" : says("every frame was lost") ? "Every frame was lost" : "The run ends here";
-  const always = says("these ranks wait in every run") || says("in the evaluation these ranks wait there too") ? (ranks.length === 1 ? ["It waits in every run."] : ["They wait in every run."]) : [];
-  const never = says("in the evaluation nobody waits") ? ["The script itself lets all ranks finish."] : [];
-  return [`${why}, and ${ranksWords(ranks)}${ranks.length === 1 ? " waits." : " wait."}`, ...always, ...never];
+  const always = says("deadlock:") || says("in the evaluation these ranks wait there too") ? (ranks.length === 1 ? ["It waits in every run."] : ["They wait in every run."]) : [];
+  const finish = run.said.filter((line) => /^(with .* all ranks would finish|the script lets all ranks finish)$/.test(line)).map((line) => capital(line) + ".");
+  return [`${why}, and ${ranksWords(ranks)}${ranks.length === 1 ? " waits." : " wait."}`, ...always, ...finish];
 }
 
 // The turn in words, as the page says it aloud.

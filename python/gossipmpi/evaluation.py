@@ -87,7 +87,7 @@ def _waiting_in(script: bytes, lines: List[List[str]]) -> List[int]:
         more = _lines_of(answer.text, len(lines))
         return [rank for rank in range(len(lines)) if len(more[rank]) == len(lines[rank])]
     said = backend().ask("explain", script).text
-    return sorted({int(it) for it in re.findall(r"(?m)^rank (\d+), line \d+: .*: no post of ", said)})
+    return sorted({int(it) for it in re.findall(r"(?m)^rank (\d+), line \d+: .*: waits for ", said)})
 
 
 def eval(script: Script) -> Evaluation:

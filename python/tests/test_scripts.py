@@ -24,7 +24,7 @@ class Scripts(unittest.TestCase):
     def test_ranks_wait(self):
         script = "ranks 3\n0: barrier world\n2: barrier world\n"
         self.assertEqual(gossipmpi.eval(script).waiting, [0, 2])
-        self.assertIn("rank 0, line 2: barrier world, call 0: no post of 1 (finished)", gossipmpi.explain(script))
+        self.assertIn("rank 0, line 2: barrier world, call 0: waits for rank 1 (finished)", gossipmpi.explain(script))
 
     def test_a_refused_script_names_line_and_word(self):
         with self.assertRaises(ScriptError) as raised:

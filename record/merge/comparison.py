@@ -9,71 +9,74 @@ TOLD_RANKS = 8
 ADDRESS = re.compile('0x[0-9a-f]+')
 
 
-# A script of one barrier, and what the program says of it.
-KNOWN = dict(gossipmpi=('ranks 1\n0: barrier world\n', '0: ok\n'),
-             waits=('ranks 2\n0: barrier world\n', 'rank 0, line 2: barrier world, call 0: no post of 1 (finished)\n'))
+# A script of two barriers, what the program prints of it, and what it says last.
+KNOWN = 'ranks 2\n*: barrier world\n0: barrier world\n'
+PRINTED, SAID = '0: ok\n1: ok\n', 'rank 0, line 3: barrier world, call 1: waits for rank 1 (finished)'
+# What it says of a line: that a rank waits, or that a call was refused or is a fault. A fault that no rank has asked for isn't told.
+WAITS_AT = re.compile(r'rank (\d+), line (\d+): (.*: waits for .*)')
+COMPLAINS = re.compile(r'rank (\d+), line (\d+): (refused \w+|fault \w+ at \d+)(?!.* for it(?:, and for others)?\)$)')
 
 
-class Programs:
-    """The programs gossipmpi and waits; the second may be missing."""
+class Evaluation:
+    """Of each rank of a script its lines, which ranks wait, and what is explained: of the first `known` ranks each call that is refused or a fault, as at
+    most a hundred are named."""
 
-    def __init__(self, gossipmpi, waits):
-        self.gossipmpi, self.waits, self.known = gossipmpi, waits, set()
-
-    def check(self, name, words):
-        """That it is this program, once: another one, as /bin/true, would find no difference."""
-        script, wanted = KNOWN[name]
-        if name in self.known: return
-        run = subprocess.run(words, input=script, capture_output=True, text=True, errors='replace')
-        if run.stdout != wanted:
-            said = (run.stdout or run.stderr).strip().split('\n')[0][:80]
-            raise Unreadable('the program %s isn\'t %s: of a script of one barrier it printed %s, with status %d, where %s prints "%s"; --%s names another'
-                             % (words[0], name, '"%s"' % said if said else 'nothing', run.returncode, name, wanted.strip(), name))
-        self.known.add(name)
-
-    def evaluate(self, script):
-        """Of each rank its lines, and which ranks wait."""
-        try:
-            self.check('gossipmpi', [self.gossipmpi, 'eval'])
-            run = subprocess.run([self.gossipmpi, 'eval'], input=script.text, capture_output=True, text=True)
-        except OSError as error:
-            raise Unreadable('no program %s (%s): record/README.md says how it is built, --gossipmpi names another, and --without-values needs none' % (self.gossipmpi, error.strerror))
-        if run.returncode not in (0, 3):
-            raise Unreadable('gossipmpi eval refuses the merged script: status %d, %s' % (run.returncode, run.stderr.strip()[:300]))
-        lines = [[] for _ in script.ranks]
+    def __init__(self, size, run):
+        self.lines, self.explained = [[] for _ in range(size)], run.stderr.splitlines()
         for line in run.stdout.splitlines():
             place, _, rest = line.partition(': ')
-            lines[int(place)].append(rest)
-        waiting = {int(place) for place in run.stderr.split(':')[1].split()} if run.returncode == 3 else set()
-        return lines, waiting
+            self.lines[int(place)].append(rest)
+        self.waiting = {int(place) for place in self.explained[0].split(':')[1].split()} if run.returncode == 3 else set()
+        self.known = 0 if self.explained[-1:] == ['out of memory: no more is explained'] else size
+        for line, more in zip(self.explained, self.explained[1:]):
+            if COMPLAINS.match(line) and re.fullmatch(r'and \d+ more', more): self.known = int(COMPLAINS.match(line)[1])
 
-    def ask_waits(self, script):
-        """The lines of `waits`, or None where it isn't at hand."""
+
+class Program:
+    """gossipmpi, by its path."""
+
+    def __init__(self, path): self.path, self.is_known = path, False
+
+    def ask(self, text): return subprocess.run([self.path, 'eval', '--explain'], input=text, capture_output=True, text=True, errors='replace')
+
+    def check(self):
+        """That it is this program, once: another one, as /bin/true, would find no difference."""
+        if self.is_known: return
+        run = self.ask(KNOWN)
+        if run.stdout != PRINTED or run.stderr.splitlines()[-1:] != [SAID]:
+            said = (run.stdout if run.stdout != PRINTED else run.stderr).strip().split('\n')[-1][:80]
+            raise Unreadable('the program %s isn\'t this gossipmpi: of a script of two barriers it printed %s, with status %d, where gossipmpi prints "%s"; --gossipmpi names another'
+                             % (self.path, '"%s"' % said if said else 'nothing', run.returncode, '0: ok' if run.stdout != PRINTED else SAID))
+        self.is_known = True
+
+    def evaluate(self, script):
         try:
-            self.check('waits', [self.waits])
-            run = subprocess.run([self.waits], input=script.text, capture_output=True, text=True)
-        except (OSError, TypeError): return None
-        return run.stdout.splitlines() if run.returncode in (0, 3) else None
+            self.check()
+            run = self.ask(script.text)
+        except OSError as error:
+            raise Unreadable('no program %s (%s): record/README.md says how it is built, --gossipmpi names another, and --without-values needs none' % (self.path, error.strerror))
+        if run.returncode not in (0, 3):
+            raise Unreadable('gossipmpi eval refuses the merged script: status %d, %s' % (run.returncode, run.stderr.strip()[:300]))
+        return Evaluation(len(script.ranks), run)
 
 
 class Comparison:
-    """`reports` has what is told of each call that differs: key, title, lines; `waiting` what `waits` says of each part that
+    """`reports` has what is told of each call that differs: key, title, lines; `waiting` what the program says of each part that
     waits, with its script; `compared` counts results, `checked` has the keys of their calls."""
 
-    def __init__(self, record, calls, choice, programs):
-        self.record, self.calls, self.choice, self.programs, self.slips = record, calls, choice, programs, choice.slips
+    def __init__(self, record, calls, choice, program):
+        self.record, self.calls, self.choice, self.program, self.slips = record, calls, choice, program, choice.slips
         self.shifted = set()                                # communicators of which it was told which calls each rank makes
         self.reports = [(key, title, self.part_lines(rows, Part.told_types if 'types' in title else Part.told)) for key, title, rows in choice.reports]
         self.compared, self.checked, self.seen, self.told = 0, set(), set(), set()
-        self.waiting, self.waiting_ranks, self.has_waits = {}, set(), True
+        self.waiting, self.waiting_ranks = {}, set()
+        self.null = set()                                   # ranks and communicators, where it is none by the standard
 
     def run(self, script):
-        lines, waiting = self.programs.evaluate(script)
-        self.waiting_ranks |= {script.ranks[place] for place in waiting}
-        complaints, differing = {}, collections.defaultdict(list)
-        if waiting or any(line.startswith(('refused', 'fault')) for told in lines for line in told):
-            complaints = self.take_waits(script, lines)
-        for place, expected in enumerate(script.expected): self.compare_rank(expected, lines[place], complaints, differing)
+        evaluation, differing = self.program.evaluate(script), collections.defaultdict(list)
+        self.waiting_ranks |= {script.ranks[place] for place in evaluation.waiting}
+        complaints = self.take_explained(script, evaluation)
+        for place, expected in enumerate(script.expected): self.compare_rank(expected, evaluation.lines[place], complaints, differing, place < evaluation.known)
         for key, line in complaints.items():
             if line.startswith('fault') and not differing[key]: differing[key] = [(None, None, line)]
         for key, rows in differing.items():
@@ -86,36 +89,44 @@ class Comparison:
             row, what = self.calls.rows[key], self.choice.misfit(key)
             if what: self.reports.append((key, 'doesn\'t fit together: ' + what, self.part_lines([(row[rank], []) for rank in sorted(row)])))
 
-    def take_waits(self, script, lines):
+    def take_explained(self, script, evaluation):
         """By key or, where a nonblocking call was refused, by part: what is said of it."""
-        told, complaints = self.programs.ask_waits(script), {}
-        if told is None:
-            self.has_waits = False
-            if any(line.startswith('refused') for rank in lines for line in rank) and self.calls.requests:
-                raise Unreadable('a call is refused, and which tells the program waits, which isn\'t at hand: record/README.md says how it is built, and --waits names another')
-            return {}
-        for line in told:
-            found = re.fullmatch(r'rank \d+, line (\d+): (.*)', line)
-            part = script.lines[int(found[1]) - 1] if found and int(found[1]) <= len(script.lines) else None
+        complaints = {}
+        for line in evaluation.explained:
+            waits, complains = WAITS_AT.fullmatch(line), COMPLAINS.match(line)
+            found = waits or complains
+            part = script.lines[int(found[2]) - 1] if found and int(found[2]) <= len(script.lines) else None
             if part is None: continue
-            if found[2].startswith('refused'): complaints[part.rank, part.id] = found[2]
-            elif found[2].startswith('fault'): complaints[part.key] = found[2]
-            else: self.waiting.setdefault((part.rank, part.id), (script, part, found[2]))
+            if waits: self.waiting.setdefault((part.rank, part.id), (script, part, found[3]))
+            elif found[3].startswith('refused'):
+                complaints[part.rank, part.id] = found[3]
+                if found[3] == 'refused NotMember' and part.key: self.null.add((part.rank, part.key[0]))
+            else: complaints[part.key] = found[3]
         return complaints
 
-    def compare_rank(self, expected, lines, complaints, differing):
-        lines, ordinals = iter(lines), collections.Counter()
-        for line_expected in expected:
+    def compare_rank(self, expected, lines, complaints, differing, is_known):
+        at, ordinals = 0, collections.Counter()
+        for place, line_expected in enumerate(expected):
             part, call = line_expected.part, line_expected.call
-            if line_expected.how == 'refused' and (part.rank, part.id) not in complaints: continue
-            line = next(lines, None)
-            if line is None: return
+            if at == len(lines): return
+            if line_expected.how == 'refused' and (part.rank, part.id) not in complaints:
+                if is_known or not lines[at].startswith('refused'): continue
+                if (part.rank, part.key[0]) not in self.null: return self.leave(expected[place:])       # this call may be refused, or a later one
+                complaints[part.rank, part.id] = lines[at]
+            line = lines[at]
+            at += 1
             ordinals[part.id] += 1
             mark = part.rank, part.id, ordinals[part.id]
             if mark in self.seen: continue                  # of a maker that an earlier script had, too
             self.seen.add(mark)
             if line == 'idle' and (call.rank, call.id) in complaints: continue      # its call was refused, which is told there
             self.compare_line(line_expected, line, differing[call.key])
+
+    def leave(self, expected):
+        """These are left out."""
+        for key in dict.fromkeys(line.call.key for line in expected):
+            title = self.calls.kind_of(key) + ': more than a hundred calls are refused or don\'t fit together'
+            if key not in self.checked and key not in self.choice.left_calls[title]: self.choice.count_left(key, title)
 
     def compare_line(self, expected, line, rows):
         given = expected.given

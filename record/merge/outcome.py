@@ -134,8 +134,6 @@ class Outcome:
         lines += ['left out%s: %d %s' % (', as accepted' * (what in self.accepted_titles), number, what) for what, number in sorted(self.left.items())]
         unended = [str(rank) for rank in range(record.size) if record.ended[rank] != 'end']
         if unended: lines.append('no MPI_Finalize at rank%s %s' % ('s' * (len(unended) > 1), ' '.join(unended)))
-        if self.waiting and not self.ended and not self.is_outside and not self.comparison.has_waits:
-            lines.append('the program waits isn\'t at hand: what is said of waiting ranks is from the record alone (bench/look waits builds it)')
         return lines + self.shortfall() + ['record: ' + trouble for trouble in record.troubles] + [self.summary()]
 
     def shortfall(self):

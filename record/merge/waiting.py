@@ -1,5 +1,5 @@
-"""Who waits for whom, what ended a run early, and what ended it from outside. Lines of `waits` where it has them; the rest from the record: calls
-left out, an endless test, a rank that ended."""
+"""Who waits for whom, what ended a run early, and what ended it from outside. Lines of `gossipmpi eval --explain` where it has them; the rest from the
+record: calls left out, an endless test, a rank that ended."""
 import collections, re
 
 from .around import counts
@@ -20,7 +20,13 @@ def grouped(ranks):
     for rank, state in ranks:
         if groups and groups[-1][1] == rank - 1 and groups[-1][2] == state: groups[-1][1] = rank
         else: groups.append([rank, rank, state])
-    return ', '.join('%s (%s)' % (first if first == last else '%d to %d' % (first, last), state) for first, last, state in groups)
+    return groups
+
+
+def told_of(groups): return ', '.join('%s (%s)' % (first if first == last else '%d to %d' % (first, last), state) for first, last, state in groups)
+
+
+def waited_for(groups): return 'waits for ' + ', '.join('%s (%s)' % ('rank %d' % first if first == last else 'ranks %d to %d' % (first, last), state) for first, last, state in groups)
 
 
 def signal_of(words): return SIGNALS.get(int(words[0]), 'signal ' + words[0])
@@ -68,7 +74,7 @@ class Waiting:
         return None
 
     def is_stuck(self, rank):
-        """Whether it is in a call to which some rank hasn't come, or with another call, or that `waits` says it waits at."""
+        """Whether it is in a call to which some rank hasn't come, or with another call, or that the program says it waits at."""
         part, thread = self.open[rank], [part.thread for part in self.record.parts[rank]]
         if part is None or part.tag == 'unseen' or part.kind in MESSAGES or (thread and max(thread) > 1): return False
         if (rank, part.id) in self.comparison.waiting: return True
@@ -78,7 +84,7 @@ class Waiting:
     def lines_of_end(self):
         lines = ['rank %d %s' % entry for entry in sorted(self.causes.items())]
         others = [(rank, self.state(rank)) for rank in range(self.record.size) if rank not in self.causes]
-        if others: lines[-1] += '; the others were: ' + grouped(others)
+        if others: lines[-1] += '; the others were: ' + told_of(grouped(others))
         return lines
 
     def lines_from_outside(self, unended):
@@ -104,7 +110,7 @@ class Waiting:
             if rank in proved: lines += [self.translate(*entry) for entry in proved[rank]]
             elif record.ended[rank] != 'end': lines += self.by_record(rank)
             elif rank in comparison.waiting_ranks:
-                lines.append('rank %d waits by the standard, where this MPI let it go on; the program waits tells in which call' % rank)
+                lines.append('rank %d waits by the standard, where this MPI let it go on' % rank)
         return lines
 
     def open_part(self, parts):
@@ -114,20 +120,20 @@ class Waiting:
         return None
 
     def translate(self, script, part, text):
-        """A line of `waits`, with places in the program for lines of the script, ranks of the world, and the record's communicator and number of
+        """A line of the program, with places in the program for lines of the script, ranks of the world, and the record's communicator and number of
         the call."""
         call = self.calls.requests.get((part.rank, part.request)) if part.kind == 'wait' else part
-        what, _, members = text.partition(': no post of ')
+        what, _, members = text.partition(': waits for ')
         what = re.sub(r'of line (\d+)', lambda line: self.at(script, int(line[1])), what)
         if call and call.key:
             what = re.sub(r'\bcall \d+', 'call %d' % call.key[1], what)
             what = re.sub(r'^(\w+ \w+, for \w+) \w+' if part.kind == 'wait' else r'^(\w+) \w+', r'\1 ' + call.named, what)
         missing = []
-        for first, last, state, line in re.findall(r'(\d+)(?: to (\d+))? \((finished|line (\d+))\)', members):
+        for first, last, line in re.findall(r'ranks? (\d+)(?: to (\d+))? \((?:finished|at line (\d+))\)', members):
             for place in range(int(first), int(last or first) + 1):
                 rank = script.ranks[place]
                 missing.append((rank, self.at(script, int(line)) if line else self.state(rank)))
-        return 'rank %d waits at %s: %s: no post of %s' % (part.rank, self.record.place_of(part), what, grouped(missing) or members)
+        return 'rank %d, %s: %s: %s' % (part.rank, self.record.place_of(part), what, waited_for(grouped(missing)) if missing else 'waits for ' + members)
 
     def at(self, script, line):
         part = script.lines[line - 1] if 0 < line <= len(script.lines) else None
@@ -157,7 +163,7 @@ class Waiting:
             if not call.key: continue
             name, missing = self.calls.name_of(call.key[0]), self.calls.missing(call.key)
             start = '  %scall %d of %s: ' % ('' if call is self.open[rank] else self.described(call, is_short) + ', ', call.key[1], name)
-            lines.append(start + ('no post of ' + grouped([(other, self.state(other, is_short)) for other in missing]) if missing else self.came(call)))
+            lines.append(start + (waited_for(grouped([(other, self.state(other, is_short)) for other in missing])) if missing else self.came(call)))
         return lines
 
     def came(self, call):

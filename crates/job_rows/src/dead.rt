@@ -6,7 +6,7 @@ use join_nest::Lift;
 use mpx_board::Board;
 use mpx_node::Node;
 use mpx_num::Ops;
-use mpx_run::{Options, run_sim};
+use mpx_run::{InThreads, Options, Unobserved, run_sim};
 use mpx_script::{ReadScriptError, Script, read_script};
 use std::alloc::Global;
 use std::io::{self, Write};
@@ -57,7 +57,14 @@ fn push_run<T: Threads + Sync>(
     if script.ranks() > 61 {
         return writeln!(text, "too many processes");
     }
-    let Ok(run) = run_sim(rt, alloc, script, &options(seed), ops) else {
+    let Ok(run) = run_sim(
+        &InThreads { rt },
+        alloc,
+        script,
+        &options(seed),
+        &mut Unobserved,
+        ops,
+    ) else {
         return writeln!(text, "out of memory");
     };
     let pushed = push_nodes(text, &run.nodes);

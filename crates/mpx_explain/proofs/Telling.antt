@@ -1,20 +1,17 @@
 -- Lines that are told behind others.
 use Rattle.std.proofs.Common.{◌≡◌, ℕ, ◌-◌, List, ◌++◌, append_assoc, length, map, take, Some, Result, Ok, Err, ap, sym, ◌∙◌}
 use Rattle.std.specs.Prelude.{OnOk, ℤ, codes}
-use Rattle.std.specs.List.{All, flat_map}
+use Rattle.std.specs.List.{flat_map}
 use Rattle.std.proofs.lemmas.List.{length-map, take-map}
 use Rattle.mpx_eval.specs.declared.complaints.Complaint.{Complaint}
-use Rattle.mpx_eval.specs.Complaints.{ComplaintView}
 use Rattle.mpx_eval.specs.Found.{complaint_view}
 use Rattle.mpx_num.specs.Text.{number_text}
 use Rattle.mpx_num.specs.Wrapping.{into_range}
 use Rattle.mpx_num.specs.declared.types.Ty.{Ty}
-use Rattle.mpx_statement.specs.declared.statement.Statement.{Statement}
 use Rattle.mpx_waiting.specs.ToldLines.{more_text}
 use Rattle.mpx_explain.specs.declared.named.NamedCall.{NamedCall}
-use Rattle.mpx_explain.specs.declared.overflows.Overflow.{Overflow}
 use Rattle.mpx_explain.specs.Findings.{AreTold, named_text, named_view, placed_call}
-use Rattle.mpx_explain.specs.Overflows.{AreOverflows, IsOverflow, overflow_text, past_text, past_result_text}
+use Rattle.mpx_explain.specs.Overflows.{past_text, past_result_text}
 
 -- the lines of calls that are named, and that of how many more there are, tell of these calls
 pub tells_calls : {E : Type 0} (text : List ℕ) (calls : List Complaint) (named shown : List NamedCall) (many : ℕ) (old new : List ℕ) (pushed : Result (Unit {0}) E)
@@ -26,18 +23,6 @@ tells_calls text calls named shown many old new (Ok done) are same count told = 
   told = told ∙ ap (λ xs. (old ++ flat_map named_text xs) ++ more_text (many - 100)) same ∙ ap (λ n. (old ++ flat_map named_text named) ++ more_text (n - 100)) (count ∙ sym (length-map calls complaint_view));
 }
 tells_calls text calls named shown many old new (Err e) are same count told = tt
-
--- the same of overflows
-pub tells_overflows : {E : Type 0} (text : List ℕ) (statements : List (List Statement)) (complaints unheard : List ComplaintView) (named shown : List Overflow) (many : ℕ) (old new : List ℕ) (pushed : Result (Unit {0}) E)
-    → All (IsOverflow statements complaints unheard) named → shown ≡ named
-    → OnOk pushed (new ≡ (old ++ flat_map (overflow_text text) shown) ++ more_text (many - 100)) → OnOk pushed (AreOverflows text statements complaints unheard old new)
-tells_overflows text statements complaints unheard named shown many old new (Ok done) are same told = record {
-  named = named;
-  each = are;
-  more = many - 100;
-  told = told ∙ ap (λ xs. (old ++ flat_map (overflow_text text) xs) ++ more_text (many - 100)) same;
-}
-tells_overflows text statements complaints unheard named shown many old new (Err e) are same told = tt
 
 -- a number that is past its type, and what the type makes of it
 pub tells_exact : {E : Type 0} (ty : Ty) (z given : ℤ) (old mid new : List ℕ) (pushed : Result (Unit {0}) E) → mid ≡ old ++ past_text ty z → given ≡ into_range ty z

@@ -3,3 +3,4 @@ pub mod Findings
 pub mod Overflows
 pub mod RefusedLines
 pub mod RunEnds
+pub mod Sums

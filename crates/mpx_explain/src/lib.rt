@@ -32,6 +32,7 @@ mod naming;
 mod overflows;
 mod pair_given;
 mod past;
+mod posts;
 mod reasons;
 mod size;
 mod trials;

@@ -1,286 +1,286 @@
-//! Sums and products that are past the range of their signed type, perhaps: `overflows.rt` names those that are.
+//! Sums and products that are past the range of their signed type.
+ghost use Rattle.std.specs.Prelude.{◌≡◌, ◌+◌, ◌<◌, ◌≤◌, ℕ, ℤ, IfOk, IfSome, None, OnOk, Some, length, slice_get, slice_index_or, true};
+ghost use Rattle.std.specs.List.{All};
+ghost use Rattle.std.specs.Option.{option_copied};
+ghost use Rattle.mpx_num.specs.Types.{IsOutOfRange};
+ghost use Rattle.mpx_explain.specs.Overflows.{IsKnownAs, IsOverflow, draft_to, evaluated, given_to, is_signed, is_summed, posts_of, reduction_in, taken};
+ghost use Rattle.mpx_explain.specs.Sums.{AreUpto, IsRow, posts_in};
 
-use crate::exact::{posted_by, reduced};
+use crate::exact::{add, neutral};
+use crate::overflows::Overflow;
+use crate::posts::{all_posts, posted_at};
 use join_core::OutOfMemory;
-use mpx_eval::{Complaint, Findings};
-use mpx_kind::Reduction;
-use mpx_meaning::Line;
-use mpx_num::{Op, is_in_range};
+use mpx_eval::Findings;
+use mpx_kind::{Call, Reduction};
+use mpx_num::{Op, Ty, is_in_range};
 use mpx_post::Draft;
 use mpx_script::Script;
 use std::alloc::Global;
 
-/// What a rank posts to a call on `world`, the place of its statement, and whether the call is a fault, be it told in a line or not.
-#[derive(Clone, Copy, Drop)]
-pub(crate) struct Part<'s> {
-    pub(crate) rank: u8,
-    pub(crate) statement: usize,
-    draft: &'s Draft,
-    is_fault: bool,
-}
-
-/// A number of a rank's result that is past its type, perhaps: which call on `world` it is of, and at which place of all items.
-#[derive(Clone, Copy, Drop)]
-pub(crate) struct Candidate {
-    pub(crate) rank: u8,
-    pub(crate) row: usize,
-    pub(crate) index: usize,
-}
-
-/// What each rank has posted on `world`.
-pub(crate) fn columns_of<'s>(
-    alloc: Global,
-    script: &'s Script,
-    found: &Findings,
-) -> Result<Vec<Vec<Part<'s>>>, OutOfMemory> {
-    let mut columns = Vec::new(alloc);
-    for rank in 0..script.ranks() {
-        columns.push(posted(alloc, script, rank, found)?)?;
-    }
-    Ok(columns)
-}
-
-/// The first number of each rank's result that is past its type, of all calls in these columns.
-pub(crate) fn candidates_of(
-    alloc: Global,
-    columns: &[Vec<Part<'_>>],
-) -> Result<Vec<Candidate>, OutOfMemory> {
-    let mut found = Vec::new(alloc);
-    for row in 0..rows_of(columns) {
-        push_row(alloc, columns, row, &mut found)?;
-    }
-    Ok(found)
-}
-
-// How many rows all columns have.
-fn rows_of(columns: &[Vec<Part<'_>>]) -> usize {
-    let mut rows = usize::MAX;
-    for column in columns {
-        rows = rows.min(column.len());
-    }
-    rows
-}
-
-// Adds what is past its type of a row.
-fn push_row(
-    alloc: Global,
-    columns: &[Vec<Part<'_>>],
-    row: usize,
-    found: &mut Vec<Candidate>,
-) -> Result<(), OutOfMemory> {
-    let mut parts: Vec<Part<'_>> = Vec::new(alloc);
-    for column in columns {
-        if let Some(part) = column.get(row) {
-            parts.push(*part)?;
-        }
-    }
-    push_past(alloc, &parts, row, found)
-}
-
-// What a rank has posted on `world`, in its order.
-fn posted<'s>(
-    alloc: Global,
-    script: &'s Script,
-    rank: u8,
-    found: &Findings,
-) -> Result<Vec<Part<'s>>, OutOfMemory> {
-    let marks = marks_of(alloc, script, rank, found)?;
-    let parts = parts_of(alloc, script, rank, last_made(found, rank), &marks);
-    drop(marks);
-    parts
-}
-
-// What came of a statement.
-#[derive(Clone, Copy, PartialEq, Eq)]
-enum Mark {
-    Fine,
-    Refused,
-    // Its call is a fault, be it told in a line or not.
-    Fault,
-}
-
-// What came of each statement of a rank.
-fn marks_of(
+/// The first number of each rank's result that is past its type, of all calls on `world`.
+pub(crate) fn results_of(
     alloc: Global,
     script: &Script,
-    rank: u8,
     found: &Findings,
-) -> Result<Vec<Mark>, OutOfMemory> {
-    let mut marks = vec![in alloc; Mark::Fine; script.statements(rank).len()]?;
-    mark_all(rank, &found.complaints, &mut marks);
-    mark_all(rank, &found.unheard, &mut marks);
-    Ok(marks)
+) -> Result<Vec<Overflow>, OutOfMemory>
+    ensures { IfOk result (λ all. All (IsOverflow script.now.statements (posts_of (evaluated script.now found.now))) all.items) }
+{
+    let posts = all_posts(alloc, script, found)?;
+    let results = results_in(alloc, script, &posts);
+    drop(posts);
+    results
 }
 
-// Marks the statements of these that are a rank's.
-fn mark_all(rank: u8, all: &[Complaint], marks: &mut Vec<Mark>) {
-    for complaint in all {
-        let place = complaint.statement;
-        if complaint.rank == rank && place < marks.len() {
-            marks[place] = mark_of(&complaint.line);
-        }
-    }
-}
-
-fn mark_of(line: &Line) -> Mark {
-    match line {
-        Line::Told { .. } => Mark::Fault,
-        _ => Mark::Refused,
-    }
-}
-
-// What a rank has posted on `world` up to its last statement.
-fn parts_of<'s>(
+// The same by what the ranks have posted.
+fn results_in(
     alloc: Global,
-    script: &'s Script,
-    rank: u8,
-    last: usize,
-    marks: &[Mark],
-) -> Result<Vec<Part<'s>>, OutOfMemory> {
-    let mut parts = Vec::new(alloc);
-    for (statement, made) in script.statements(rank).iter().enumerate() {
-        let mark = marks.get(statement).copied().unwrap_or(Mark::Fine);
-        if statement > last || mark == Mark::Refused {
-            continue;
-        }
-        if let Some(draft) = posted_by(made) {
-            parts.push(Part {
-                rank,
-                statement,
-                draft,
-                is_fault: mark == Mark::Fault,
-            })?;
-        }
+    script: &Script,
+    posts: &[Vec<usize>],
+) -> Result<Vec<Overflow>, OutOfMemory>
+    requires { length posts.now ≡ length script.now.statements }
+    ensures { IfOk result (λ all. All (IsOverflow script.now.statements (posts_in posts.now)) all.items) }
+{
+    let mut all = Vec::new(alloc);
+    for call in 0..calls_in(posts) {
+        push_call(alloc, script, posts, call, &mut all)?;
     }
-    Ok(parts)
+    Ok(all)
 }
 
-// The place of the last statement that a rank has come to.
-fn last_made(found: &Findings, rank: u8) -> usize {
-    for waiting in &found.waiting {
-        if waiting.rank == rank {
-            return waiting.statement;
-        }
+// How many calls all ranks have posted to.
+fn calls_in(posts: &[Vec<usize>]) -> usize
+    ensures { (rank : ℕ) → rank < length posts.now → result ≤ length (posts_in posts.now rank) }
+{
+    let mut calls = usize::MAX;
+    for one in posts {
+        calls = calls.min(one.len());
     }
-    usize::MAX
+    calls
 }
 
-// Adds what is past its type of what all ranks post to a call.
-fn push_past(
+/// A call on `world` that all ranks have posted to: a sum or product of signed numbers, as rank 0 has it.
+#[derive(Clone, Copy, Drop)]
+pub(crate) struct Row<'r> {
+    script: &'r Script,
+    posts: &'r [Vec<usize>],
+    call: usize,
+    draft: &'r Draft,
+    reduction: Reduction,
+}
+
+// Adds the results of a call that are past their type, where it is a sum or product of signed numbers.
+fn push_call(
     alloc: Global,
-    parts: &[Part<'_>],
-    row: usize,
-    found: &mut Vec<Candidate>,
-) -> Result<(), OutOfMemory> {
-    match reduction_of(parts) {
-        Some(reduction) => push_reduced(alloc, parts, reduction, row, found),
-        None => Ok(()),
-    }
-}
-
-// The kind of the call, where it is a sum or product of signed numbers, and no fault.
-fn reduction_of(parts: &[Part<'_>]) -> Option<Reduction> {
-    let first = parts.first()?;
-    if first.is_fault {
-        return None;
-    }
-    reduced(first.draft)
-}
-
-fn push_reduced(
-    alloc: Global,
-    parts: &[Part<'_>],
-    reduction: Reduction,
-    row: usize,
-    found: &mut Vec<Candidate>,
-) -> Result<(), OutOfMemory> {
-    let mut sums: Vec<Option<i128>> = Vec::new(alloc);
-    push_sums(parts, reduction, row, &mut sums, found)?;
-    push_blocks(parts, reduction, row, &sums, found)
-}
-
-// Takes what all ranks give into the sums or products, and adds what is past its type before a rank or behind it, of a scan.
-fn push_sums(
-    parts: &[Part<'_>],
-    reduction: Reduction,
-    row: usize,
-    sums: &mut Vec<Option<i128>>,
-    found: &mut Vec<Candidate>,
-) -> Result<(), OutOfMemory> {
-    for part in parts {
-        if reduction == Reduction::Exscan {
-            push_first(part, row, sums, 0, found)?;
-        }
-        add(part.draft, sums)?;
-        if reduction == Reduction::Scan {
-            push_first(part, row, sums, 0, found)?;
-        }
-    }
-    Ok(())
-}
-
-// Adds what is past its type of the part that each rank gets.
-fn push_blocks(
-    parts: &[Part<'_>],
-    reduction: Reduction,
-    row: usize,
-    sums: &[Option<i128>],
-    found: &mut Vec<Candidate>,
-) -> Result<(), OutOfMemory> {
-    for (rank, part) in parts.iter().enumerate() {
-        if let Some((start, count)) = block_of(reduction, rank, part.draft, sums.len()) {
-            let end = start.saturating_add(count);
-            push_first(part, row, sums.get(..end).unwrap_or(&[]), start, found)?;
-        }
-    }
-    Ok(())
-}
-
-// Takes what a rank gives into the sums or products.
-fn add(draft: &Draft, sums: &mut Vec<Option<i128>>) -> Result<(), OutOfMemory> {
-    let given = draft.items.as_slice();
-    if sums.is_empty() {
-        for number in given {
-            sums.push(Some(*number))?;
-        }
+    script: &Script,
+    posts: &[Vec<usize>],
+    call: usize,
+    all: &mut Vec<Overflow>,
+) -> Result<(), OutOfMemory>
+    requires { (rank : ℕ) → rank < length script.now.statements → call < length (posts_in posts.now rank) }
+    ensures { OnOk result (All (IsOverflow script.now.statements (posts_in posts.now)) all.old.items
+        → All (IsOverflow script.now.statements (posts_in posts.now)) all.new.items) }
+{
+    let Some(draft) = draft_to(script, posts, call, 0) else {
         return Ok(());
+    };
+    let Some(reduction) = reduced(draft) else {
+        return Ok(());
+    };
+    let row = Row {
+        script,
+        posts,
+        call,
+        draft,
+        reduction,
+    };
+    push_row(alloc, &row, all)
+}
+
+// What a rank posts to a call.
+fn draft_to<'s>(
+    script: &'s Script,
+    posts: &[Vec<usize>],
+    call: usize,
+    rank: u8,
+) -> Option<&'s Draft>
+    ensures { option_copied result ≡ draft_to script.now.statements (posts_in posts.now) call rank }
+{
+    match place_in(posts, call, rank) {
+        Some(place) => posted_at(script, rank, place),
+        None => None,
     }
-    for (sum, number) in sums.iter_mut().zip(given) {
-        *sum = match *sum {
-            Some(sum) if draft.op == Op::Sum => sum.checked_add(*number),
-            Some(product) => product.checked_mul(*number),
-            // (a product, since a sum of so few numbers isn't past 128 bits)
-            None if *number == 0 => Some(0),
-            None => None,
-        };
+}
+
+fn place_in(posts: &[Vec<usize>], call: usize, rank: u8) -> Option<usize>
+    ensures { result ≡ slice_get (posts_in posts.now rank) call }
+{
+    match posts.get(usize::from(rank)) {
+        Some(posts) => posts.as_slice().get(call).copied(),
+        None => None,
+    }
+}
+
+// The kind of a sum or product of signed numbers.
+fn reduced(draft: &Draft) -> Option<Reduction>
+    ensures { IfSome result (λ r. (reduction_in draft.now.call ≡ Some r) × ((is_summed draft.now.op ≡ true) × (is_signed draft.now.ty ≡ true))) }
+{
+    match draft.call {
+        Call::Reduction(reduction, _) if is_signed(draft.ty) && is_summed(draft.op) => {
+            Some(reduction)
+        }
+        _ => None,
+    }
+}
+
+fn is_signed(ty: Ty) -> bool
+    ensures { result ≡ is_signed ty }
+{
+    match ty {
+        Ty::I8 => true,
+        Ty::I16 => true,
+        Ty::I32 => true,
+        Ty::I64 => true,
+        _ => false,
+    }
+}
+
+fn is_summed(op: Op) -> bool
+    ensures { result ≡ is_summed op }
+{
+    match op {
+        Op::Sum => true,
+        Op::Prod => true,
+        _ => false,
+    }
+}
+
+// The same of one that is: those of each rank once all that count for it are taken into the sums.
+fn push_row(alloc: Global, row: &Row<'_>, all: &mut Vec<Overflow>) -> Result<(), OutOfMemory>
+    requires { IsRow row.now }
+    ensures { OnOk result (All (IsOverflow row.now.script.now.statements (posts_in row.now.posts.now)) all.old.items
+        → All (IsOverflow row.now.script.now.statements (posts_in row.now.posts.now)) all.new.items) }
+{
+    let mut sums = first_sums(alloc, row)?;
+    for rank in 0..row.script.ranks() {
+        if !add_given(row, rank, &mut sums) {
+            return Ok(());
+        }
+        push_due(row, usize::from(rank) + 1, &sums, all)?;
     }
     Ok(())
 }
 
-// Where the part begins of what all give that a rank gets, and how many numbers it has; none of a scan, nor where a rank gets nothing.
-fn block_of(
-    reduction: Reduction,
-    rank: usize,
-    draft: &Draft,
-    numbers: usize,
-) -> Option<(usize, usize)> {
-    let counts = draft.rcounts.as_slice();
+// The sums or products of what no rank gives.
+fn first_sums(alloc: Global, row: &Row<'_>) -> Result<Vec<Option<i128>>, OutOfMemory>
+    ensures { IfOk result (λ sums. AreUpto row.now.draft.now.op (given_to row.now.script.now.statements (posts_in row.now.posts.now) row.now.call) 0 sums.items) }
+{
+    let sums = vec![in alloc; Some(neutral(row.draft.op)); row.draft.items.as_slice().len()]?;
+    Ok(sums)
+}
+
+// Takes what a rank gives into the sums or products, where that can be.
+fn add_given(row: &Row<'_>, rank: u8, sums: &mut Vec<Option<i128>>) -> bool
+    ensures { result ≡ true → AreUpto row.now.draft.now.op (given_to row.now.script.now.statements (posts_in row.now.posts.now) row.now.call) rank sums.old.items
+        → AreUpto row.now.draft.now.op (given_to row.now.script.now.statements (posts_in row.now.posts.now) row.now.call) (rank + 1) sums.new.items }
+{
+    match draft_to(row.script, row.posts, row.call, rank) {
+        Some(draft) => add(row.draft.op, draft.items.as_slice(), sums),
+        None => false,
+    }
+}
+
+// Adds the results of those ranks for which just so many ranks count.
+fn push_due(
+    row: &Row<'_>,
+    ranks: usize,
+    sums: &[Option<i128>],
+    all: &mut Vec<Overflow>,
+) -> Result<(), OutOfMemory>
+    requires row { IsRow row.now }
+    requires sums { AreUpto row.now.draft.now.op (given_to row.now.script.now.statements (posts_in row.now.posts.now) row.now.call) ranks sums.now }
+    ensures { OnOk result (All (IsOverflow row.now.script.now.statements (posts_in row.now.posts.now)) all.old.items
+        → All (IsOverflow row.now.script.now.statements (posts_in row.now.posts.now)) all.new.items) }
+{
+    for rank in 0..row.script.ranks() {
+        push_result(row, rank, ranks, sums, all)?;
+    }
+    Ok(())
+}
+
+// Adds the result of a rank, where just so many ranks count for it and it is past its type.
+fn push_result(
+    row: &Row<'_>,
+    rank: u8,
+    ranks: usize,
+    sums: &[Option<i128>],
+    all: &mut Vec<Overflow>,
+) -> Result<(), OutOfMemory>
+    requires row { IsRow row.now }
+    requires sums { AreUpto row.now.draft.now.op (given_to row.now.script.now.statements (posts_in row.now.posts.now) row.now.call) ranks sums.now }
+    ensures { OnOk result (All (IsOverflow row.now.script.now.statements (posts_in row.now.posts.now)) all.old.items
+        → All (IsOverflow row.now.script.now.statements (posts_in row.now.posts.now)) all.new.items) }
+{
+    if taken(row.reduction, usize::from(row.script.ranks()), rank) == ranks {
+        if let Some(overflow) = overflow_of(row, rank, ranks, sums) {
+            all.push(overflow)?;
+        }
+    }
+    Ok(())
+}
+
+// Of the first how many of so many ranks a rank gets what they give.
+fn taken(reduction: Reduction, ranks: usize, rank: u8) -> usize
+    ensures { result ≡ taken reduction ranks rank }
+{
     match reduction {
-        Reduction::Allreduce => Some((0, numbers)),
-        Reduction::Reduce if draft.root == rank as i128 => Some((0, numbers)),
-        Reduction::Reduce | Reduction::Scan | Reduction::Exscan => None,
+        Reduction::Scan => usize::from(rank) + 1,
+        Reduction::Exscan => usize::from(rank),
+        Reduction::Reduce
+        | Reduction::Allreduce
+        | Reduction::ReduceScatterBlock
+        | Reduction::ReduceScatter => ranks,
+    }
+}
+
+// The first number of a rank's result that is past its type, where just so many ranks count for it.
+fn overflow_of(row: &Row<'_>, rank: u8, ranks: usize, sums: &[Option<i128>]) -> Option<Overflow>
+    requires row { IsRow row.now }
+    requires counts { taken row.now.reduction (length row.now.script.now.statements) rank ≡ ranks }
+    requires sums { AreUpto row.now.draft.now.op (given_to row.now.script.now.statements (posts_in row.now.posts.now) row.now.call) ranks sums.now }
+    ensures { IfSome result (λ o. IsOverflow row.now.script.now.statements (posts_in row.now.posts.now) o) }
+{
+    let statement = place_in(row.posts, row.call, rank)?;
+    let (start, end) = block_of(row.reduction, row.draft, usize::from(rank), sums.len());
+    let (_, exact) = first_past(row.draft.ty, sums, start, end)?;
+    Some(Overflow {
+        rank,
+        statement,
+        ty: row.draft.ty,
+        exact,
+    })
+}
+
+// From which number on a rank gets those that all give, and up to which: all of a scan, and none where it gets nothing.
+fn block_of(reduction: Reduction, draft: &Draft, rank: usize, numbers: usize) -> (usize, usize) {
+    let counts = draft.rcounts.as_slice();
+    let (start, count) = match reduction {
+        Reduction::Reduce if draft.root != rank as i128 => (0, 0),
+        Reduction::Reduce | Reduction::Allreduce | Reduction::Scan | Reduction::Exscan => {
+            (0, numbers)
+        }
         Reduction::ReduceScatterBlock => {
             let count = length_of(counts.first());
-            Some((rank.saturating_mul(count), count))
+            (rank.saturating_mul(count), count)
         }
         Reduction::ReduceScatter => {
             let before = counts.iter().take(rank).fold(
                 0usize,
                 |sum, count| sum.saturating_add(length_of(Some(count))),
             );
-            Some((before, length_of(counts.get(rank))))
+            (before, length_of(counts.get(rank)))
         }
-    }
+    };
+    (start, start.saturating_add(count))
 }
 
 fn length_of(count: Option<&i128>) -> usize {
@@ -290,28 +290,29 @@ fn length_of(count: Option<&i128>) -> usize {
     }
 }
 
-// Adds the first of these numbers, from one on, that is past its type; one that is past 128 bits too has none.
-fn push_first(
-    part: &Part<'_>,
-    row: usize,
+// The first of these numbers, from one on and up to one, that is past its type, and its index.
+fn first_past(
+    ty: Ty,
     numbers: &[Option<i128>],
     start: usize,
-    found: &mut Vec<Candidate>,
-) -> Result<(), OutOfMemory> {
-    let ty = part.draft.ty;
-    for (index, exact) in numbers.iter().enumerate().skip(start) {
-        let is_past = match exact {
-            Some(exact) => !is_in_range(ty, *exact),
-            None => true,
-        };
-        if is_past {
-            found.push(Candidate {
-                rank: part.rank,
-                row,
-                index,
-            })?;
-            return Ok(());
+    end: usize,
+) -> Option<(usize, Option<i128>)>
+    ensures { IfSome result (λ r. (r.0 < length numbers.now) × ((r.1 ≡ slice_index_or numbers.now r.0 None) × ((whole : ℤ) → IsKnownAs r.1 whole → IsOutOfRange ty whole))) }
+{
+    for index in start..end.min(numbers.len()) {
+        if is_past(ty, numbers[index]) {
+            return Some((index, numbers[index]));
         }
     }
-    Ok(())
+    None
+}
+
+// Whether a number is past its type; one that is past 128 bits is.
+fn is_past(ty: Ty, exact: Option<i128>) -> bool
+    ensures { result ≡ true → (whole : ℤ) → IsKnownAs exact whole → IsOutOfRange ty whole }
+{
+    match exact {
+        Some(exact) => !is_in_range(ty, exact),
+        None => true,
+    }
 }

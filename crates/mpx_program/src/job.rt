@@ -14,8 +14,8 @@ use crate::prepared::{Prepared, prepare};
 use crate::status::{refusal_status, status_of, write_refusal, write_said};
 use mpx_num::{Listing, Ops};
 use mpx_run::{
-    End, Observer, OpenGate, Printed, RunError, WriteFault, print_job, print_job_in_threads,
-    write_printed,
+    End, Observer, OpenGate, Printed, RunError, Workers, WriteFault, print_job,
+    print_job_in_threads, write_printed,
 };
 use mpx_words::Invocation;
 use std::alloc::Global;
@@ -32,12 +32,13 @@ pub struct Exit {
 }
 
 /// Does what a call asks for: reads the script from `reader`, once, writes what it comes to to `out`, and tells `err` what is to be said. Where
-/// it asks for a run, `observer` looks on: it is the caller who shows a run as it goes. It waits for nobody, so it is proved to return.
+/// it asks for a run, these workers make it, and `observer` looks on: it is the caller who shows a run as it goes. It waits for nobody, so it is
+/// proved to return.
 ///
 /// Who asks what is printed, and with which status, reads `prints` alone. On which nodes a run stands, and how many turns were
 /// made by the seed and the loss, says `founded`.
-pub fn run_job<T: Threads + Sync, R: Read, W: Write, E: Write>(
-    rt: &T,
+pub fn run_job<K: Workers, R: Read, W: Write, E: Write>(
+    workers: &K,
     alloc: Global,
     call: &Invocation,
     reader: &mut R,
@@ -46,6 +47,7 @@ pub fn run_job<T: Threads + Sync, R: Read, W: Write, E: Write>(
     observer: &mut dyn Observer,
     ops: &Ops,
 ) -> Exit
+    requires may { K.may_work workers.now }
     requires alone { is_in_threads call.now.job ≡ false }
     ensures prints { DoesJobWith AsPrinted (⟦<Ops as Listing>⟧.operations ops.now) call.now (R.remaining reader.old) (R.remaining reader.new) (W.contents out.old) (W.contents out.new) result.status (Tells (E.contents err.old) (E.contents err.new) result.told) }
     ensures founded { DoesJobWith AsFounded (⟦<Ops as Listing>⟧.operations ops.now) call.now (R.remaining reader.old) (R.remaining reader.new) (W.contents out.old) (W.contents out.new) result.status (Tells (E.contents err.old) (E.contents err.new) result.told) }
@@ -53,7 +55,7 @@ pub fn run_job<T: Threads + Sync, R: Read, W: Write, E: Write>(
     match prepare(alloc, call, reader, ops) {
         Ok(prepared) => {
             observer.begins(&prepared.text);
-            let printed = print_job(rt, alloc, &call.job, &prepared.script, observer, ops);
+            let printed = print_job(workers, alloc, &call.job, &prepared.script, observer, ops);
             answer(alloc, call, &prepared, printed, out, err, ops)
         }
         Err(failed) => exit_of(

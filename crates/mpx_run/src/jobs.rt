@@ -11,7 +11,7 @@ use crate::report::{Left, Printed, print, print_evaluation, print_threads};
 use crate::texts::RunError;
 use mpx_num::{Listing, Ops};
 use mpx_script::Script;
-use mpx_sim::Observer;
+use mpx_sim::{Observer, Workers};
 use mpx_statement::{Command, Job};
 use mpx_threads::{Gate, ThreadsError};
 use std::alloc::Global;
@@ -32,17 +32,19 @@ pub(crate) fn is_in_threads(job: &Job) -> bool
     }
 }
 
-/// What a job comes to with a script that was read with `ops`: an evaluation, a simulated run, at which `observer` looks on, or how much the
-/// script has. It waits for nobody, so it is proved to return. The errors are `TooManyProcesses`, of a run alone, and `Memory`.
+/// What a job comes to with a script that was read with `ops`: an evaluation, a simulated run, which these workers make and at which `observer`
+/// looks on, or how much the script has. It waits for nobody, so it is proved to return. The errors are `TooManyProcesses`, of a run alone, and
+/// `Memory`.
 #[tactic(auto, using(crate::proofs::Less::comes_printed))]
-pub fn print_job<T: Threads + Sync>(
-    rt: &T,
+pub fn print_job<W: Workers>(
+    workers: &W,
     alloc: Global,
     job: &Job,
     script: &Script,
     observer: &mut dyn Observer,
     ops: &Ops,
 ) -> Result<Printed, RunError>
+    requires may { W.may_work workers.now }
     requires alone { is_in_threads job.now ≡ false }
     ensures prints { IfOk result (λ printed. ComesTo IsPrinted (⟦<Ops as Listing>⟧.operations ops.now) job.now.command job.now.options script.now printed.end (string_bytes printed.text)) }
     ensures founded { IfOk result (λ printed. ComesTo IsFounded (⟦<Ops as Listing>⟧.operations ops.now) job.now.command job.now.options script.now printed.end (string_bytes printed.text)) }
@@ -53,7 +55,7 @@ pub fn print_job<T: Threads + Sync>(
         return Err(RunError::TooManyProcesses);
     }
     match job.command {
-        Command::Run => Ok(print(rt, alloc, script, &job.options, observer, ops)?),
+        Command::Run => Ok(print(workers, alloc, script, &job.options, observer, ops)?),
         Command::Eval => Ok(print_evaluation(alloc, script, ops)?),
         Command::Check => Ok(Printed {
             text: check_text(alloc, script)?,

@@ -17,7 +17,9 @@ mod texts;
 
 pub use end::{Cause, End};
 pub use jobs::{print_job, print_job_in_threads};
-pub use mpx_sim::{FrameSeen, Observer, Progress, Run, Unobserved, run_sim, run_sim_observed};
+pub use mpx_sim::{
+    FrameSeen, InOneThread, InThreads, Observer, Progress, Run, Unobserved, Workers, run_sim,
+};
 pub use mpx_statement::{Command, Job, Options};
 pub use mpx_system::every_run_begins_the_evaluation;
 pub use mpx_threads::{

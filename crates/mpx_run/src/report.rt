@@ -16,7 +16,7 @@ use mpx_meaning::{RankEnd, Report, push_lines};
 use mpx_node::{Node, drop_nodes};
 use mpx_num::{Listing, Ops};
 use mpx_script::Script;
-use mpx_sim::{Observer, run_sim_observed};
+use mpx_sim::{Observer, Workers, run_sim};
 use mpx_statement::Options;
 use mpx_threads::{Gate, ThreadsError, run_threads};
 use std::alloc::Global;
@@ -63,20 +63,21 @@ impl Left {
 }
 
 /// The lines of all ranks of a simulated run, each as `RANK: LINE`, rank by rank, and who waits, and why.
-pub(crate) fn print<T: Threads + Sync>(
-    rt: &T,
+pub(crate) fn print<W: Workers>(
+    workers: &W,
     alloc: Global,
     script: &Script,
     options: &Options,
     observer: &mut dyn Observer,
     ops: &Ops,
 ) -> Result<Printed, OutOfMemory>
+    requires may { W.may_work workers.now }
     requires few { script.now.ranks + options.now.relays ≤ 64 }
     requires alone { options.now.threads ≡ false }
     ensures founded { IfOk result (λ printed. IsSimulated (⟦<Ops as Listing>⟧.operations ops.now) options.now script.now printed.end (string_bytes printed.text)) }
     ensures left { IfOk result (λ printed. IsLeftIn false (⟦<Ops as Listing>⟧.operations ops.now) options.now script.now printed.end (string_bytes printed.text) printed.left) }
 {
-    let run = run_sim_observed(rt, alloc, script, options, observer, ops)?;
+    let run = run_sim(workers, alloc, script, options, observer, ops)?;
     let cause = cause_of(run.turns, options);
     let ports = Vec::new(alloc);
     print_report(alloc, run.report, run.nodes, ports, script.ranks(), cause)

@@ -13,7 +13,7 @@ use crate::streams::{ReadFault, read_bytes, write_bytes};
 use join_core::OutOfMemory;
 use mpx_num::{Listing, Ops};
 use mpx_script::{ReadScriptError, Script, ScriptError, read_script};
-use mpx_sim::{Observer, Unobserved};
+use mpx_sim::{InThreads, Observer, Unobserved};
 use mpx_statement::Job;
 use mpx_threads::{Gate, OpenGate};
 use std::alloc::Global;
@@ -192,5 +192,5 @@ fn printed_by<T: Threads + Wait + Sync, G: Gate + Sync>(
     if is_in_threads(job) {
         return print_job_in_threads(rt, alloc, job, script, observer, gate, ops);
     }
-    print_job(rt, alloc, job, script, observer, ops)
+    print_job(&InThreads { rt }, alloc, job, script, observer, ops)
 }

@@ -9,7 +9,7 @@ use mpx_affine::Affine;
 use mpx_num::{Listing, Ops, OwnOp};
 use mpx_program::{Exit, refuse, run_job, run_job_in_threads};
 use mpx_run::{Command, Job};
-use mpx_sim::Observer;
+use mpx_sim::{InThreads, Observer};
 use mpx_words::Invocation;
 use std::alloc::{AllocError, Global};
 use std::io::{Read, Write};
@@ -83,7 +83,8 @@ fn do_job<T: Threads + Sync, R: Read, W: Write, E: Write>(
     ensures prints { AnswersCall AsPrinted call.now (R.remaining reader.old) (R.remaining reader.new) (W.contents out.old) (W.contents out.new) result.status (Tells (E.contents err.old) (E.contents err.new) result.told) }
     ensures founded { AnswersCall AsFounded call.now (R.remaining reader.old) (R.remaining reader.new) (W.contents out.old) (W.contents out.new) result.status (Tells (E.contents err.old) (E.contents err.new) result.told) }
 {
-    run_job(rt, alloc, call, reader, out, err, observer, ops)
+    let workers = InThreads { rt };
+    run_job(&workers, alloc, call, reader, out, err, observer, ops)
 }
 
 // The same of a call that asks for a run in threads, which may wait for them.

@@ -7,7 +7,7 @@ use mpx_rope::Rope;
 
 /// The bytes of a board on their way: from which process to which, in which turn they come, and whether they have come before.
 #[derive(Drop)]
-pub(crate) struct FrameUnderWay {
+pub struct FrameUnderWay {
     pub(crate) from: u8,
     pub(crate) to: usize,
     pub(crate) turn: u64,

@@ -2,7 +2,7 @@
 //! reordered, and what each rank writes begins what it writes in the script's evaluation.
 //!
 //! In the order of reading: [`run_sim`], which answers a [`Run`]; its processes are `Process`es, each a rank
-//! whose posts a `RunDesk` carries, or a relay; they work side by side, in threads where they are many; what they send is a `FrameUnderWay`
+//! whose posts a `RunDesk` carries, or a relay; [`Workers`] have them go on side by side, in threads where they are many; what they send is a `FrameUnderWay`
 //! each, which a `Network` carries.
 #![tactic(auto)]
 
@@ -23,6 +23,8 @@ mod shares;
 mod side_by_side;
 mod start;
 mod turns;
+mod workers;
 
 pub use observer::{FrameSeen, Observer, Progress, Unobserved};
-pub use report::{Run, run_sim, run_sim_observed};
+pub use report::{Run, run_sim};
+pub use workers::{InOneThread, InThreads, Workers};

@@ -32,7 +32,7 @@ use std::alloc::Global;
 /// A process of a run: the carrier of its posts, over its node, its rank, how far it has come with sending, and what it notes of its steps. A relay has no
 /// statements.
 #[derive(Drop)]
-pub(crate) struct Process<'a> {
+pub struct Process<'a> {
     carrier: RunDesk,
     rank: Interpreter<'a, RunDesk>,
     sender: Sender,

@@ -11,9 +11,10 @@ ghost use Rattle.mpx_sim.specs.Running.{ProcessView};
 ghost use Rattle.mpx_sim.specs.Shown.{process_of};
 ghost use Rattle.mpx_sim.specs.Turns.{AreAfter};
 
-use crate::observer::{Observer, Unobserved};
+use crate::observer::Observer;
 use crate::process::Process;
 use crate::turns::simulate;
+use crate::workers::Workers;
 use join_core::OutOfMemory;
 use mpx_meaning::{RankEnd, Report};
 use mpx_node::{Node, drop_nodes};
@@ -21,7 +22,6 @@ use mpx_num::{Listing, Ops};
 use mpx_script::Script;
 use mpx_statement::Options;
 use std::alloc::Global;
-use std::thread::Threads;
 
 /// What a run comes to, and the node of each process: first those of the ranks, then the relays'.
 #[derive(Drop)]
@@ -55,39 +55,23 @@ impl Run {
 ///
 /// `script` was read with `ops`, the job's own operations. Of `options` count `relays`, how many processes there are beside the
 /// ranks, with these 64 at most; `turns`, how many are made at most; `loss`, how many frames of a hundred are lost, where 100
-/// loses each; `seed`, from which all that is drawn follows; and `workers`, in how many threads the processes work. That ranks still
+/// loses each; `seed`, from which all that is drawn follows; and, where `workers` are threads, `workers`, how many they are. That ranks still
 /// wait at the end is no error: `report.waiting` has them; where turns were left and not every frame is lost, they wait in every
 /// run: the lines are all lines of the evaluation, and those wait that have something left there. An `Err` is want of memory, and
 /// leaves nothing of the run.
-pub fn run_sim<R: Threads + Sync>(
-    rt: &R,
-    alloc: Global,
-    script: &Script,
-    options: &Options,
-    ops: &Ops,
-) -> Result<Run, OutOfMemory>
-    requires { script.now.ranks + options.now.relays ≤ 64 }
-    ensures run { IfOk result (λ run. IsRun (⟦<Ops as Listing>⟧.operations ops.now) script.now options.now.relays (map node_of run.nodes.items) (transcripts_of run.report) run.report.waiting.items) }
-    ensures begins { IfOk result (λ run. (evaluation : State) → IsEvaluationOf (⟦<Ops as Listing>⟧.operations ops.now) script.now evaluation → Begin (transcripts_of run.report) evaluation) }
-    ensures whole { IfOk result (λ run. (evaluation : State) → IsEvaluationOf (⟦<Ops as Listing>⟧.operations ops.now) script.now evaluation → AreWhole (transcripts_of run.report) run.report.waiting.items evaluation) }
-    ensures turns { IfOk result (λ run. AreAfter (⟦<Ops as Listing>⟧.operations ops.now) script.now options.now.relays options.now.seed options.now.loss run.turns (map node_of run.nodes.items)) }
-    ensures ended { IfOk result (λ run. AllMadeOr run.turns options.now.turns (IsOver (⟦<Ops as Listing>⟧.operations ops.now) script.now options.now.relays options.now.loss (map node_of run.nodes.items) (transcripts_of run.report) run.report.waiting.items)) }
-    ensures rests { IfOk result (λ run. run.turns < options.now.turns → options.now.loss < 100 → (evaluation : State) → IsEvaluationOf (⟦<Ops as Listing>⟧.operations ops.now) script.now evaluation → AreAll (transcripts_of run.report) run.report.waiting.items script.now.ranks evaluation) }
-{
-    run_sim_observed(rt, alloc, script, options, &mut Unobserved, ops)
-}
-
-/// The same run with the same error, at which somebody looks on: `observer` is told of each frame that is made and of each that came, of
-/// each rank's new lines, of each turn but the one that ends the run before its last, and once, in any case, that the run is over.
-pub fn run_sim_observed<R: Threads + Sync>(
-    rt: &R,
+///
+/// `observer` looks on: it is told of each frame that is made and of each that came, of each rank's new lines, of each turn but the one that ends
+/// the run before its last, and once, in any case, that the run is over. [`Unobserved`](crate::Unobserved) does nothing with it.
+pub fn run_sim<W: Workers>(
+    workers: &W,
     alloc: Global,
     script: &Script,
     options: &Options,
     observer: &mut dyn Observer,
     ops: &Ops,
 ) -> Result<Run, OutOfMemory>
-    requires { script.now.ranks + options.now.relays ≤ 64 }
+    requires may { W.may_work workers.now }
+    requires few { script.now.ranks + options.now.relays ≤ 64 }
     ensures run { IfOk result (λ run. IsRun (⟦<Ops as Listing>⟧.operations ops.now) script.now options.now.relays (map node_of run.nodes.items) (transcripts_of run.report) run.report.waiting.items) }
     ensures begins { IfOk result (λ run. (evaluation : State) → IsEvaluationOf (⟦<Ops as Listing>⟧.operations ops.now) script.now evaluation → Begin (transcripts_of run.report) evaluation) }
     ensures whole { IfOk result (λ run. (evaluation : State) → IsEvaluationOf (⟦<Ops as Listing>⟧.operations ops.now) script.now evaluation → AreWhole (transcripts_of run.report) run.report.waiting.items evaluation) }
@@ -95,7 +79,7 @@ pub fn run_sim_observed<R: Threads + Sync>(
     ensures ended { IfOk result (λ run. AllMadeOr run.turns options.now.turns (IsOver (⟦<Ops as Listing>⟧.operations ops.now) script.now options.now.relays options.now.loss (map node_of run.nodes.items) (transcripts_of run.report) run.report.waiting.items)) }
     ensures rests { IfOk result (λ run. run.turns < options.now.turns → options.now.loss < 100 → (evaluation : State) → IsEvaluationOf (⟦<Ops as Listing>⟧.operations ops.now) script.now evaluation → AreAll (transcripts_of run.report) run.report.waiting.items script.now.ranks evaluation) }
 {
-    let ran = simulate(rt, alloc, script, options, observer, ops);
+    let ran = simulate(workers, alloc, script, options, observer, ops);
     observer.over();
     let (processes, turns) = ran?;
     let ranks = script.ranks();

@@ -1,4 +1,4 @@
-//! What the processes of a run do side by side, each by itself, in threads.
+//! What the processes of a run do side by side, each by itself.
 ghost use Rattle.std.specs.Prelude.{◌≡◌, ◌<◌, All, OnOk, false, length, map};
 ghost use Rattle.mpx_num.specs.Own.{operation_of};
 ghost use Rattle.mpx_sim.specs.Shown.{process_of};
@@ -19,29 +19,61 @@ struct Lent<'a> {
     ops: &'a Ops,
 }
 
-/// Each process takes the frames among these that come to it in this turn, and goes on by itself then, where so many are ranks: in at most so
-/// many threads. For a turn behind this one, where there is one, each looks ahead. It answers whether one moved or dropped anything.
+/// A turn in which processes go on.
+#[derive(Drop)]
+pub struct Turn<'a> {
+    /// Its number.
+    pub(crate) number: u64,
+    /// The turn behind it, to which each process looks ahead, where there is one.
+    pub(crate) next: Option<u64>,
+    /// So many processes are ranks.
+    pub(crate) ranks: usize,
+    /// Among these are the frames that come in it.
+    pub(crate) frames: &'a [FrameUnderWay],
+}
+
+/// Each process takes the frames that come to it in this turn, and goes on by itself then: in at most so many threads. It answers whether one
+/// moved or dropped anything.
 pub(crate) fn go_on_all<R: Threads + Sync>(
     rt: &R,
     alloc: Global,
     threads: usize,
     processes: &mut [Process<'_>],
-    ranks: usize,
-    frames: &[FrameUnderWay],
-    turn: u64,
-    next: Option<u64>,
+    turn: &Turn<'_>,
     ops: &Ops,
 ) -> Result<bool, OutOfMemory>
     requires { AreReady processes.old }
-    ensures goes { OnOk result (AllGoOn (⟦<Ops as Listing>⟧.operations ops.now) ranks turn frames.now (map process_of processes.old) (map process_of processes.new)) }
+    ensures goes { OnOk result (AllGoOn (⟦<Ops as Listing>⟧.operations ops.now) turn.now.ranks turn.now.number turn.now.frames.now (map process_of processes.old) (map process_of processes.new)) }
     ensures ready { OnOk result (AreReady processes.new) }
 {
+    let (number, next) = (turn.number, turn.next);
+    let (ranks, frames) = (turn.ranks, turn.frames);
     let lent = &Lent { ops };
     let work = |place: usize, process: &mut Process<'_>|
         requires { IsReady process.now }
-        ensures { process.exit.now.notes.failed ≡ false → GoesOn (map (λ b. operation_of (word_bytes (b.vtable, b.value)) (fits_type (b.vtable, b.value)) (combination (b.vtable, b.value))) lent.entry.now.ops.now.list.items) ranks place (taken place turn frames.entry.now (process_of process.entry.now)) (process_of process.exit.now) × IsReady process.exit.now }
-    { process.take_and_go_on(alloc, place, ranks, frames, turn, next, lent.ops) };
+        ensures { process.exit.now.notes.failed ≡ false → GoesOn (map (λ b. operation_of (word_bytes (b.vtable, b.value)) (fits_type (b.vtable, b.value)) (combination (b.vtable, b.value))) lent.entry.now.ops.now.list.items) ranks place (taken place number frames.entry.now (process_of process.entry.now)) (process_of process.exit.now) × IsReady process.exit.now }
+    { process.take_and_go_on(alloc, place, ranks, frames, number, next, lent.ops) };
     for_each_share(rt, processes, threads, &work);
+    none_failed(processes)?;
+    Ok(one_changed(processes))
+}
+
+/// The same, one process after the other.
+pub(crate) fn go_on_in_turn(
+    alloc: Global,
+    processes: &mut [Process<'_>],
+    turn: &Turn<'_>,
+    ops: &Ops,
+) -> Result<bool, OutOfMemory>
+    requires { AreReady processes.old }
+    ensures goes { OnOk result (AllGoOn (⟦<Ops as Listing>⟧.operations ops.now) turn.now.ranks turn.now.number turn.now.frames.now (map process_of processes.old) (map process_of processes.new)) }
+    ensures ready { OnOk result (AreReady processes.new) }
+{
+    let (number, next) = (turn.number, turn.next);
+    let (ranks, frames) = (turn.ranks, turn.frames);
+    for place in 0..processes.len() {
+        processes[place].take_and_go_on(alloc, place, ranks, frames, number, next, ops);
+    }
     none_failed(processes)?;
     Ok(one_changed(processes))
 }

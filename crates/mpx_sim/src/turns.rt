@@ -14,45 +14,40 @@ ghost use Rattle.mpx_sim.specs.Turns.{Alone, Coming, FrameView, Moment};
 use crate::network::{Network, deliver, hand_out, keep_some, send_all};
 use crate::observer::{Observer, Progress};
 use crate::process::Process;
-use crate::side_by_side::{go_on_all, say_all};
+use crate::side_by_side::{Turn, say_all};
 use crate::start::start;
+use crate::workers::Workers;
 use join_core::{Exact, OutOfMemory};
 use mpx_num::{Listing, Ops};
 use mpx_script::Script;
 use mpx_statement::Options;
 use std::alloc::Global;
-use std::thread::{Threads, available_parallelism};
-
-// With fewer processes than this more than one thread doesn't pay.
-const FEW_PROCESSES: usize = 32;
-
-// A thread that isn't asked for pays with so many processes.
-const PROCESSES_OF_A_THREAD: usize = 8;
 
 /// The processes of a script's run after its last turn, and how many turns were made: all turns are used up, all ranks have
 /// finished, or no turn to come changes anything.
-pub(crate) fn simulate<'a, R: Threads + Sync>(
-    rt: &R,
+pub(crate) fn simulate<'a, W: Workers>(
+    workers: &W,
     alloc: Global,
     script: &'a Script,
     options: &Options,
     observer: &mut dyn Observer,
     ops: &Ops,
 ) -> Result<(Vec<Process<'a>>, u32), OutOfMemory>
-    requires { script.now.ranks + options.now.relays ≤ 64 }
+    requires may { W.may_work workers.now }
+    requires few { script.now.ranks + options.now.relays ≤ 64 }
     ensures run { IfOk result (λ ran. AreOfRun (⟦<Ops as Listing>⟧.operations ops.now) script.now options.now.relays options.now.seed options.now.loss ran.1 (map process_of ran.0.items)) }
     ensures ended { IfOk result (λ ran. AllMadeOr ran.1 options.now.turns (RestsBy options.now.loss script.now.ranks (map process_of ran.0.items))) }
 {
     let mut processes = start(alloc, script, options.relays, observer.follows_posts())?;
     let mut network = Network::new(alloc, options, processes.len())?;
     let plan = Plan {
-        workers: workers_of(rt, options, processes.len()),
+        workers: workers.count(options, processes.len()),
         ranks: usize::from(script.ranks()),
         statements: left_of(&processes),
         turns: options.turns,
         in_order: observer.follows_frames(),
     };
-    let mut changed = first(rt, alloc, &plan, &mut processes, observer, ops)?;
+    let mut changed = first(workers, alloc, &plan, &mut processes, observer, ops)?;
     for number in 0..options.turns {
         let over = is_over(alloc, &mut processes, plan.ranks, changed, &network, ops)?;
         if over {
@@ -61,7 +56,7 @@ pub(crate) fn simulate<'a, R: Threads + Sync>(
         exchange(alloc, &plan, &mut processes, &mut network, number, observer)?;
         observer.turn(number + 1, progress(&processes, &plan));
         changed = go_further(
-            rt,
+            workers,
             alloc,
             &plan,
             &mut processes,
@@ -74,7 +69,7 @@ pub(crate) fn simulate<'a, R: Threads + Sync>(
     Ok((processes, options.turns))
 }
 
-// How a run is made: in so many threads, with so many ranks, so many statements in all and so many turns at most; and whether frames come one after
+// How a run is made: by so many workers, with so many ranks, so many statements in all and so many turns at most; and whether frames come one after
 // the other, in their order.
 #[derive(Drop)]
 struct Plan {
@@ -100,34 +95,16 @@ impl Plan {
     }
 }
 
-// In how many threads processes work side by side.
-fn workers_of<R: Threads>(rt: &R, options: &Options, processes: usize) -> usize
-    ensures { 0 < result }
-{
-    if let Some(workers) = options.workers {
-        return usize::from(workers).max(1);
-    }
-    if processes < FEW_PROCESSES {
-        return 1;
-    }
-    match available_parallelism(rt) {
-        Ok(processors) => processors
-            .get()
-            .min(processes / PROCESSES_OF_A_THREAD)
-            .max(1),
-        Err(_) => 1,
-    }
-}
-
 // Each process goes on by itself before the first turn, where there is one, and looks ahead to it. It answers whether one moved or dropped anything.
-fn first<R: Threads + Sync>(
-    rt: &R,
+fn first<W: Workers>(
+    workers: &W,
     alloc: Global,
     plan: &Plan,
     processes: &mut [Process<'_>],
     observer: &mut dyn Observer,
     ops: &Ops,
 ) -> Result<bool, OutOfMemory>
+    requires may { W.may_work workers.now }
     requires count { plan.now.ranks ≤ length processes.old }
     requires ready { AreReady processes.old }
     ensures run { OnOk result ((script : Statements) (ranks size : ℕ) (begun : Moment) (frames : List FrameView) → plan.now.ranks ≤ ranks → IsUnderWay (⟦<Ops as Listing>⟧.operations ops.now) script ranks size begun Alone (map process_of processes.old) frames
@@ -137,8 +114,13 @@ fn first<R: Threads + Sync>(
     if plan.turns == 0 {
         return Ok(false);
     }
-    let (workers, ranks, next) = (plan.workers, plan.ranks, plan.ahead(0));
-    let changed = go_on_all(rt, alloc, workers, processes, ranks, &[], 0, next, ops)?;
+    let at = Turn {
+        number: 0,
+        next: plan.ahead(0),
+        ranks: plan.ranks,
+        frames: &[],
+    };
+    let changed = workers.have_go_on(alloc, plan.workers, processes, &at, ops)?;
     tell_more(processes, plan.ranks, 0, observer);
     Ok(changed)
 }
@@ -171,8 +153,8 @@ fn exchange(
 
 // Where a turn is made behind this one, each process takes the frames that still come to it, and goes on by itself then; one in four of the frames
 // comes again. It answers whether one moved or dropped anything.
-fn go_further<R: Threads + Sync>(
-    rt: &R,
+fn go_further<W: Workers>(
+    workers: &W,
     alloc: Global,
     plan: &Plan,
     processes: &mut [Process<'_>],
@@ -181,6 +163,7 @@ fn go_further<R: Threads + Sync>(
     observer: &mut dyn Observer,
     ops: &Ops,
 ) -> Result<bool, OutOfMemory>
+    requires may { W.may_work workers.now }
     requires count { plan.now.ranks ≤ length processes.old }
     requires ready { AreReady processes.old }
     requires came { (plan.now.in_order ≡ true) ⊎ (plan.now.turns ≤ number + 1) → HaveCome number (frames_of network.old) (map process_of processes.old) }
@@ -194,11 +177,14 @@ fn go_further<R: Threads + Sync>(
         return Ok(false);
     }
     let turn = u64::from(number);
-    let (workers, next) = (plan.workers, plan.ahead(turn.saturating_add(1)));
     let coming = network.coming(plan.in_order);
-    let changed = go_on_all(
-        rt, alloc, workers, processes, plan.ranks, coming, turn, next, ops,
-    )?;
+    let at = Turn {
+        number: turn,
+        next: plan.ahead(turn.saturating_add(1)),
+        ranks: plan.ranks,
+        frames: coming,
+    };
+    let changed = workers.have_go_on(alloc, plan.workers, processes, &at, ops)?;
     keep_some(network, turn);
     hand_out(processes, &mut network.spare);
     tell_more(processes, plan.ranks, number.saturating_add(1), observer);

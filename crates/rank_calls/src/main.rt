@@ -1,7 +1,11 @@
 //! The program `rank_calls`: two ranks make calls of each sort, some of them of more than 4,096 items, and say what these gave.
 #![tactic(auto)]
 
+mod comms;
+mod counts;
+mod later;
 mod long;
+mod neighbours;
 mod short;
 
 use mpx_job::{RankProgram, job, print_answers};
@@ -21,8 +25,19 @@ impl RankProgram for RankCalls {
         let short = short::calls(rank)?;
         let later = short::calls_without_waiting(rank)?;
         let long = long::calls(rank)?;
-        Ok(format!(in rank.alloc; "{short} {later} {long:?}")?)
+        let others = others(rank)?;
+        Ok(format!(in rank.alloc; "{short} {later} {long:?}{others}")?)
     }
+}
+
+// What the other calls give, in a line each.
+fn others<H: Host>(rank: &mut Rank<'_, H>) -> Result<String, CallError> {
+    let counts = counts::calls(rank)?;
+    let later = later::calls(rank)?;
+    let neighbours = neighbours::calls(rank)?;
+    let comms = comms::calls(rank)?;
+    let errors = comms::errors(rank)?;
+    Ok(format!(in rank.alloc; "\n  {counts}\n  {later}\n  {neighbours}\n  {comms}\n  {errors}")?)
 }
 
 fn main(rt: HostRuntime) -> Result<ExitCode, RanksError> {

@@ -19,8 +19,8 @@ returns-clause-goes g c =
           let q = mapped_at process_of new place w b in
           let k = changed_at _ _ old new c.for_each_share.ensures place p.0 q.0 p.1 q.1 in
           let sound : q.0.notes.failed ≡ false = all_at (λ (x : Process). x.notes.failed ≡ false) new place q.0 q.1 c.in_ok-none_failed.ensures in
-          goes_same _ c.args.ranks place (taken place c.args.turn c.args.frames.now v) (taken place c.args.turn c.args.frames.now (process_of k.argument.now)) w (process_of k.after_call.now)
-          (ap (λ x. taken place c.args.turn c.args.frames.now (process_of x)) k.argument_is ∙ ap (taken place c.args.turn c.args.frames.now) p.2) (ap process_of k.left ∙ q.2) (k.call (ap (λ (x : Process). x.notes.failed) k.left ∙ sound)).0,
+          goes_same _ c.args.turn.now.ranks place (taken place c.args.turn.now.number c.args.turn.now.frames.now v) (taken place c.args.turn.now.number c.args.turn.now.frames.now (process_of k.argument.now)) w (process_of k.after_call.now)
+          (ap (λ x. taken place c.args.turn.now.number c.args.turn.now.frames.now (process_of x)) k.argument_is ∙ ap (taken place c.args.turn.now.number c.args.turn.now.frames.now) p.2) (ap process_of k.left ∙ q.2) (k.call (ap (λ (x : Process). x.notes.failed) k.left ∙ sound)).0,
     )
 
 pub returns-clause-ready : goal.returns-clause-ready

@@ -9,5 +9,5 @@ use Rattle.mpx_sim.proofs.turns.first.Goals as goal
 pub returns-clause-run : goal.returns-clause-run
 returns-clause-run g c script ranks size begun frames few run =
     let old = map process_of c.args.processes.now in
-    run_gone _ c.args.plan.now.ranks zero [] old (map process_of c.go_on_all.new.processes) c.in_ok-changed.ensures.goes script ranks size begun frames few
+    run_gone _ c.args.plan.now.ranks zero [] old (map process_of c.have_go_on.new.processes) c.in_ok-changed.ensures.goes script ranks size begun frames few
     (run_same _ script ranks size begun Alone old (all_taken zero zero [] old) frames frames (sym (none_taken zero zero old)) refl run)

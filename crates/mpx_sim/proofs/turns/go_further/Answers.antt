@@ -39,7 +39,7 @@ returns-clause-run g c script ranks size begun few run =
     let come = run_come _ script ranks size begun number t all turn before fs refl some old run in
     let next : Moment = next_moment _ script ranks size begun number t now all come in
     let begins = run_begins _ script ranks size begun number t now all come in
-    let gone = run_gone _ c.args.plan.now.ranks turn fs old (map process_of c.go_on_all.new.processes) c.in_ok-changed.ensures.goes script ranks size next next.frames few begins in
+    let gone = run_gone _ c.args.plan.now.ranks turn fs old (map process_of c.have_go_on.new.processes) c.in_ok-changed.ensures.goes script ranks size next next.frames few begins in
     record {
       next = next;
       turn_is = run_turned _ script ranks size begun number t now all come came;

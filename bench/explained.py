@@ -2,7 +2,7 @@
 """Holds what `--explain` tells of random scripts against bench/reference.py: who waits, at which line, for whose posts, which calls are refused or
 are faults, and what is said of them.
 
-    bench/waits.py PROGRAM MANY [FIRST]     the MANY scripts from FIRST (1) on of bench/reference.py that are read
+    bench/explained.py PROGRAM MANY [FIRST]     the MANY scripts from FIRST (1) on of bench/reference.py that are read
 
 Each script is evaluated, run with few turns and with every frame lost, and run in threads with few turns. Where a run ends early, each rank's
 lines tell how far it has come. What its board holds is read from `--trace`, which tells the calls and posts that a process has; in threads that
@@ -16,7 +16,10 @@ import sys
 sys.dont_write_bytecode = True
 import reference
 
-HERE, THERE, NOBODY, CALLS = "in the evaluation ranks wait here:", "in the evaluation these ranks wait there too", "in the evaluation nobody waits", "in the evaluation:"
+HERE, THERE, CALLS = "in the evaluation ranks wait here:", "in the evaluation these ranks wait there too", "in the evaluation:"
+# What would let all ranks finish, by how the line begins that says why a run ended early.
+FINISH = {"turns used up: ": "with more turns all ranks would finish", "every frame was lost": "with a loss under 100 all ranks would finish",
+          "whether they wait in every run isn't known": "the script lets all ranks finish"}
 SERVED = "all posts have come, and the run ended before it went on"
 
 
@@ -52,7 +55,7 @@ class Script:
         """Where a rank is. It has closed the communicator only where its free comes before this call."""
         if end.is_closed(rank, name) and len(end.posts[name, rank]) <= call:
             return "closed"
-        return "line %d" % self.line(rank, self.at(end, rank)) if rank in end.waiting else "finished"
+        return "at line %d" % self.line(rank, self.at(end, rank)) if rank in end.waiting else "finished"
 
     def awaited(self, end, rank):
         """The calls for which a rank waits whose rows aren't whole by its own lines' end: the request or None, and the call."""
@@ -66,7 +69,7 @@ class Script:
         name, members, graph, k, target, statement = made
         at, start = self.at(end, rank), self.words(rank, statement)
         what = start if request is None else "%s %s, for %s of line %d" % (self.todo[rank][at][0], request, start, self.line(rank, statement))
-        return "rank %d, line %d: %s, call %d: no post of %s" % (rank, self.line(rank, at), what, k, self.named(end, name, k, missing))
+        return "rank %d, line %d: %s, call %d: waits for %s" % (rank, self.line(rank, at), what, k, self.named(end, name, k, missing))
 
     def named(self, end, name, call, missing):
         """Ranks and where they stand, of more than two in a row at one place the first and the last."""
@@ -80,7 +83,7 @@ class Script:
         parts = []
         for row in rows:
             where = self.where(end, row[0], name, call)
-            parts += ["%d (%s)" % (q, where) for q in row] if len(row) < 3 else ["%d to %d (%s)" % (row[0], row[-1], where)]
+            parts += ["rank %d (%s)" % (q, where) for q in row] if len(row) < 3 else ["ranks %d to %d (%s)" % (row[0], row[-1], where)]
         return ", ".join(parts)
 
     def waits(self, end, holds):
@@ -133,7 +136,7 @@ def is_said_rightly(script, end, rank, place, text, said):
     many = re.match(r"(COUNT|SCOUNT|RCOUNT|SCOUNTS|RCOUNTS) (is|has) (-?\d+), counts go from 0 to 4096$", said)
     if text == "refused TooManyItems" and many:
         return not 0 <= int(many[3]) <= 4096 and int(many[3]) in call["scounts"] + call["rcounts"], True
-    items = re.match(r"gave (\d+) items?(,|;|$)", said)
+    items = re.match(r"gave (\d+) items?([,;]|$)", said)
     if text == "refused ItemsLength" and items:
         return int(items[1]) == len(call["items"]) // (2 if call["ty"] == "2int" else 1), True
     outside = re.match(r"(-?\d+) is outside (\w+)$", said)
@@ -241,7 +244,7 @@ class Held:
         end = reference.End(script.todo)
         waits = script.waits(end, script.posted(end))
         if end.waiting:
-            self.same(seed, words, "who waits", ["waiting: " + " ".join(map(str, end.waiting)), "these ranks wait in every run"], err[:2])
+            self.same(seed, words, "who waits", ["waiting: " + " ".join(map(str, end.waiting)), "deadlock: these ranks wait whatever the network does"], err[:2])
             err = err[2:]
         self.same(seed, words, "waits of evaluations", waits, err[:len(waits)])
         self.calls(seed, words, script, end, err[len(waits):])
@@ -252,7 +255,8 @@ class Held:
         out, err = self.told(script.data, *words)
         at = next((i for i, line in enumerate(err) if not line.startswith("turn ")), len(err))
         trace, err = err[:at], err[at:]
-        if err[1:2] not in (["every frame was lost"], ["whether they wait in every run isn't known"]) and not (err[1:2] and err[1].startswith("turns used up")):
+        finish = next((text for begins, text in FINISH.items() if err[1:2] and err[1].startswith(begins)), None)
+        if not finish:
             self.counts["runs that ended"] += 1
             return
         self.counts["runs that ended early"] += 1
@@ -260,7 +264,7 @@ class Held:
         most = [sum(line.startswith("%d: " % rank) for line in printed) for rank in range(len(script.todo))]
         end = reference.End(script.todo, most)
         self.same(seed, words, "who waits early", ["waiting: " + " ".join(map(str, end.waiting))], err[:1])
-        marks = [i for i, line in enumerate(err) if line in (HERE, THERE, NOBODY, CALLS)] + [len(err)]
+        marks = [i for i, line in enumerate(err) if line in (HERE, THERE, finish, CALLS)] + [len(err)]
         here = err[2:marks[0]]
         if threads:
             self.places(seed, words, script, end, here)
@@ -268,7 +272,7 @@ class Held:
             held, text = boards(trace), lambda name: "world" + "".join(map(step_text, name))
             holds = lambda rank, name, call: [rank] * (len(end.posts.get((name, rank), [])) > call) + held[rank].get((text(name), call), [])
             self.same(seed, words, "waits of runs", script.waits(end, holds), here)
-        wanted = [NOBODY] if not there else [THERE] if there == here else [HERE, *there]
+        wanted = [finish] if not there else [THERE] if there == here else [HERE, *there]
         self.same(seed, words, "waits of evaluations behind runs", wanted, err[marks[0]:marks[0] + len(wanted)])
         rest = err[marks[0] + len(wanted):]
         if rest and rest[0] != CALLS:
@@ -285,7 +289,7 @@ class Held:
             begins = [it for it in may.get(rank, []) if line.startswith(it)]
             if line != served and not begins:
                 self.differ(seed, words, "a wait in threads", may.get(rank), line)
-            for first, last, where in re.findall(r"(\d+)(?: to (\d+))? \(([^)]*)\)", line.split("no post of ")[-1]) if begins else []:
+            for first, last, where in re.findall(r"ranks? (\d+)(?: to (\d+))? \(([^)]*)\)", line.split(": waits for ")[-1]) if begins else []:
                 for q in range(int(first), int(last or first) + 1):
                     ours = {script.where(end, q, made[0], made[3]) for _, made in script.awaited(end, rank)}
                     if where not in ours:

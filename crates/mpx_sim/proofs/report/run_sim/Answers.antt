@@ -6,7 +6,7 @@ use Rattle.mpx_sim.specs.Running.{ProcessView}
 use Rattle.mpx_sim.specs.Shown.{process_of}
 use Rattle.mpx_system.proofs.Results.{map_taken}
 use Rattle.mpx_sim.proofs.Results.{all_said, begin_said, is_after, over_said, run_said, whole_said}
-use Rattle.mpx_sim.proofs.report.run_sim_observed.Goals as goal
+use Rattle.mpx_sim.proofs.report.run_sim.Goals as goal
 
 pub returns-in-Ok-clause-run : goal.returns-in-Ok-clause-run
 returns-in-Ok-clause-run g c =
