@@ -45,8 +45,8 @@ loop-nth-preserved g c =
     let behind : c.in-Some.left.text.items ≡ without_refused (reading ops rest) rest = subst (λ (o : Option LeftText). IfSome o (λ it. it.text.items ≡ without_refused (reading ops rest) rest)) c.in-Some.is c.in_ok-left.ensures.left in
     record {
       rest = left_more ops c.args.text.now n rest c.in-Some.left.text.items left behind;
-      each = lines_more ops c.args.text.now n many c.with_one.result passed rest c.args.told.now.items had new left c.loop-nth.invariant.each c.with_one.ensures line;
-      most = most_more passed many c.with_one.result (omega (arith, c.loop-nth.invariant.most, c.if-many.false)) c.with_one.ensures;
+      each = lines_more ops c.args.text.now n many c.with_one-many.result passed rest c.args.told.now.items had new left c.loop-nth.invariant.each c.with_one-many.ensures line;
+      most = most_more passed many c.with_one-many.result (omega (arith, c.loop-nth.invariant.most, c.if-many.false)) c.with_one-many.ensures;
     }
 
 pub returns-then-many-eq-MOST_LINES : goal.returns-then-many-eq-MOST_LINES
@@ -55,11 +55,11 @@ returns-then-many-eq-MOST_LINES g c =
     let n = c.loop-nth.nth in
     let many = c.loop-nth.many in
     let had = c.loop-nth.told.items in
-    let new = c.push_whether_more-in-loop-nth.new.told.items in
-    let rest = c.deref-then-many-eq-MOST_LINES.result.now in
+    let new = c.push_whether_more.new.told.items in
+    let rest = c.deref.result.now in
     record {
-      keeps = further_keep ops c.args.text.now n many rest c.args.told.now.items had new c.push_whether_more-in-loop-nth.result c.loop-nth.invariant.each c.push_whether_more-in-loop-nth.ensures.told c.push_whether_more-in-loop-nth.ensures.err;
-      told = further_told ops c.args.text.now n many rest c.args.told.now.items had new c.push_whether_more-in-loop-nth.result (c.deref-then-many-eq-MOST_LINES.ensures.value ∙ c.loop-nth.invariant.rest) (omega (arith, c.loop-nth-test.true)) c.loop-nth.invariant.most (inl (omega (arith, c.if-many-eq-MOST_LINES.true))) c.loop-nth.invariant.each c.push_whether_more-in-loop-nth.ensures.told;
+      keeps = further_keep ops c.args.text.now n many rest c.args.told.now.items had new c.push_whether_more.result c.loop-nth.invariant.each c.push_whether_more.ensures.told c.push_whether_more.ensures.err;
+      told = further_told ops c.args.text.now n many rest c.args.told.now.items had new c.push_whether_more.result (c.deref.ensures.value ∙ c.loop-nth.invariant.rest) (omega (arith, c.loop-nth-test.true)) c.loop-nth.invariant.most (inl (omega (arith, c.if-many-eq-MOST_LINES.true))) c.loop-nth.invariant.each c.push_whether_more.ensures.told;
     }
 
 pub returns : goal.returns
@@ -68,9 +68,9 @@ returns g c =
     let n = c.loop-nth.nth in
     let many = c.loop-nth.many in
     let had = c.loop-nth.told.items in
-    let new = c.push_whether_more.new.told.items in
-    let rest = c.deref.result.now in
+    let new = c.push_whether_more-2.new.told.items in
+    let rest = c.deref-2.result.now in
     record {
-      keeps = further_keep ops c.args.text.now n many rest c.args.told.now.items had new c.push_whether_more.result c.loop-nth.invariant.each c.push_whether_more.ensures.told c.push_whether_more.ensures.err;
-      told = further_told ops c.args.text.now n many rest c.args.told.now.items had new c.push_whether_more.result (c.deref.ensures.value ∙ c.loop-nth.invariant.rest) (omega (arith, c.loop-nth-test.false, c.loop-nth.auto.nth-end)) c.loop-nth.invariant.most (inr (omega (arith, c.loop-nth-test.false, c.loop-nth.auto.nth-end))) c.loop-nth.invariant.each c.push_whether_more.ensures.told;
+      keeps = further_keep ops c.args.text.now n many rest c.args.told.now.items had new c.push_whether_more-2.result c.loop-nth.invariant.each c.push_whether_more-2.ensures.told c.push_whether_more-2.ensures.err;
+      told = further_told ops c.args.text.now n many rest c.args.told.now.items had new c.push_whether_more-2.result (c.deref-2.ensures.value ∙ c.loop-nth.invariant.rest) (omega (arith, c.loop-nth-test.false, c.loop-nth.auto.nth-end)) c.loop-nth.invariant.most (inr (omega (arith, c.loop-nth-test.false, c.loop-nth.auto.nth-end))) c.loop-nth.invariant.each c.push_whether_more-2.ensures.told;
     }
