@@ -20,7 +20,7 @@ HERE, THERE, CALLS = "in the evaluation ranks wait here:", "in the evaluation th
 # What would let all ranks finish, by how the line begins that says why a run ended early.
 FINISH = {"turns used up: ": "with more turns all ranks would finish", "every frame was lost": "with a loss under 100 all ranks would finish",
           "whether they wait in every run isn't known": "the script lets all ranks finish"}
-SERVED = "all posts have come, and the run ended before it went on"
+SERVED, UNMADE = "all posts have come, and the run ended before it went on", "the run ended before this line"
 
 
 def lines_of_ranks(data, n):
@@ -136,7 +136,7 @@ def is_said_rightly(script, end, rank, place, text, said):
     many = re.match(r"(COUNT|SCOUNT|RCOUNT|SCOUNTS|RCOUNTS) (is|has) (-?\d+), counts go from 0 to 4096$", said)
     if text == "refused TooManyItems" and many:
         return not 0 <= int(many[3]) <= 4096 and int(many[3]) in call["scounts"] + call["rcounts"], True
-    items = re.match(r"gave (\d+) items?([,;]|$)", said)
+    items = re.match(r"gave (\d+) items?(,|;|$)", said)
     if text == "refused ItemsLength" and items:
         return int(items[1]) == len(call["items"]) // (2 if call["ty"] == "2int" else 1), True
     outside = re.match(r"(-?\d+) is outside (\w+)$", said)
@@ -285,9 +285,9 @@ class Held:
         for line in here:
             self.counts["waits of threads"] += 1
             rank = int((re.match(r"rank (\d+), ", line) or [0, -1])[1])
-            served = rank in end.waiting and "rank %d, line %d: %s" % (rank, script.line(rank, script.at(end, rank)), SERVED)
+            ended = ["rank %d, line %d: %s" % (rank, script.line(rank, script.at(end, rank)), it) for it in (SERVED, UNMADE) if rank in end.waiting]
             begins = [it for it in may.get(rank, []) if line.startswith(it)]
-            if line != served and not begins:
+            if line not in ended and not begins:
                 self.differ(seed, words, "a wait in threads", may.get(rank), line)
             for first, last, where in re.findall(r"ranks? (\d+)(?: to (\d+))? \(([^)]*)\)", line.split(": waits for ")[-1]) if begins else []:
                 for q in range(int(first), int(last or first) + 1):

@@ -1,4 +1,3 @@
 pub mod Gives
 pub mod Lengths
-pub mod Pairs
 pub mod Waiting

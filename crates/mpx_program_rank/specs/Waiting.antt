@@ -1,5 +1,5 @@
 -- What a rank's waits and tests answer, of what its desk's answer.
-use Rattle.std.specs.Prelude.{◌≡◌, ℕ, ℤ, List, Option, Some, None, Result, Ok, Err, Vec}
+use Rattle.std.specs.Prelude.{◌≡◌, ◌≢◌, ℕ, ℤ, List, [], Option, Some, None, Result, Ok, Err, Vec}
 use Rattle.std.specs.declared.alloc.Global.{Global}
 use Rattle.std.specs.declared.alloc.AllocFailed.{AllocFailed}
 use Rattle.join_core.specs.declared.memory.OutOfMemory.{OutOfMemory as NoMemoryView}
@@ -14,7 +14,7 @@ use Rattle.mpx_request.specs.declared.answers.WaitError.{WaitError}
 use Rattle.mpx_request.specs.declared.answers.WaitError.TheVariants as W
 use Rattle.mpx_request.specs.declared.request.Request.{Request}
 use Rattle.mpx_request.specs.Requests.{Tests, TestsAny, Waits}
-use Rattle.mpx_request.specs.Any.{WaitsAny}
+use Rattle.mpx_request.specs.Any.{TestsSome, WaitsAny}
 use Rattle.mpx_request.specs.Turns.{MakesTurns}
 use Rattle.mpx_comm.specs.declared.desk.Desk.{Desk}
 use Rattle.mpx_comm.specs.Given.{numbers_given}
@@ -114,3 +114,17 @@ abbrev pub AnyGives : {H : Type 0} {g : _} → (ops_of : H → List Operation) �
 AnyGives {H} {g} ops_of node turned refused result old new =
     (between : Desk H g) × (turn : Result (Unit {0}) TurnError) × (answer : Result (Option (Request × Finished)) NoMemoryView) × TurnsOnce turned refused turn old between
     × turned between.host 0 new.host × TestsAny (ops_of between.host) answer (node between.host) (node new.host) between.requests.keys new.requests.keys × IsAny turn answer result
+
+-- what a test of all open calls says of those that are done. It says that there is none only where the turn was made
+abbrev pub IsSome : Result (Unit {0}) TurnError → Result (Vec (Request × Finished) Global) NoMemoryView → Result (Vec (Request × Finished) Global) CallError → Type 0
+IsSome (Ok u) (Ok done) (Ok list) = list ≡ done
+IsSome (Err why) (Ok done) (Ok list) = (list ≡ done) × (done.items ≢ [])
+IsSome (Err why) (Ok done) (Err e) = (done.items ≡ []) × (turn_error e.cause ≡ Some why)
+IsSome turn (Err none) (Err e) = e.cause ≡ OutOfMemory
+IsSome turn answer result = ⊥
+
+-- one turn, and then a test of all open calls for those that are done
+abbrev pub SomeGives : {H : Type 0} {g : _} → (ops_of : H → List Operation) → (node : H → NodeView) → (turned : H → ℕ → H → Type 0) → (refused : H → TurnError → H → Type 0) → Result (Vec (Request × Finished) Global) CallError → (old new : Desk H g) → Type 0
+SomeGives {H} {g} ops_of node turned refused result old new =
+    (between : Desk H g) × (turn : Result (Unit {0}) TurnError) × (answer : Result (Vec (Request × Finished) Global) NoMemoryView) × TurnsOnce turned refused turn old between
+    × turned between.host 0 new.host × TestsSome (ops_of between.host) answer (node between.host) (node new.host) between.requests.keys new.requests.keys × IsSome turn answer result

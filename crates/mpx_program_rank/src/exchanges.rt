@@ -1,15 +1,16 @@
 //! The calls by which every rank gets items of all.
-ghost use Rattle.std.specs.Prelude.{◌≡◌, ◌≤◌, [], length, map, pos};
+ghost use Rattle.std.specs.Prelude.{◌≡◌, ◌<◌, ◌≤◌, [], length, map, pos};
 ghost use Rattle.mpx_kind.specs.declared.kinds.Mode.TheVariants.{Blocking, Nonblocking};
 ghost use Rattle.mpx_comm.specs.Lines as line;
-ghost use Rattle.mpx_program_rank.specs.Lengths.{block_of};
+ghost use Rattle.mpx_program_rank.specs.Lengths.{GivesInParts, block_of};
 ghost use Rattle.mpx_program_rank.specs.Gives.{Gives, IsRead, Starts};
 
 use crate::call_error::CallError;
-use crate::item::Item;
+use crate::lengths::{Parted, block};
 use crate::pending::Pending;
 use crate::rank::Rank;
 use crate::reading::{Made, number_of};
+use mpx_call::Item;
 use mpx_comm::{Comm, Host};
 use mpx_num::{MOST_ITEMS, Ops};
 
@@ -18,13 +19,14 @@ impl<'a, H: Host> Rank<'a, H> {
     /// `MPI_ALLGATHER`: every rank gets what all ranks give, in rank order.
     pub fn allgather<T: Item>(&mut self, comm: &Comm, items: &[T]) -> Result<Vec<T>, CallError>
         ensures gives { length items.now ≤ 4096 → Gives (H.goes_by self.old.desk.now.host []) H.node H.turned H.turn_refused comm.now.name (line.allgather Blocking T.ty (T.numbers items.now)) self.old.turns (IsRead T.numbers) result self.old.desk.now self.new.desk.now }
+        ensures parts { 4096 < length items.now → GivesInParts (λ host. H.goes_by host []) H.node H.turned H.turn_refused comm.now.name (λ count part. line.allgather Blocking T.ty (T.numbers part)) T.numbers self.old.turns 4096 1 comm.now.size (length items.now) items.now result self.old.desk.now self.new.desk.now }
         ensures same { self.new.desk.ghost_name ≡ self.old.desk.ghost_name }
         ensures kept { (self.new.world ≡ self.old.world) × (self.new.turns ≡ self.old.turns) }
     {
         if items.len() <= MOST_ITEMS {
             return self.one_allgather(comm, items);
         }
-        self.long_allgather(comm, items)
+        self.in_parts(Parted::Allgather, comm, items.len(), items)
     }
 
     // [`Rank::allgather`] in one call.
@@ -117,13 +119,14 @@ impl<'a, H: Host> Rank<'a, H> {
         items: &[T],
     ) -> Result<Vec<T>, CallError>
         ensures gives { count ≤ block_of comm.now.size → Gives (H.goes_by self.old.desk.now.host []) H.node H.turned H.turn_refused comm.now.name (line.alltoall Blocking T.ty (pos count) (T.numbers items.now)) self.old.turns (IsRead T.numbers) result self.old.desk.now self.new.desk.now }
+        ensures parts { block_of comm.now.size < count → GivesInParts (λ host. H.goes_by host []) H.node H.turned H.turn_refused comm.now.name (λ count part. line.alltoall Blocking T.ty (pos count) (T.numbers part)) T.numbers self.old.turns (block_of comm.now.size) comm.now.size comm.now.size count items.now result self.old.desk.now self.new.desk.now }
         ensures same { self.new.desk.ghost_name ≡ self.old.desk.ghost_name }
         ensures kept { (self.new.world ≡ self.old.world) × (self.new.turns ≡ self.old.turns) }
     {
-        if count <= self.block(comm) {
+        if count <= block(comm) {
             return self.one_alltoall(comm, count, items);
         }
-        self.long_alltoall(comm, count, items)
+        self.in_parts(Parted::Alltoall, comm, count, items)
     }
 
     // [`Rank::alltoall`] in one call.

@@ -2,23 +2,27 @@
 //!
 //! Before these calls the ranks say how many items they give, by an `allgather`. Where the numbers differ, each rank gets the fault that one call
 //! would give, and none goes on by itself. A rank whose items fit into one call makes that call, which then meets the `allgather`: a fault too.
-ghost use Rattle.std.specs.Prelude.{◌≡◌, [], OnOk};
+ghost use Rattle.std.specs.Prelude.{◌≡◌, ◌<◌, ◌*◌, [], OnOk};
 ghost use Rattle.mpx_program_rank.specs.Gives.{Gives, IsRead};
-ghost use Rattle.mpx_program_rank.specs.Lengths.{GivesInParts, HaveAgreed, block_of, part_line};
+ghost use Rattle.mpx_program_rank.specs.Lengths.{GivesInParts, HaveAgreed, at_root, block_of, blocks_given, blocks_got, most_of, part_line};
 
 use crate::call_error::{CallError, Cause};
-use crate::item::Item;
 use crate::rank::Rank;
 use crate::reading::Made;
+use mpx_call::{Item, cut, put_together};
 use mpx_comm::{Comm, Host};
 use mpx_match::{Fault, FaultKind};
 use mpx_num::{MOST_ITEMS, Op};
 use mpx_post::PostError;
-use std::alloc::Global;
 
 /// A call that is made in parts, with what it is given besides items.
 #[derive(Clone, Copy)]
 pub(crate) enum Parted {
+    Bcast(u8),
+    Gather(u8),
+    Allgather,
+    Scatter(u8),
+    Alltoall,
     Reduce(u8, Op),
     Allreduce(Op),
     Scan(Op),
@@ -29,173 +33,122 @@ impl Parted {
     // Its name in MPI.
     fn name(self) -> &'static str {
         match self {
+            Parted::Bcast(_) => "bcast",
+            Parted::Gather(_) => "gather",
+            Parted::Allgather => "allgather",
+            Parted::Scatter(_) => "scatter",
+            Parted::Alltoall => "alltoall",
             Parted::Reduce(_, _) => "reduce",
             Parted::Allreduce(_) => "allreduce",
             Parted::Scan(_) => "scan",
             Parted::Exscan(_) => "exscan",
         }
     }
+
+    // How many items of a block one call takes.
+    fn most(self, comm: &Comm) -> usize
+        ensures most { result ≡ most_of self comm.now.size }
+        ensures some { 0 < result }
+    {
+        match self {
+            Parted::Scatter(_) | Parted::Alltoall => block(comm),
+            _ => MOST_ITEMS,
+        }
+    }
+
+    // How many blocks this rank gives.
+    fn gives(self, comm: &Comm) -> usize
+        ensures { result ≡ blocks_given self comm.now.rank comm.now.size }
+    {
+        match self {
+            Parted::Bcast(root) => at_root(comm, root, 1),
+            Parted::Scatter(root) => at_root(comm, root, usize::from(comm.size())),
+            Parted::Alltoall => usize::from(comm.size()),
+            _ => 1,
+        }
+    }
+
+    // How many blocks a rank gets.
+    fn gets(self, comm: &Comm) -> usize
+        ensures { result ≡ blocks_got self comm.now.size }
+    {
+        match self {
+            Parted::Gather(_) | Parted::Allgather | Parted::Alltoall => usize::from(comm.size()),
+            _ => 1,
+        }
+    }
+}
+
+/// How many items for each rank one call takes.
+pub(crate) fn block(comm: &Comm) -> usize
+    ensures most { result ≡ block_of comm.now.size }
+    ensures some { 0 < result }
+{
+    let size = usize::from(comm.size());
+    if size == 0 {
+        return MOST_ITEMS;
+    }
+    MOST_ITEMS / size
+}
+
+// So many blocks at the root, and none elsewhere.
+fn at_root(comm: &Comm, root: u8, blocks: usize) -> usize
+    ensures { result ≡ at_root comm.now.rank root blocks }
+{
+    if comm.rank() == root { blocks } else { 0 }
 }
 
 impl<'a, H: Host> Rank<'a, H> {
-    /// How many items for each rank one call takes.
-    pub(crate) fn block(&self, comm: &Comm) -> usize
-        ensures { result ≡ block_of comm.now.size }
-    {
-        let size = usize::from(comm.size());
-        if size == 0 {
-            return MOST_ITEMS;
-        }
-        MOST_ITEMS / size
-    }
-
-    /// Joins what the calls of all blocks give.
+    /// A call of blocks of `count` items, in parts.
     pub(crate) fn in_parts<T: Item>(
         &mut self,
         call: Parted,
         comm: &Comm,
+        count: usize,
         items: &[T],
     ) -> Result<Vec<T>, CallError>
-        ensures gives { GivesInParts (λ host. H.goes_by host []) H.node H.turned H.turn_refused comm.now.name (λ part. part_line call T.ty (T.numbers part)) T.numbers self.old.turns items.now result self.old.desk.now self.new.desk.now }
+        ensures gives { GivesInParts (λ host. H.goes_by host []) H.node H.turned H.turn_refused comm.now.name (λ count part. part_line call T.ty count (T.numbers part)) T.numbers self.old.turns (most_of call comm.now.size) (blocks_given call comm.now.rank comm.now.size) (blocks_got call comm.now.size) count items.now result self.old.desk.now self.new.desk.now }
         ensures same { self.new.desk.ghost_name ≡ self.old.desk.ghost_name }
         ensures kept { (self.new.world ≡ self.old.world) × (self.new.turns ≡ self.old.turns) }
     {
-        self.agree(call.name(), comm, items.len())?;
-        let mut list = Vec::new(self.alloc);
-        let mut rest = items;
-        while !rest.is_empty() {
-            let (block, after) = rest.split_at(rest.len().min(MOST_ITEMS));
-            let part = self.one_part(call, comm, block)?;
-            list.extend_from_slice(&part)?;
-            rest = after;
+        self.agree(call.name(), comm, count)?;
+        self.takes(call, comm, count, items.len())?;
+        let mut parts = Vec::new(self.alloc);
+        let mut first = 0;
+        while first < count {
+            let each = call.most(comm).min(count - first);
+            let given = cut(self.alloc, items, call.gives(comm), count, first, each)?;
+            let part = self.one_part(call, comm, each, &given)?;
+            parts.push(part)?;
+            first += each;
         }
+        let list = put_together(self.alloc, call.gets(comm), &parts)?;
         Ok(list)
     }
 
-    // The call of one block.
+    // The call of one part.
     fn one_part<T: Item>(
         &mut self,
         call: Parted,
         comm: &Comm,
+        count: usize,
         items: &[T],
     ) -> Result<Vec<T>, CallError>
-        ensures gives { Gives (H.goes_by self.old.desk.now.host []) H.node H.turned H.turn_refused comm.now.name (part_line call T.ty (T.numbers items.now)) self.old.turns (IsRead T.numbers) result self.old.desk.now self.new.desk.now }
+        ensures gives { Gives (H.goes_by self.old.desk.now.host []) H.node H.turned H.turn_refused comm.now.name (part_line call T.ty count (T.numbers items.now)) self.old.turns (IsRead T.numbers) result self.old.desk.now self.new.desk.now }
         ensures same { self.new.desk.ghost_name ≡ self.old.desk.ghost_name }
         ensures kept { (self.new.world ≡ self.old.world) × (self.new.turns ≡ self.old.turns) }
     {
         match call {
+            Parted::Bcast(root) => self.one_bcast(comm, root, count, items),
+            Parted::Gather(root) => self.one_gather(comm, root, items),
+            Parted::Allgather => self.one_allgather(comm, items),
+            Parted::Scatter(root) => self.one_scatter(comm, root, count, items),
+            Parted::Alltoall => self.one_alltoall(comm, count, items),
             Parted::Reduce(root, op) => self.one_reduce(comm, root, op, items),
             Parted::Allreduce(op) => self.one_allreduce(comm, op, items),
             Parted::Scan(op) => self.one_scan(comm, op, items),
             Parted::Exscan(op) => self.one_exscan(comm, op, items),
         }
-    }
-
-    pub(crate) fn long_bcast<T: Item>(
-        &mut self,
-        comm: &Comm,
-        root: u8,
-        count: usize,
-        items: &[T],
-    ) -> Result<Vec<T>, CallError>
-        ensures same { self.new.desk.ghost_name ≡ self.old.desk.ghost_name }
-        ensures kept { (self.new.world ≡ self.old.world) × (self.new.turns ≡ self.old.turns) }
-    {
-        let is_root = comm.rank() == root;
-        self.agree("bcast", comm, count)?;
-        let made = Made::new("bcast", comm, items.len()).rooted(i128::from(root));
-        self.takes(made.sent(count))?;
-        let mut list = Vec::new(self.alloc);
-        for first in (0..count).step_by(MOST_ITEMS) {
-            let each = MOST_ITEMS.min(count.saturating_sub(first));
-            let block = if is_root {
-                items_from(items, first, each)
-            } else {
-                &[]
-            };
-            let part = self.one_bcast(comm, root, each, block)?;
-            list.extend_from_slice(&part)?;
-        }
-        Ok(list)
-    }
-
-    // Puts what the calls of all blocks give into rank order.
-    pub(crate) fn long_gather<T: Item>(
-        &mut self,
-        comm: &Comm,
-        root: u8,
-        items: &[T],
-    ) -> Result<Vec<T>, CallError>
-        ensures same { self.new.desk.ghost_name ≡ self.old.desk.ghost_name }
-        ensures kept { (self.new.world ≡ self.old.world) × (self.new.turns ≡ self.old.turns) }
-    {
-        self.agree("gather", comm, items.len())?;
-        let mut parts = Vec::new(self.alloc);
-        for block in items.chunks(MOST_ITEMS) {
-            parts.push(self.one_gather(comm, root, block)?)?;
-        }
-        by_rank(self.alloc, &parts, comm.size())
-    }
-
-    pub(crate) fn long_allgather<T: Item>(
-        &mut self,
-        comm: &Comm,
-        items: &[T],
-    ) -> Result<Vec<T>, CallError>
-        ensures same { self.new.desk.ghost_name ≡ self.old.desk.ghost_name }
-        ensures kept { (self.new.world ≡ self.old.world) × (self.new.turns ≡ self.old.turns) }
-    {
-        self.agree("allgather", comm, items.len())?;
-        let mut parts = Vec::new(self.alloc);
-        for block in items.chunks(MOST_ITEMS) {
-            parts.push(self.one_allgather(comm, block)?)?;
-        }
-        by_rank(self.alloc, &parts, comm.size())
-    }
-
-    pub(crate) fn long_scatter<T: Item>(
-        &mut self,
-        comm: &Comm,
-        root: u8,
-        count: usize,
-        items: &[T],
-    ) -> Result<Vec<T>, CallError>
-        ensures same { self.new.desk.ghost_name ≡ self.old.desk.ghost_name }
-        ensures kept { (self.new.world ≡ self.old.world) × (self.new.turns ≡ self.old.turns) }
-    {
-        self.agree("scatter", comm, count)?;
-        let made = Made::new("scatter", comm, items.len()).rooted(i128::from(root));
-        self.takes(made.scattered(count))?;
-        let most = self.block(comm).max(1);
-        let mut list = Vec::new(self.alloc);
-        for first in (0..count).step_by(most) {
-            let each = most.min(count.saturating_sub(first));
-            let block = blocks_from(self.alloc, items, count, first, each)?;
-            let part = self.one_scatter(comm, root, each, &block)?;
-            list.extend_from_slice(&part)?;
-        }
-        Ok(list)
-    }
-
-    pub(crate) fn long_alltoall<T: Item>(
-        &mut self,
-        comm: &Comm,
-        count: usize,
-        items: &[T],
-    ) -> Result<Vec<T>, CallError>
-        ensures same { self.new.desk.ghost_name ≡ self.old.desk.ghost_name }
-        ensures kept { (self.new.world ≡ self.old.world) × (self.new.turns ≡ self.old.turns) }
-    {
-        self.agree("alltoall", comm, count)?;
-        self.takes(Made::new("alltoall", comm, items.len()).blocks(count))?;
-        let most = self.block(comm).max(1);
-        let mut parts = Vec::new(self.alloc);
-        for first in (0..count).step_by(most) {
-            let each = most.min(count.saturating_sub(first));
-            let block = blocks_from(self.alloc, items, count, first, each)?;
-            parts.push(self.one_alltoall(comm, each, &block)?)?;
-        }
-        by_rank(self.alloc, &parts, comm.size())
     }
 
     // That all ranks give this number of items, else the fault that one call would give.
@@ -219,11 +172,15 @@ impl<'a, H: Host> Rank<'a, H> {
     }
 
     // That a call is given as many items as it takes.
-    fn takes(&self, made: Made<'_>) -> Result<(), CallError> {
-        if made.taken == Some(made.items) {
+    fn takes(&self, call: Parted, comm: &Comm, count: usize, items: usize) -> Result<(), CallError>
+        ensures { OnOk result (items ≡ blocks_given call comm.now.rank comm.now.size * count) }
+    {
+        let taken = call.gives(comm).checked_mul(count);
+        if taken == Some(items) {
             return Ok(());
         }
-        Err(self.refused(made, PostError::ItemsLength))
+        let made = Made::new(call.name(), comm, items);
+        Err(self.refused(Made { taken, ..made }, PostError::ItemsLength))
     }
 }
 
@@ -237,40 +194,4 @@ fn first_other(counts: &[u64]) -> Option<u8> {
         rank = rank.saturating_add(1);
     }
     None
-}
-
-// So many items from a place on, as far as there are.
-fn items_from<T: Item>(items: &[T], first: usize, each: usize) -> &[T] {
-    match items.get(first..first.saturating_add(each)) {
-        Some(block) => block,
-        None => &[],
-    }
-}
-
-// Of each block of `count` items so many from a place on.
-fn blocks_from<T: Item>(
-    alloc: Global,
-    items: &[T],
-    count: usize,
-    first: usize,
-    each: usize,
-) -> Result<Vec<T>, CallError> {
-    let mut list = Vec::new(alloc);
-    for block in items.chunks(count.max(1)) {
-        list.extend_from_slice(items_from(block, first, each))?;
-    }
-    Ok(list)
-}
-
-// What calls gave of all ranks, in rank order: of each rank all calls' items.
-fn by_rank<T: Item>(alloc: Global, parts: &[Vec<T>], size: u8) -> Result<Vec<T>, CallError> {
-    let mut list = Vec::new(alloc);
-    for rank in 0..size {
-        for part in parts {
-            let each = part.len().checked_div(usize::from(size)).unwrap_or(0);
-            let first = each.saturating_mul(usize::from(rank));
-            list.extend_from_slice(items_from(part, first, each))?;
-        }
-    }
-    Ok(list)
 }

@@ -10,7 +10,6 @@ mod call_error;
 mod called;
 mod communicators;
 mod exchanges;
-mod item;
 mod lengths;
 mod neighbourhoods;
 mod ones;
@@ -22,7 +21,7 @@ mod rooted;
 
 pub use call_error::{CallError, Cause};
 pub use called::{Called, Detail};
-pub use item::Item;
+pub use mpx_call::Item;
 pub use mpx_comm::{Comm, Desk, Host, Request, Tested};
 pub use pending::{Done, Pending};
 pub use rank::Rank;

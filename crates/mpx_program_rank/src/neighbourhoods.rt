@@ -5,10 +5,10 @@ ghost use Rattle.mpx_comm.specs.Lines as line;
 ghost use Rattle.mpx_program_rank.specs.Gives.{Gives, IsRead, Starts};
 
 use crate::call_error::CallError;
-use crate::item::Item;
 use crate::pending::Pending;
 use crate::rank::Rank;
 use crate::reading::{Made, number_of};
+use mpx_call::Item;
 use mpx_comm::{Comm, Host};
 use mpx_num::Ops;
 

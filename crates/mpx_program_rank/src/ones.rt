@@ -5,9 +5,9 @@ ghost use Rattle.mpx_comm.specs.Lines as line;
 ghost use Rattle.mpx_program_rank.specs.Gives.{GivesOne, IsOnly, root_items};
 
 use crate::call_error::{CallError, Cause};
-use crate::item::Item;
 use crate::rank::Rank;
 use crate::reading::Made;
+use mpx_call::Item;
 use mpx_comm::{Comm, Host};
 use mpx_num::Op;
 

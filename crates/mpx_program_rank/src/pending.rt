@@ -3,14 +3,14 @@ ghost use Rattle.std.specs.Prelude.{◌≡◌, [], IfErr, IfOk, Ok, Some};
 ghost use Rattle.mpx_comm.specs.Given.{numbers_given};
 ghost use Rattle.mpx_request.specs.Requests.{same_request};
 ghost use Rattle.mpx_program_rank.specs.Gives.{IsStarted, IsUnread};
-ghost use Rattle.mpx_program_rank.specs.Waiting.{AnyGives, IsAny, IsTested, IsWaited, TestGives, TurnsGive, WaitAnyGives, WaitGives, any_error, turn_error, wait_error};
+ghost use Rattle.mpx_program_rank.specs.Waiting.{AnyGives, IsAny, IsSome, IsTested, IsWaited, SomeGives, TestGives, TurnsGive, WaitAnyGives, WaitGives, any_error, turn_error, wait_error};
 
 use crate::call_error::{CallError, Cause};
 use crate::called::{Awaited, Called};
-use crate::item::Item;
 use crate::rank::Rank;
 use crate::reading::{Made, list_in};
 use join_core::OutOfMemory;
+use mpx_call::Item;
 use mpx_comm::{Host, Request, Tested, TurnError, WaitError};
 use mpx_name::Name;
 use mpx_node::Finished;
@@ -105,6 +105,19 @@ impl<'a, H: Host> Rank<'a, H> {
         let ops = Ops::none(self.alloc);
         let answer = self.desk.testany(self.alloc, &ops);
         any_tested(turned, answer)
+    }
+
+    /// Makes a turn, and gives all open calls that are done, each with its result, in order of posting (`MPI_TESTSOME`). They are closed. An `Err`
+    /// closes none.
+    pub fn testsome(&mut self) -> Result<Vec<(Request, Finished)>, CallError>
+        ensures gives { SomeGives (λ host. H.goes_by host []) H.node H.turned H.turn_refused result self.old.desk.now self.new.desk.now }
+        ensures same { self.new.desk.ghost_name ≡ self.old.desk.ghost_name }
+        ensures kept { (self.new.world ≡ self.old.world) × (self.new.turns ≡ self.old.turns) }
+    {
+        let turned = self.desk.turn(self.alloc, 1);
+        let ops = Ops::none(self.alloc);
+        let answer = self.desk.testsome(self.alloc, &ops);
+        some_tested(turned, answer)
     }
 
     /// Waits for the first open call in order of posting that is done (`MPI_WAITANY`), at most the rank's turns. None where none is open.
@@ -238,6 +251,27 @@ fn any_tested(
         Ok(None) => match turned {
             Ok(()) => Ok(None),
             Err(why) => Err(CallError::bare(cause_of(why, None))),
+        },
+        Err(_) => Err(CallError::bare(Cause::OutOfMemory)),
+    }
+}
+
+// The same of a test for those that are done.
+fn some_tested(
+    turned: Result<(), TurnError>,
+    answer: Result<Vec<(Request, Finished)>, OutOfMemory>,
+) -> Result<Vec<(Request, Finished)>, CallError>
+    ensures { IsSome turned answer result }
+{
+    match answer {
+        Ok(done) => match turned {
+            Ok(()) => Ok(done),
+            Err(why) => {
+                if done.is_empty() {
+                    return Err(CallError::bare(cause_of(why, None)));
+                }
+                Ok(done)
+            }
         },
         Err(_) => Err(CallError::bare(Cause::OutOfMemory)),
     }

@@ -7,9 +7,9 @@ ghost use Rattle.mpx_program_rank.specs.declared.call_error.Cause.TheVariants.{O
 
 use crate::call_error::{CallError, Cause};
 use crate::called::{Awaited, Called, Detail};
-use crate::item::Item;
 use crate::rank::Rank;
 use join_core::Exact;
+use mpx_call::Item;
 use mpx_comm::{CallError as DeskError, Comm, Host, numbers_of};
 use mpx_match::Fault;
 use mpx_name::Name;

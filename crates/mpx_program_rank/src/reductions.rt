@@ -6,11 +6,11 @@ ghost use Rattle.mpx_program_rank.specs.Gives.{Gives, IsRead, Starts};
 ghost use Rattle.mpx_program_rank.specs.Lengths.{GivesInParts};
 
 use crate::call_error::CallError;
-use crate::item::Item;
 use crate::lengths::Parted;
 use crate::pending::Pending;
 use crate::rank::Rank;
 use crate::reading::{Made, number_of};
+use mpx_call::Item;
 use mpx_comm::{Comm, Host};
 use mpx_num::{MOST_ITEMS, Op, Ops};
 
@@ -25,14 +25,14 @@ impl<'a, H: Host> Rank<'a, H> {
         items: &[T],
     ) -> Result<Vec<T>, CallError>
         ensures gives { length items.now ≤ 4096 → Gives (H.goes_by self.old.desk.now.host []) H.node H.turned H.turn_refused comm.now.name (line.reduce Blocking (pos root) op T.ty (T.numbers items.now)) self.old.turns (IsRead T.numbers) result self.old.desk.now self.new.desk.now }
-        ensures parts { 4096 < length items.now → GivesInParts (λ host. H.goes_by host []) H.node H.turned H.turn_refused comm.now.name (λ part. line.reduce Blocking (pos root) op T.ty (T.numbers part)) T.numbers self.old.turns items.now result self.old.desk.now self.new.desk.now }
+        ensures parts { 4096 < length items.now → GivesInParts (λ host. H.goes_by host []) H.node H.turned H.turn_refused comm.now.name (λ count part. line.reduce Blocking (pos root) op T.ty (T.numbers part)) T.numbers self.old.turns 4096 1 1 (length items.now) items.now result self.old.desk.now self.new.desk.now }
         ensures same { self.new.desk.ghost_name ≡ self.old.desk.ghost_name }
         ensures kept { (self.new.world ≡ self.old.world) × (self.new.turns ≡ self.old.turns) }
     {
         if items.len() <= MOST_ITEMS {
             return self.one_reduce(comm, root, op, items);
         }
-        self.in_parts(Parted::Reduce(root, op), comm, items)
+        self.in_parts(Parted::Reduce(root, op), comm, items.len(), items)
     }
 
     // [`Rank::reduce`] in one call.
@@ -98,14 +98,14 @@ impl<'a, H: Host> Rank<'a, H> {
         items: &[T],
     ) -> Result<Vec<T>, CallError>
         ensures gives { length items.now ≤ 4096 → Gives (H.goes_by self.old.desk.now.host []) H.node H.turned H.turn_refused comm.now.name (line.allreduce Blocking op T.ty (T.numbers items.now)) self.old.turns (IsRead T.numbers) result self.old.desk.now self.new.desk.now }
-        ensures parts { 4096 < length items.now → GivesInParts (λ host. H.goes_by host []) H.node H.turned H.turn_refused comm.now.name (λ part. line.allreduce Blocking op T.ty (T.numbers part)) T.numbers self.old.turns items.now result self.old.desk.now self.new.desk.now }
+        ensures parts { 4096 < length items.now → GivesInParts (λ host. H.goes_by host []) H.node H.turned H.turn_refused comm.now.name (λ count part. line.allreduce Blocking op T.ty (T.numbers part)) T.numbers self.old.turns 4096 1 1 (length items.now) items.now result self.old.desk.now self.new.desk.now }
         ensures same { self.new.desk.ghost_name ≡ self.old.desk.ghost_name }
         ensures kept { (self.new.world ≡ self.old.world) × (self.new.turns ≡ self.old.turns) }
     {
         if items.len() <= MOST_ITEMS {
             return self.one_allreduce(comm, op, items);
         }
-        self.in_parts(Parted::Allreduce(op), comm, items)
+        self.in_parts(Parted::Allreduce(op), comm, items.len(), items)
     }
 
     // [`Rank::allreduce`] in one call.
@@ -263,14 +263,14 @@ impl<'a, H: Host> Rank<'a, H> {
     /// `MPI_SCAN`: every rank gets the reduction of what the ranks up to its own give, item by item.
     pub fn scan<T: Item>(&mut self, comm: &Comm, op: Op, items: &[T]) -> Result<Vec<T>, CallError>
         ensures gives { length items.now ≤ 4096 → Gives (H.goes_by self.old.desk.now.host []) H.node H.turned H.turn_refused comm.now.name (line.scan Blocking op T.ty (T.numbers items.now)) self.old.turns (IsRead T.numbers) result self.old.desk.now self.new.desk.now }
-        ensures parts { 4096 < length items.now → GivesInParts (λ host. H.goes_by host []) H.node H.turned H.turn_refused comm.now.name (λ part. line.scan Blocking op T.ty (T.numbers part)) T.numbers self.old.turns items.now result self.old.desk.now self.new.desk.now }
+        ensures parts { 4096 < length items.now → GivesInParts (λ host. H.goes_by host []) H.node H.turned H.turn_refused comm.now.name (λ count part. line.scan Blocking op T.ty (T.numbers part)) T.numbers self.old.turns 4096 1 1 (length items.now) items.now result self.old.desk.now self.new.desk.now }
         ensures same { self.new.desk.ghost_name ≡ self.old.desk.ghost_name }
         ensures kept { (self.new.world ≡ self.old.world) × (self.new.turns ≡ self.old.turns) }
     {
         if items.len() <= MOST_ITEMS {
             return self.one_scan(comm, op, items);
         }
-        self.in_parts(Parted::Scan(op), comm, items)
+        self.in_parts(Parted::Scan(op), comm, items.len(), items)
     }
 
     // [`Rank::scan`] in one call.
@@ -322,14 +322,14 @@ impl<'a, H: Host> Rank<'a, H> {
     /// `MPI_EXSCAN`: every rank gets the reduction of what the ranks below its own give, item by item, and rank 0 nothing.
     pub fn exscan<T: Item>(&mut self, comm: &Comm, op: Op, items: &[T]) -> Result<Vec<T>, CallError>
         ensures gives { length items.now ≤ 4096 → Gives (H.goes_by self.old.desk.now.host []) H.node H.turned H.turn_refused comm.now.name (line.exscan Blocking op T.ty (T.numbers items.now)) self.old.turns (IsRead T.numbers) result self.old.desk.now self.new.desk.now }
-        ensures parts { 4096 < length items.now → GivesInParts (λ host. H.goes_by host []) H.node H.turned H.turn_refused comm.now.name (λ part. line.exscan Blocking op T.ty (T.numbers part)) T.numbers self.old.turns items.now result self.old.desk.now self.new.desk.now }
+        ensures parts { 4096 < length items.now → GivesInParts (λ host. H.goes_by host []) H.node H.turned H.turn_refused comm.now.name (λ count part. line.exscan Blocking op T.ty (T.numbers part)) T.numbers self.old.turns 4096 1 1 (length items.now) items.now result self.old.desk.now self.new.desk.now }
         ensures same { self.new.desk.ghost_name ≡ self.old.desk.ghost_name }
         ensures kept { (self.new.world ≡ self.old.world) × (self.new.turns ≡ self.old.turns) }
     {
         if items.len() <= MOST_ITEMS {
             return self.one_exscan(comm, op, items);
         }
-        self.in_parts(Parted::Exscan(op), comm, items)
+        self.in_parts(Parted::Exscan(op), comm, items.len(), items)
     }
 
     // [`Rank::exscan`] in one call.

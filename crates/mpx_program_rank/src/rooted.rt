@@ -1,15 +1,16 @@
 //! The calls that move items from or to a root, and the barrier.
-ghost use Rattle.std.specs.Prelude.{◌≡◌, ◌≤◌, [], length, map, pos};
+ghost use Rattle.std.specs.Prelude.{◌≡◌, ◌<◌, ◌≤◌, [], length, map, pos};
 ghost use Rattle.mpx_kind.specs.declared.kinds.Mode.TheVariants.{Blocking, Nonblocking};
 ghost use Rattle.mpx_comm.specs.Lines as line;
-ghost use Rattle.mpx_program_rank.specs.Lengths.{block_of};
+ghost use Rattle.mpx_program_rank.specs.Lengths.{GivesInParts, at_root, block_of};
 ghost use Rattle.mpx_program_rank.specs.Gives.{Gives, IsDone, IsRead, Starts};
 
 use crate::call_error::CallError;
-use crate::item::Item;
+use crate::lengths::{Parted, block};
 use crate::pending::Pending;
 use crate::rank::Rank;
 use crate::reading::{Made, number_of};
+use mpx_call::Item;
 use mpx_comm::{Comm, Host};
 use mpx_num::{MOST_ITEMS, Ops};
 
@@ -48,13 +49,14 @@ impl<'a, H: Host> Rank<'a, H> {
         items: &[T],
     ) -> Result<Vec<T>, CallError>
         ensures gives { count ≤ 4096 → Gives (H.goes_by self.old.desk.now.host []) H.node H.turned H.turn_refused comm.now.name (line.bcast Blocking (pos root) T.ty (pos count) (T.numbers items.now)) self.old.turns (IsRead T.numbers) result self.old.desk.now self.new.desk.now }
+        ensures parts { 4096 < count → GivesInParts (λ host. H.goes_by host []) H.node H.turned H.turn_refused comm.now.name (λ count part. line.bcast Blocking (pos root) T.ty (pos count) (T.numbers part)) T.numbers self.old.turns 4096 (at_root comm.now.rank root 1) 1 count items.now result self.old.desk.now self.new.desk.now }
         ensures same { self.new.desk.ghost_name ≡ self.old.desk.ghost_name }
         ensures kept { (self.new.world ≡ self.old.world) × (self.new.turns ≡ self.old.turns) }
     {
         if count <= MOST_ITEMS {
             return self.one_bcast(comm, root, count, items);
         }
-        self.long_bcast(comm, root, count, items)
+        self.in_parts(Parted::Bcast(root), comm, count, items)
     }
 
     // [`Rank::bcast`] in one call.
@@ -124,13 +126,14 @@ impl<'a, H: Host> Rank<'a, H> {
         items: &[T],
     ) -> Result<Vec<T>, CallError>
         ensures gives { length items.now ≤ 4096 → Gives (H.goes_by self.old.desk.now.host []) H.node H.turned H.turn_refused comm.now.name (line.gather Blocking (pos root) T.ty (T.numbers items.now)) self.old.turns (IsRead T.numbers) result self.old.desk.now self.new.desk.now }
+        ensures parts { 4096 < length items.now → GivesInParts (λ host. H.goes_by host []) H.node H.turned H.turn_refused comm.now.name (λ count part. line.gather Blocking (pos root) T.ty (T.numbers part)) T.numbers self.old.turns 4096 1 comm.now.size (length items.now) items.now result self.old.desk.now self.new.desk.now }
         ensures same { self.new.desk.ghost_name ≡ self.old.desk.ghost_name }
         ensures kept { (self.new.world ≡ self.old.world) × (self.new.turns ≡ self.old.turns) }
     {
         if items.len() <= MOST_ITEMS {
             return self.one_gather(comm, root, items);
         }
-        self.long_gather(comm, root, items)
+        self.in_parts(Parted::Gather(root), comm, items.len(), items)
     }
 
     // [`Rank::gather`] in one call.
@@ -254,13 +257,14 @@ impl<'a, H: Host> Rank<'a, H> {
         items: &[T],
     ) -> Result<Vec<T>, CallError>
         ensures gives { count ≤ block_of comm.now.size → Gives (H.goes_by self.old.desk.now.host []) H.node H.turned H.turn_refused comm.now.name (line.scatter Blocking (pos root) T.ty (pos count) (T.numbers items.now)) self.old.turns (IsRead T.numbers) result self.old.desk.now self.new.desk.now }
+        ensures parts { block_of comm.now.size < count → GivesInParts (λ host. H.goes_by host []) H.node H.turned H.turn_refused comm.now.name (λ count part. line.scatter Blocking (pos root) T.ty (pos count) (T.numbers part)) T.numbers self.old.turns (block_of comm.now.size) (at_root comm.now.rank root comm.now.size) 1 count items.now result self.old.desk.now self.new.desk.now }
         ensures same { self.new.desk.ghost_name ≡ self.old.desk.ghost_name }
         ensures kept { (self.new.world ≡ self.old.world) × (self.new.turns ≡ self.old.turns) }
     {
-        if count <= self.block(comm) {
+        if count <= block(comm) {
             return self.one_scatter(comm, root, count, items);
         }
-        self.long_scatter(comm, root, count, items)
+        self.in_parts(Parted::Scatter(root), comm, count, items)
     }
 
     // [`Rank::scatter`] in one call.

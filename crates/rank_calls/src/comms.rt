@@ -40,7 +40,7 @@ fn group<H: Host>(rank: &mut Rank<'_, H>) -> Result<(u8, u8), CallError> {
     Ok(place(&comm))
 }
 
-/// What errors say.
+/// What errors say. These are the first calls.
 pub fn errors<H: Host>(rank: &mut Rank<'_, H>) -> Result<String, CallError> {
     let refusal = refusal(rank)?;
     let fault = fault(rank)?;
@@ -59,6 +59,6 @@ fn fault<H: Host>(rank: &mut Rank<'_, H>) -> Result<String, CallError> {
     let items: &[u8] = if rank.number() == 0 { &[1] } else { &[1, 2] };
     match rank.allreduce(rank.world(), Op::Sum, items) {
         Ok(list) => Ok(format!(in rank.alloc; "{list:?}")?),
-        Err(e) => Ok(format!(in rank.alloc; "{e}, {:?}", e.fault())?),
+        Err(e) => Ok(format!(in rank.alloc; "{e}, a fault: {}", e.fault().is_some())?),
     }
 }

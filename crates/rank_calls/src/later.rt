@@ -1,6 +1,6 @@
 //! Calls that don't block, each waited for at once; and what else there is for requests.
 use mpx_num::Op;
-use mpx_program_rank::{CallError, Host, Rank};
+use mpx_program_rank::{CallError, Host, Pending, Rank};
 
 /// What those of lists give, and those that combine.
 pub fn calls<H: Host>(rank: &mut Rank<'_, H>) -> Result<String, CallError> {
@@ -136,16 +136,20 @@ fn met<H: Host>(rank: &mut Rank<'_, H>) -> Result<Vec<u8>, CallError> {
     rank.wait(pending)
 }
 
+fn summed<H: Host>(rank: &mut Rank<'_, H>) -> Result<Pending<u32>, CallError> {
+    rank.iallreduce(rank.world(), Op::Sum, &[mine(rank)])
+}
+
 // Between the call and its wait the rank makes turns for the others.
 fn turned<H: Host>(rank: &mut Rank<'_, H>) -> Result<Vec<u32>, CallError> {
-    let pending = rank.iallreduce(rank.world(), Op::Sum, &[mine(rank)])?;
+    let pending = summed(rank)?;
     rank.turn(2)?;
     rank.wait(pending)
 }
 
 // Whether of open calls the one that is done is this one.
 fn is_first<H: Host>(rank: &mut Rank<'_, H>) -> Result<bool, CallError> {
-    let pending = rank.iallreduce(rank.world(), Op::Sum, &[mine(rank)])?;
+    let pending = summed(rank)?;
     match rank.waitany()? {
         Some(done) => Ok(done.is(&pending)),
         None => Ok(false),

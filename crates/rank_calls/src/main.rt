@@ -22,11 +22,12 @@ impl RankProgram for RankCalls {
     type Error = CallError;
 
     fn run<H: Host>(&self, rank: &mut Rank<'_, H>) -> Result<String, CallError> {
+        let errors = comms::errors(rank)?;
         let short = short::calls(rank)?;
         let later = short::calls_without_waiting(rank)?;
         let long = long::calls(rank)?;
         let others = others(rank)?;
-        Ok(format!(in rank.alloc; "{short} {later} {long:?}{others}")?)
+        Ok(format!(in rank.alloc; "{short} {later} {long:?}{others}\n  {errors}")?)
     }
 }
 
@@ -36,8 +37,7 @@ fn others<H: Host>(rank: &mut Rank<'_, H>) -> Result<String, CallError> {
     let later = later::calls(rank)?;
     let neighbours = neighbours::calls(rank)?;
     let comms = comms::calls(rank)?;
-    let errors = comms::errors(rank)?;
-    Ok(format!(in rank.alloc; "\n  {counts}\n  {later}\n  {neighbours}\n  {comms}\n  {errors}")?)
+    Ok(format!(in rank.alloc; "\n  {counts}\n  {later}\n  {neighbours}\n  {comms}")?)
 }
 
 fn main(rt: HostRuntime) -> Result<ExitCode, RanksError> {

@@ -20,18 +20,18 @@ fn graph<H: Host>(rank: &mut Rank<'_, H>) -> Result<Comm, CallError> {
 }
 
 fn blocking<H: Host>(rank: &mut Rank<'_, H>, graph: &Comm) -> Result<String, CallError> {
-    let heard = rank.neighbor_allgather(graph, 1, &[rank.number()])?;
-    let parts = rank.neighbor_allgatherv(graph, &taken(rank), own(rank))?;
-    let block = rank.neighbor_alltoall(graph, 1, 1, &[rank.number()])?;
-    let blocks = rank.neighbor_alltoallv(graph, &sent(rank), &taken(rank), own(rank))?;
-    Ok(format!(in rank.alloc; "{heard:?} {parts:?} {block:?} {blocks:?}")?)
-}
-
-fn later<H: Host>(rank: &mut Rank<'_, H>, graph: &Comm) -> Result<String, CallError> {
     let heard = heard(rank, graph)?;
     let parts = parts(rank, graph)?;
     let block = block(rank, graph)?;
     let blocks = blocks(rank, graph)?;
+    Ok(format!(in rank.alloc; "{heard:?} {parts:?} {block:?} {blocks:?}")?)
+}
+
+fn later<H: Host>(rank: &mut Rank<'_, H>, graph: &Comm) -> Result<String, CallError> {
+    let heard = heard_later(rank, graph)?;
+    let parts = parts_later(rank, graph)?;
+    let block = block_later(rank, graph)?;
+    let blocks = blocks_later(rank, graph)?;
     Ok(format!(in rank.alloc; "{heard:?} {parts:?} {block:?} {blocks:?}")?)
 }
 
@@ -50,21 +50,37 @@ fn taken<H: Host>(rank: &Rank<'_, H>) -> [u32; 1] {
 }
 
 fn heard<H: Host>(rank: &mut Rank<'_, H>, graph: &Comm) -> Result<Vec<u8>, CallError> {
+    rank.neighbor_allgather(graph, 1, &[rank.number()])
+}
+
+fn heard_later<H: Host>(rank: &mut Rank<'_, H>, graph: &Comm) -> Result<Vec<u8>, CallError> {
     let pending = rank.ineighbor_allgather(graph, 1, &[rank.number()])?;
     rank.wait(pending)
 }
 
 fn parts<H: Host>(rank: &mut Rank<'_, H>, graph: &Comm) -> Result<Vec<u16>, CallError> {
+    rank.neighbor_allgatherv(graph, &taken(rank), own(rank))
+}
+
+fn parts_later<H: Host>(rank: &mut Rank<'_, H>, graph: &Comm) -> Result<Vec<u16>, CallError> {
     let pending = rank.ineighbor_allgatherv(graph, &taken(rank), own(rank))?;
     rank.wait(pending)
 }
 
 fn block<H: Host>(rank: &mut Rank<'_, H>, graph: &Comm) -> Result<Vec<u8>, CallError> {
+    rank.neighbor_alltoall(graph, 1, 1, &[rank.number()])
+}
+
+fn block_later<H: Host>(rank: &mut Rank<'_, H>, graph: &Comm) -> Result<Vec<u8>, CallError> {
     let pending = rank.ineighbor_alltoall(graph, 1, 1, &[rank.number()])?;
     rank.wait(pending)
 }
 
 fn blocks<H: Host>(rank: &mut Rank<'_, H>, graph: &Comm) -> Result<Vec<u16>, CallError> {
+    rank.neighbor_alltoallv(graph, &sent(rank), &taken(rank), own(rank))
+}
+
+fn blocks_later<H: Host>(rank: &mut Rank<'_, H>, graph: &Comm) -> Result<Vec<u16>, CallError> {
     let pending = rank.ineighbor_alltoallv(graph, &sent(rank), &taken(rank), own(rank))?;
     rank.wait(pending)
 }

@@ -17,7 +17,8 @@ pub fn calls<H: Host>(rank: &mut Rank<'_, H>) -> Result<String, CallError> {
 pub fn calls_without_waiting<H: Host>(rank: &mut Rank<'_, H>) -> Result<String, CallError> {
     let polled = polled(rank)?;
     let later = later(rank)?;
-    Ok(format!(in rank.alloc; "{polled:?} {later:?}")?)
+    let closed = closed(rank)?;
+    Ok(format!(in rank.alloc; "{polled:?} {later:?} {closed}")?)
 }
 
 // The rank's own number, from 1 on.
@@ -75,4 +76,19 @@ fn later<H: Host>(rank: &mut Rank<'_, H>) -> Result<Vec<i64>, CallError> {
     let mine = mine(rank);
     let pending = rank.iallgather(rank.world(), &[mine])?;
     rank.wait(pending)
+}
+
+// How many of two open calls tests have closed: each makes a turn.
+fn closed<H: Host>(rank: &mut Rank<'_, H>) -> Result<usize, CallError> {
+    let mine = mine(rank);
+    let _all = rank.iallgather(rank.world(), &[mine])?;
+    let _most = rank.iallreduce(rank.world(), Op::Max, &[mine])?;
+    let mut closed: usize = 0;
+    for _ in 0..1_000_000 {
+        closed = closed.saturating_add(rank.testsome()?.len());
+        if closed == 2 {
+            break;
+        }
+    }
+    Ok(closed)
 }

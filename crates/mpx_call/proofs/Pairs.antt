@@ -1,7 +1,7 @@
 -- The numbers of pairs, one more after the others.
 use Rattle.std.proofs.Common.{◌≡◌, ℕ, ◌+◌, ◌*◌, ◌<◌, ◌++◌, ◌∷◌, [], List, length, take, get_or, refl, ap, sym, ◌∙◌, arith, append_assoc}
 use Rattle.std.proofs.lemmas.List.{take_more}
-use Rattle.mpx_program_rank.specs.Pairs.{both_numbers}
+use Rattle.mpx_call.specs.Pairs.{both_numbers}
 
 pub both_push : {X : Type 0} (ps : List (X × X)) (p : X × X) → both_numbers (ps ++ p ∷ []) ≡ both_numbers ps ++ p.0 ∷ p.1 ∷ []
 both_push [] p = refl

@@ -1,7 +1,7 @@
 use Rattle.std.proofs.Common.{◌≡◌, ◌+◌, ◌*◌, ◌/◌, ◌<◌, ◌++◌, ◌∷◌, [], length, not, true, is_ok, if◌then◌else◌, ap, ◌∙◌, arith}
-use Rattle.mpx_program_rank.specs.Pairs.{both_numbers}
-use Rattle.mpx_program_rank.proofs.Pairs.{both_more}
-use Rattle.mpx_program_rank.proofs.item.pairs_of.Goals as goal
+use Rattle.mpx_call.specs.Pairs.{both_numbers}
+use Rattle.mpx_call.proofs.Pairs.{both_more}
+use Rattle.mpx_call.proofs.item.pairs_of.Goals as goal
 
 pub loop-i-preserved : goal.loop-i-preserved
 loop-i-preserved g c =

@@ -1,8 +1,8 @@
 use Rattle.std.proofs.Common.{rules, ◌≡◌, ◌+◌, ◌++◌, ◌∷◌, [], take, sym, ap, ◌∙◌, append_assoc}
 use Rattle.std.proofs.lemmas.List.{take_more}
-use Rattle.mpx_program_rank.specs.Pairs.{both_numbers}
-use Rattle.mpx_program_rank.proofs.Pairs.{both_push}
-use Rattle.mpx_program_rank.proofs.item.both_of.Goals as goal
+use Rattle.mpx_call.specs.Pairs.{both_numbers}
+use Rattle.mpx_call.proofs.Pairs.{both_push}
+use Rattle.mpx_call.proofs.item.both_of.Goals as goal
 
 pub loop-pair-preserved : goal.loop-pair-preserved
 loop-pair-preserved g c =

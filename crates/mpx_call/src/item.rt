@@ -1,7 +1,7 @@
 //! The types of items, by which a call knows MPI's type of its slice.
 ghost use Rattle.std.specs.Prelude.{◌≡◌, ◌∷◌, [], IfOk, List, ℤ, map};
 ghost use Rattle.mpx_num.specs.declared.types.Ty.{Ty as TyView};
-ghost use Rattle.mpx_program_rank.specs.Pairs.{both_numbers};
+ghost use Rattle.mpx_call.specs.Pairs.{both_numbers};
 
 use mpx_num::{Integer, IntegersError, Numbers, Ty, integers_in};
 use std::alloc::{AllocError, Global};
