@@ -46,7 +46,7 @@ loop-nth-preserved g c =
     record {
       rest = left_more ops c.args.text.now n rest c.in-Some.left.text.items left behind;
       each = lines_more ops c.args.text.now n many c.with_one-many.result passed rest c.args.told.now.items had new left c.loop-nth.invariant.each c.with_one-many.ensures line;
-      most = most_more passed many c.with_one-many.result (omega (arith, c.loop-nth.invariant.most, c.if-many.false)) c.with_one-many.ensures;
+      most = most_more passed many c.with_one-many.result (omega (arith, c.loop-nth.invariant.most, c.if-many-eq-MOST_LINES.false)) c.with_one-many.ensures;
     }
 
 pub returns-then-many-eq-MOST_LINES : goal.returns-then-many-eq-MOST_LINES
