@@ -1,9 +1,9 @@
 //! A sum in flight while a group is made: what a rank may ask of its requests, and of a communicator.
 use crate::TURNS;
-use crate::flight::post;
-use crate::why::{Around, Why};
+use crate::calls::post_sum;
+use crate::why::Why;
 use mpx_comm::{Comm, Desk, Host, Request};
-use mpx_num::{Numbers, Op, Ops};
+use mpx_num::{Numbers, Ops};
 use mpx_ranks::Program;
 use std::alloc::Global;
 
@@ -19,8 +19,8 @@ impl Program for Asks {
         world: &Comm,
         ops: &Ops,
     ) -> Result<String, Why> {
-        let around = Around { alloc, world, ops };
-        drop(post(desk, &around, Op::Sum)?);
+        let mine = i128::from(world.rank()) + 3;
+        drop(post_sum(alloc, desk, world, mine, ops)?);
         let request = start_group(alloc, desk, world, ops)?;
         let done = both_done(alloc, desk, ops)?;
         let is_done = desk.status(alloc, &request, ops)?;

@@ -1,57 +1,48 @@
 //! Two reductions in flight beside a rank's own work.
-use crate::TURNS;
-use crate::why::{Around, Why};
-use mpx_comm::{Comm, Desk, Host, Request, integer_of};
-use mpx_num::{Numbers, Op, Ops, Ty};
-use mpx_ranks::Program;
-use std::alloc::Global;
+use crate::why::Why;
+use mpx_job::RankProgram;
+use mpx_num::Op;
+use mpx_program_rank::{Done, Host, Pending, Rank};
+
+// How many pieces of its own work a rank has at most.
+const PIECES: u64 = 1_000_000;
 
 pub struct Flight;
 
-impl Program for Flight {
-    type Answer = Result<String, Why>;
+impl RankProgram for Flight {
+    type Answer = String;
 
-    fn run<H: Host>(
-        &self,
-        alloc: Global,
-        desk: &mut Desk<H>,
-        world: &Comm,
-        ops: &Ops,
-    ) -> Result<String, Why> {
-        let around = Around { alloc, world, ops };
-        drop(post(desk, &around, Op::Sum)?);
-        drop(post(desk, &around, Op::Max)?);
-        let sum = polled(desk, &around)?;
-        let most = next_done(desk, &around)?;
-        Ok(format!(in alloc; "sum {sum}, most {most}")?)
-    }
+    type Error = Why;
 
-    fn gives_up(&self, answer: &Result<String, Why>) -> bool {
-        answer.is_err()
+    fn run<H: Host>(&self, rank: &mut Rank<'_, H>) -> Result<String, Why> {
+        drop(post(rank, Op::Sum)?);
+        drop(post(rank, Op::Max)?);
+        let sum = polled(rank)?;
+        let most = rank.waitany()?.ok_or(Why::NoAnswer)?;
+        let most = number_of(rank, &most)?;
+        Ok(format!(in rank.alloc; "sum {sum}, most {most}")?)
     }
 }
 
-/// Posts the rank's number. It waits for nobody.
-pub fn post<H: Host>(desk: &mut Desk<H>, at: &Around<'_>, op: Op) -> Result<Request, Why> {
-    let mine = Numbers::one(i128::from(at.world.rank()) + 3);
-    Ok(desk.iallreduce(at.alloc, at.world, op, Ty::I32, mine, at.ops)?)
+// Posts the rank's number. It waits for nobody.
+fn post<H: Host>(rank: &mut Rank<'_, H>, op: Op) -> Result<Pending<i32>, Why> {
+    let mine = i32::from(rank.number()) + 3;
+    Ok(rank.iallreduce(rank.world(), op, &[mine])?)
 }
 
-// The number of the first open call that is done. Behind each look the rank does a piece of its own work, and lets its host make one turn.
-fn polled<H: Host>(desk: &mut Desk<H>, at: &Around<'_>) -> Result<i32, Why> {
-    for _ in 0..TURNS {
-        if let Some((_request, finished)) = desk.testany(at.alloc, at.ops)? {
-            return integer_of(&finished).ok_or(Why::NoAnswer);
+// The number of the first open call that is done. Each look makes a turn, and after it the rank does a piece of its own work.
+fn polled<H: Host>(rank: &mut Rank<'_, H>) -> Result<i32, Why> {
+    for _ in 0..PIECES {
+        if let Some(done) = rank.testany()? {
+            return number_of(rank, &done);
         }
         // here stands a piece of the rank's own work
-        desk.turn(at.alloc, 1)?;
     }
     Err(Why::NoAnswer)
 }
 
-// The number of the next open call that is done.
-fn next_done<H: Host>(desk: &mut Desk<H>, at: &Around<'_>) -> Result<i32, Why> {
-    let done = desk.waitany(at.alloc, TURNS, at.ops)?;
-    let (_request, finished) = done.ok_or(Why::NoAnswer)?;
-    integer_of(&finished).ok_or(Why::NoAnswer)
+// The number that a call gave.
+fn number_of<H: Host>(rank: &Rank<'_, H>, done: &Done) -> Result<i32, Why> {
+    let list = done.list(rank.alloc)?;
+    list.first().copied().ok_or(Why::NoAnswer)
 }

@@ -6,10 +6,12 @@ mod asks;
 mod calls;
 mod desks;
 mod flight;
+mod hist;
 mod inbox;
 mod nodes;
 mod paths;
 mod pipe;
+mod ring;
 mod scan;
 mod sort;
 mod waiting;
@@ -19,12 +21,15 @@ use asks::Asks;
 use calls::Calls;
 use desks::sum_by_hand;
 use flight::Flight;
+use hist::Histogram;
 use matrix_product::Product;
+use mpx_job::{GivesUp, RankProgram, job};
 use mpx_num::{Ops, OwnOp};
 use mpx_ranks::{Program, ranks};
 use nodes::sums_of_own_nodes;
 use paths::Paths;
 use pipe::{process, sums_by_lines};
+use ring::Ring;
 use scan::Scan;
 use sort::Sort;
 use std::alloc::Global;
@@ -56,15 +61,45 @@ where
     print_answers(out, name, answers)
 }
 
+// The same of a program by a rank's calls.
+fn print_rank_job<P, R: Threads + Wait + Sync, W: Write>(
+    rt: &R,
+    alloc: Global,
+    out: &mut W,
+    name: &str,
+    count: u8,
+    program: &P,
+    ops: &Ops,
+) -> Result<(), Why>
+where
+    P: RankProgram<Answer = String, Error = Why> + Sync,
+{
+    let answers = job(rt, alloc, count, program, ops)?;
+    print_answers(out, name, answers)
+}
+
+// Where ranks gave up, the error is one that names no other rank, if there is one: the cause.
 fn print_answers<W: Write>(
     out: &mut W,
     name: &str,
     answers: Vec<Result<String, Why>>,
 ) -> Result<(), Why> {
+    let mut named = None;
     for (rank, answer) in answers.into_iter().enumerate() {
-        writeln!(out, "{name}, rank {rank}: {}", answer?)?;
+        match answer {
+            Ok(text) => writeln!(out, "{name}, rank {rank}: {text}")?,
+            Err(why) => {
+                if why.quitter().is_none() {
+                    return Err(why);
+                }
+                named = Some(why);
+            }
+        }
     }
-    Ok(())
+    match named {
+        Some(why) => Err(why),
+        None => Ok(()),
+    }
 }
 
 fn print_all<R: Threads + Wait + Sync, W: Write>(
@@ -73,10 +108,12 @@ fn print_all<R: Threads + Wait + Sync, W: Write>(
     out: &mut W,
     ops: &Ops,
 ) -> Result<(), Why> {
-    print_job(rt, alloc, out, "scan", 6, &Scan, ops)?;
-    print_job(rt, alloc, out, "sort", 16, &Sort { each: 200 }, ops)?;
-    print_job(rt, alloc, out, "paths", 8, &Paths, ops)?;
-    print_job(rt, alloc, out, "flight", 3, &Flight, ops)?;
+    print_rank_job(rt, alloc, out, "scan", 6, &Scan, ops)?;
+    print_rank_job(rt, alloc, out, "sort", 16, &Sort { each: 200 }, ops)?;
+    print_rank_job(rt, alloc, out, "paths", 8, &Paths, ops)?;
+    print_rank_job(rt, alloc, out, "flight", 3, &Flight, ops)?;
+    print_rank_job(rt, alloc, out, "hist", 6, &Histogram { each: 1_000 }, ops)?;
+    print_rank_job(rt, alloc, out, "ring", 5, &Ring, ops)?;
     print_job(rt, alloc, out, "asks", 3, &Asks, ops)?;
     print_job(rt, alloc, out, "calls", 3, &Calls, ops)?;
     print_by_hand(alloc, out, ops)?;

@@ -1,36 +1,27 @@
-//! A scan of matrices by the program's own operation: each rank gets the product of its own matrix behind all before it.
-use crate::TURNS;
+//! A scan of matrices by the program's own operation: each rank gets the product of its own matrix after all before it.
 use crate::why::Why;
-use mpx_comm::{Comm, Desk, Host, integer_of};
-use mpx_num::{Numbers, Op, Ops, Ty};
-use mpx_ranks::Program;
+use mpx_job::RankProgram;
+use mpx_num::Op;
+use mpx_program_rank::{Host, Rank};
 use std::alloc::Global;
 
 pub struct Scan;
 
-impl Program for Scan {
-    type Answer = Result<String, Why>;
+impl RankProgram for Scan {
+    type Answer = String;
 
-    fn run<H: Host>(
-        &self,
-        alloc: Global,
-        desk: &mut Desk<H>,
-        world: &Comm,
-        ops: &Ops,
-    ) -> Result<String, Why> {
-        let mine = Numbers::one(matrix_of(world.rank()));
-        let product = desk.scan(alloc, world, Op::Own(0), Ty::U64, mine, TURNS, ops)?;
-        told(alloc, integer_of(&product).ok_or(Why::NoAnswer)?)
-    }
+    type Error = Why;
 
-    fn gives_up(&self, answer: &Result<String, Why>) -> bool {
-        answer.is_err()
+    fn run<H: Host>(&self, rank: &mut Rank<'_, H>) -> Result<String, Why> {
+        let world = rank.world();
+        let product = rank.scan_one(world, Op::Own(0), matrix_of(world.rank()))?;
+        told(rank.alloc, product)
     }
 }
 
 // The matrix of a rank: 30,000 and its number, and 1, above; 1 and 0 below.
-fn matrix_of(rank: u8) -> i128 {
-    30_000 + i128::from(rank) + (1 << 16) + (1 << 32)
+fn matrix_of(rank: u8) -> u64 {
+    30_000 + u64::from(rank) + (1 << 16) + (1 << 32)
 }
 
 // Both rows of a matrix.

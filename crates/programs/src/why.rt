@@ -1,13 +1,13 @@
-//! Why a rank gives up, and what each of its calls is given.
+//! Why a rank gives up.
 use hex::FromHexError;
 use join_core::OutOfMemory;
-use mpx_comm::{AskError, CallError, Comm, GivenError, Request, TurnError, WaitError, integers_of};
-use mpx_node::Finished;
-use mpx_num::{Numbers, Ops, OpsError};
+use mpx_comm::{AskError, CallError, GivenError, Request, TurnError, WaitError};
+use mpx_job::GivesUp;
+use mpx_num::OpsError;
 use mpx_post::PostError;
 use mpx_ranks::RanksError;
 use mpx_wire::{EncodeError, WireError};
-use std::alloc::{AllocError, Global};
+use std::alloc::AllocError;
 use std::io;
 use thiserror::Error;
 
@@ -16,6 +16,8 @@ use thiserror::Error;
 pub enum Why {
     #[error("{0}")]
     Call(#[from] CallError),
+    #[error("{0}")]
+    Rank(#[from] mpx_program_rank::CallError),
     #[error("{0}")]
     Post(#[from] PostError),
     #[error("{0}")]
@@ -49,25 +51,14 @@ pub enum Why {
     NoAnswer,
 }
 
-/// What each call of a rank is given beside its own words.
-#[derive(Clone, Copy)]
-pub struct Around<'a> {
-    pub alloc: Global,
-    pub world: &'a Comm,
-    pub ops: &'a Ops,
-}
-
-impl<'a> Around<'a> {
-    /// The numbers as items of a call.
-    pub fn items(&self, list: &[u32]) -> Result<Numbers, Why> {
-        Ok(Numbers::from_slice(self.alloc, list)?)
-    }
-
-    /// The numbers that a call gave.
-    pub fn list(&self, done: Result<Finished, CallError>) -> Result<Vec<u32>, Why> {
-        let finished = done?;
-        let list = integers_of(self.alloc, &finished);
-        drop(finished);
-        Ok(list?)
+impl GivesUp for Why {
+    fn quitter(&self) -> Option<u8> {
+        match self {
+            Why::Rank(e) => e.quitter(),
+            Why::Call(CallError::GaveUp(_, rank))
+            | Why::Wait(WaitError::GaveUp(_, rank))
+            | Why::WaitAny(WaitError::GaveUp(_, rank)) => Some(*rank),
+            _ => None,
+        }
     }
 }
