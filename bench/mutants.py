@@ -7,7 +7,7 @@ A row has these fields:
     edit          gate (crates/CRATE/must-fail), kept (bench/wrong/CRATE), none
     state         one of STATES
     worst         of one that is let through: its place among what a user may see, 1 the worst; or one of HARMLESS, where no promise breaks
-    does          what it does, in at most 15 words
+    does          what it does, in at most 15 words; of one that says that memory is missing which is there, where it says so
     clause        what refuses it; of one that is let through, why no clause does: `none can: ..` or `open: ..`
     seen          the rows, tests or runs that see it
     tried         when it was tried last, and how; `by reading`, `inferred`
@@ -77,9 +77,20 @@ def weak(rows):
     return table(("State", "Mutants"), ((f"`{state}`", ", ".join(called(row) for row in rows if row.state == state)) for state in WEAK))
 
 
+def is_of_memory(row):
+    """Whether it says that memory is missing, and no contract sees that it is there."""
+    return row.clause.startswith("none can: no contract sees the allocator")
+
+
+def memory(rows):
+    """Those that say so, the worst first."""
+    found = sorted((row for row in rows if row.worst.isdigit() and is_of_memory(row)), key=lambda row: int(row.worst))
+    return table(("Mutant", "Where memory is said to be missing", "Seen by"), ((called(row) if row.edit != "none" else f"`{row.crate}`", row.does, row.seen) for row in found))
+
+
 def visible(rows):
-    """Those that a user would see, the worst first."""
-    found = sorted((row for row in rows if row.worst.isdigit()), key=lambda row: int(row.worst))
+    """All others that a user would see, the worst first."""
+    found = sorted((row for row in rows if row.worst.isdigit() and not is_of_memory(row)), key=lambda row: int(row.worst))
     return table(("Mutant", "What a user sees", "Clause", "Seen by"), ((called(row) if row.edit != "none" else f"`{row.crate}`", row.does, row.clause.split()[0].strip(":"), row.seen) for row in found))
 
 
@@ -88,7 +99,7 @@ def harmless(rows):
     return "\n\n".join(f"{why}: " + ", ".join(called(row) for row in rows if row.worst == word) + "." for word, why in HARMLESS.items())
 
 
-PARTS = {"gate": gate, "states": states, "weak": weak, "visible": visible, "harmless": harmless}
+PARTS = {"gate": gate, "states": states, "weak": weak, "visible": visible, "memory": memory, "harmless": harmless}
 PAGES = (TEXTS / "README.md", TEXTS / "LET_THROUGH.md")
 
 
