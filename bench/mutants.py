@@ -7,7 +7,7 @@ A row has these fields:
     edit          gate (crates/CRATE/must-fail), kept (bench/wrong/CRATE), none
     state         one of STATES
     worst         of one that is let through: its place among what a user may see, 1 the worst; or one of HARMLESS, where no promise breaks
-    does          what it does, in at most 15 words
+    does          what it does, in at most 15 words; of one that says that memory is missing, where it says so
     clause        what refuses it; of one that is let through, why no clause does: `none can: ..` or `open: ..`
     seen          the rows, tests or runs that see it
     tried         when it was tried last, and how; `by reading`, `inferred`
@@ -77,10 +77,39 @@ def weak(rows):
     return table(("State", "Mutants"), ((f"`{state}`", ", ".join(called(row) for row in rows if row.state == state)) for state in WEAK))
 
 
-def visible(rows):
-    """Those that a user would see, the worst first."""
-    found = sorted((row for row in rows if row.worst.isdigit()), key=lambda row: int(row.worst))
-    return table(("Mutant", "What a user sees", "Clause", "Seen by"), ((called(row) if row.edit != "none" else f"`{row.crate}`", row.does, row.clause.split()[0].strip(":"), row.seen) for row in found))
+def is_of_memory(row):
+    """Whether it says that memory is missing, and no contract sees that it is there."""
+    return row.clause.startswith("none can: no contract sees the allocator")
+
+
+def seen_by_users(rows, clause):
+    """Those that a user would see and of which the clause says so, the worst first."""
+    found = (row for row in rows if row.worst.isdigit() and row.clause.startswith(clause) and not is_of_memory(row))
+    return sorted(found, key=lambda row: int(row.worst))
+
+
+def visible(rows, clause):
+    """Their table."""
+    return table(("Mutant", "What a user sees", "Seen by"), ((called(row) if row.edit != "none" else f"`{row.crate}`", row.does, row.seen) for row in seen_by_users(rows, clause)))
+
+
+def open_ones(rows):
+    """Those of which no clause says it yet."""
+    return visible(rows, "open: ")
+
+
+def unseen(rows):
+    """Those that no contract can see."""
+    return visible(rows, "none can: ")
+
+
+def memory(rows):
+    """Those that say that memory is missing, by whether a row or a test sees them."""
+    found = sorted((row for row in rows if row.worst.isdigit() and is_of_memory(row)), key=lambda row: int(row.worst))
+    by = {True: [], False: []}
+    for row in found:
+        by[not row.seen.startswith("no ")].append(called(row))
+    return f"A row or a test sees: {', '.join(by[True])}.\n\nNone sees: {', '.join(by[False])}."
 
 
 def harmless(rows):
@@ -88,7 +117,7 @@ def harmless(rows):
     return "\n\n".join(f"{why}: " + ", ".join(called(row) for row in rows if row.worst == word) + "." for word, why in HARMLESS.items())
 
 
-PARTS = {"gate": gate, "states": states, "weak": weak, "visible": visible, "harmless": harmless}
+PARTS = {"gate": gate, "states": states, "weak": weak, "open": open_ones, "unseen": unseen, "memory": memory, "harmless": harmless}
 PAGES = (TEXTS / "README.md", TEXTS / "LET_THROUGH.md")
 
 
