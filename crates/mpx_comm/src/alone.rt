@@ -1,5 +1,5 @@
 //! A desk over a node alone, whose user carries the boards.
-ghost use Rattle.std.specs.Prelude.{ℕ, ◌≡◌, ◌≢◌, ◌<◌, ◌≤◌, ◌+◌, ◌-◌, All, IfOk, IsTrue, OnOk, OnErr, false, is_ok, map, nat_lt, true};
+ghost use Rattle.std.specs.Prelude.{ℕ, ◌≡◌, ◌≢◌, ◌<◌, ◌≤◌, ◌+◌, ◌-◌, All, IfOk, OnOk, OnErr, false, map, nat_lt, true};
 ghost use Rattle.mpx_board.specs.Boards.{IsBoardBelow, empty, join_all};
 ghost use Rattle.mpx_board.specs.Changes.{pruned_on};
 ghost use Rattle.mpx_board.specs.Looks.{look, parts_of};
@@ -70,19 +70,8 @@ impl Desk<Node> {
         self.host.take(alloc, part)
     }
 
-    /// Joins the board that the bytes of a frame spell, as [`Node::take_frame`] does; that they spell one is the caller's condition. An
-    /// `Err` leaves what it leaves there; a frame that tells nothing wants no memory.
-    pub fn take_frame(&mut self, alloc: Global, frame: &[u8]) -> Result<(), OutOfMemory>
-        requires spelled { IsTrue (is_ok (decoded frame.now)) }
-        ensures ok { OnOk result (node_of self.new.host ≡ learn (shown (decoded frame.now)) (node_of self.old.host)) }
-        ensures err { OnErr result (StopsTaking (shown (decoded frame.now)) (node_of self.old.host) (node_of self.new.host)) }
-        ensures some { OnErr result (shown (decoded frame.now) ≢ empty) }
-        ensures requests { self.new.requests.keys ≡ self.old.requests.keys }
-    {
-        self.host.take_frame(alloc, frame)
-    }
-
-    /// The same of a frame whose items may be shared, as [`Node::take_rope`] does.
+    /// Joins the board that a frame spells, as [`Node::take_rope`] does; that it spells one is the caller's condition. An `Err` leaves what
+    /// it leaves there; a frame that tells nothing wants no memory.
     pub fn take_rope(&mut self, alloc: Global, frame: &RopeRef<'_>) -> Result<(), OutOfMemory>
         requires spelled { (parts : PartsView) × IsSpelled frame.now parts }
         ensures ok { OnOk result (node_of self.new.host ≡ learn (shown (decoded frame.now)) (node_of self.old.host)) }
