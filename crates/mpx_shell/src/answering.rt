@@ -8,7 +8,6 @@ use clap::error::ErrorKind;
 use mpx_affine::Affine;
 use mpx_num::{Listing, Ops, OwnOp};
 use mpx_program::{Exit, refuse, run_job, run_job_in_threads};
-use mpx_run::{Command, Job};
 use mpx_sim::{InThreads, Observer};
 use mpx_words::Invocation;
 use std::alloc::{AllocError, Global};
@@ -31,17 +30,6 @@ macro_rules! own_operations {
         };
         ops
     }};
-}
-
-// Whether a job is a run in threads.
-pub(crate) fn is_in_threads(job: &Job) -> bool
-    ensures { result ≡ is_in_threads job.now }
-{
-    match job.command {
-        Command::Run => job.options.threads,
-        Command::Eval => false,
-        Command::Check => false,
-    }
 }
 
 // Does what a call asks for, as `run_job` of `mpx_program` does, where scripts may name one operation of a job's own: the composition of

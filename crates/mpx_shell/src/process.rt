@@ -8,11 +8,11 @@ ghost use Rattle.mpx_program.specs.Jobs.{AsFounded, AsPrinted, IsRefused};
 ghost use Rattle.mpx_shell.specs.Answers.{Answers, AskFor, EndsBy, MaySay, asks_for_threads, how_to_give};
 ghost use Rattle.mpx_shell.specs.Showing.{shown_on, shows_lines, shows_rows};
 
-use crate::answering::{answer, answer_in_threads, is_in_threads};
+use crate::answering::{answer, answer_in_threads};
 use crate::progress::HowFar;
 use crate::seen::Seen;
 use mpx_program::refuse;
-use mpx_run::write_bytes;
+use mpx_run::{is_in_threads, write_bytes};
 use mpx_sim::Observer;
 use mpx_words::{Invocation, call_of, not_text};
 use std::alloc::{AllocError, Global};
