@@ -1,13 +1,14 @@
 -- What a run comes to, of what a call does.
-use Rattle.std.proofs.Common.{◌≡◌, ◌≢◌, ◌∙◌, ℕ, List, [], ◌++◌, Option, Some, Result, Ok, Err, Bool, ap, inl, inr, sym}
+use Rattle.std.proofs.Common.{◌≡◌, ◌∙◌, ℕ, List, [], ◌++◌, Option, Some, Result, Ok, Err, Bool, ap, inl, subst, sym}
 use Rattle.std.proofs.lemmas.List.{append_assoc}
 use Rattle.mpx_num.specs.declared.own.Operation.{Operation}
 use Rattle.mpx_run.specs.declared.end.End.{End}
+use Rattle.mpx_run.specs.declared.streams.WriteFault.{WriteFault}
 use Rattle.mpx_run.specs.declared.texts.RunError.{RunError}
-use Rattle.mpx_program.specs.Jobs.{AsFounded, DoesJobWith, Exits, OfJobs}
+use Rattle.mpx_program.specs.Jobs.{AsFounded, DoesJobWith, Exits, Tells}
 use Rattle.mpx_words.specs.declared.invocation.Invocation.{Invocation}
 use Rattle.gossipmpi_c.specs.Answers.{own_operations}
-use Rattle.gossipmpi_c.specs.Runs.{AskFor, CallsTo, DoesCall, RunsTo, Starves}
+use Rattle.gossipmpi_c.specs.Runs.{AskFor, DoesCall, RunsTo}
 
 -- what is said is said otherwise
 exits_as : (answer : Result End RunError) (complains explains : Bool) (more : List ℕ) (code : ℕ) (Says Tells : List ℕ → Type 0) → ((text : List ℕ) → Says text → Tells text) → Exits answer complains explains more code Says → Exits answer complains explains more code Tells
@@ -34,12 +35,18 @@ shown_before call script printed said shown status does = record {
       (λ text is. ap (λ xs. shown ++ xs) is ∙ sym (append_assoc shown does.shown text)) does.does;
 }
 
--- what a call comes to, options come to that ask for it
-pub run_of : (options : List ℕ) (call : Invocation) (script printed said : List ℕ) (status : ℕ) → AskFor options call → CallsTo call script printed said status → RunsTo options script printed said status
-run_of options call script printed said status asks (inl does) = inl (record { left = does.left; shown = does.shown; does = inl (record { call = call; asks = asks; does = does.does }) })
-run_of options call script printed said status asks (inr starves) = inr (inr starves)
+-- what a call does, options do that ask for it
+pub run_of : (options : List ℕ) (call : Invocation) (script printed said : List ℕ) (status : ℕ) → AskFor options call → DoesCall call script printed said status → RunsTo options script printed said status
+run_of options call script printed said status asks does = inl (record { left = does.left; shown = does.shown; does = inl (record { call = call; asks = asks; does = does.does }) })
 
--- what is said behind what is shown: where memory isn't wanting
-pub behind : (call : Invocation) (script printed said shown : List ℕ) (status : ℕ) → status ≢ 4 → CallsTo call script printed said status → CallsTo call script printed (shown ++ said) status
-behind call script printed said shown status enough (inl does) = inl (shown_before call script printed said shown status does)
-behind call script printed said shown status enough (inr starves) = absurd (enough starves.status_is)
+-- a job by the programs' own operations, of which all is said
+pub of_job : (ops : List Operation) (call : Invocation) (script left first printed before said : List ℕ) (told : Result (Unit {0}) WriteFault) (status : ℕ) → ops ≡ own_operations → first ≡ [] → before ≡ [] → told ≡ Ok tt
+    → DoesJobWith AsFounded ops call (Some script) (Some left) (Some first) (Some printed) status (Tells (Some before) (Some said) told) → DoesCall call script printed said status
+of_job ops call script left first printed before said told status own empty silent whole does = record {
+  left = left;
+  shown = [];
+  does = subst (λ t. DoesJobWith AsFounded own_operations call (Some script) (Some left) (Some []) (Some printed) status (Tells (Some []) (Some said) t)) whole
+      (subst (λ b. DoesJobWith AsFounded own_operations call (Some script) (Some left) (Some []) (Some printed) status (Tells (Some b) (Some said) told)) silent
+      (subst (λ f. DoesJobWith AsFounded own_operations call (Some script) (Some left) (Some f) (Some printed) status (Tells (Some before) (Some said) told)) empty
+      (subst (λ (os : List Operation). DoesJobWith AsFounded os call (Some script) (Some left) (Some first) (Some printed) status (Tells (Some before) (Some said) told)) own does)));
+}

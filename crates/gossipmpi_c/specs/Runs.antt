@@ -38,9 +38,6 @@ pub record DoesCall (call : Invocation) (script printed said : List ℕ) (status
   pub shown : List ℕ
   pub does : DoesJobWith AsFounded own_operations call (Some script) (Some left) (Some []) (Some printed) status (λ text. said ≡ shown ++ text)
 
-abbrev pub CallsTo : Invocation → (script printed said : List ℕ) (status : ℕ) → Type 0
-CallsTo call script printed said status = DoesCall call script printed said status ⊎ Starves printed said status
-
 -- options ask for this call
 abbrev pub AskFor : (options : List ℕ) → Invocation → Type 0
 AskFor options call = invocation_in (words_of options) ≡ Some call

@@ -1,9 +1,9 @@
 //! A simulated run of a script in the caller's thread: what the program prints of it, and what it says.
-ghost use Rattle.std.specs.Prelude.{◌≡◌, List, [], ℕ, Ok, false};
+ghost use Rattle.std.specs.Prelude.{◌≡◌, ◌++◌, IfOk, List, [], ℕ, Ok, false};
 ghost use Rattle.mpx_run.specs.Texts.{is_in_threads};
 ghost use Rattle.mpx_words.specs.declared.invocation.Invocation.{Invocation};
 ghost use Rattle.gossipmpi_c.specs.Answers.{own_operations};
-ghost use Rattle.gossipmpi_c.specs.Runs.{AskFor, AskForNone, CallsTo, RunsTo, Starves};
+ghost use Rattle.gossipmpi_c.specs.Runs.{AskFor, AskForNone, DoesCall, RunsTo, Starves};
 
 use crate::options::words_of;
 use mpx_affine::Affine;
@@ -12,7 +12,7 @@ use mpx_program::{Exit, refuse, run_job};
 use mpx_run::{Command, InOneThread, Job, Observer, Unobserved};
 use mpx_trace::{Table, Trace};
 use mpx_words::{Invocation, call_of};
-use std::alloc::Global;
+use std::alloc::{AllocError, Global};
 use std::str;
 
 /// What a run comes to.
@@ -36,7 +36,7 @@ const MEMORY: u8 = 4;
 const FAULT: u8 = 5;
 
 /// What a run of the script with these options comes to: the program's own, in the caller's thread.
-pub(crate) fn ran(alloc: Global, options: &[u8], script: &[u8]) -> Ran
+pub(crate) fn run_script(alloc: Global, options: &[u8], script: &[u8]) -> Ran
     ensures { RunsTo options.now script.now result.printed.items result.said.items result.status }
 {
     let Ok(options) = str::from_utf8(options) else {
@@ -113,66 +113,102 @@ fn refused(alloc: Global, why: &clap::Error) -> Ran
     }
 }
 
-// What a call comes to, by the operations of the programs' own.
+// What a call comes to.
 fn called(alloc: Global, call: &Invocation, script: &[u8]) -> Ran
     ensures { (options : List ℕ) → AskFor options call.now → RunsTo options script.now result.printed.items result.said.items result.status }
 {
     if is_in_threads(&call.job) {
         return declined(alloc, b"the library starts no threads\n");
     }
+    match by_own(alloc, call, script) {
+        Ok(ran) => ran,
+        Err(_) => starved(alloc),
+    }
+}
+
+// The run by the operations of the programs' own.
+fn by_own(alloc: Global, call: &Invocation, script: &[u8]) -> Result<Ran, AllocError>
+    requires alone { is_in_threads call.now.job ≡ false }
+    ensures { IfOk result (λ ran. DoesCall call.now script.now ran.printed.items ran.said.items ran.status) }
+{
     let mut list: Vec<Box<dyn OwnOp + Send + Sync + Drop>> = Vec::new(alloc);
     let Ok(affine) = Box::new(alloc, Affine::of_programs()) else {
-        return starved(alloc);
+        return Err(AllocError);
     };
     if list.push(affine).is_err() {
-        return starved(alloc);
+        return Err(AllocError);
     }
     let Ok(ops) = Ops::new(list) else {
-        return starved(alloc);
+        return Err(AllocError);
     };
     shown(alloc, call, script, &ops)
 }
 
 // The same by these operations, with what is shown of the run as it goes.
-fn shown(alloc: Global, call: &Invocation, script: &[u8], ops: &Ops) -> Ran
+fn shown(alloc: Global, call: &Invocation, script: &[u8], ops: &Ops) -> Result<Ran, AllocError>
     requires alone { is_in_threads call.now.job ≡ false }
     requires own { ⟦<Ops as Listing>⟧.operations ops.now ≡ own_operations }
-    ensures { CallsTo call.now script.now result.printed.items result.said.items result.status }
+    ensures { IfOk result (λ ran. DoesCall call.now script.now ran.printed.items ran.said.items ran.status) }
 {
     if call.flags.trace {
-        let mut trace = Trace::new(alloc, Vec::new(alloc));
-        let ran = observed(alloc, call, script, &mut trace, ops);
-        return behind(alloc, trace.into_writer(), ran);
+        return traced(alloc, call, script, ops);
     }
     if call.flags.table {
-        let mut table = Table::new(alloc, Vec::new(alloc));
-        let ran = observed(alloc, call, script, &mut table, ops);
-        return behind(alloc, table.into_writer(), ran);
+        return tabled(alloc, call, script, ops);
     }
     observed(alloc, call, script, &mut Unobserved, ops)
 }
 
-// What it says stands behind what is shown, if memory isn't wanting.
-fn behind(alloc: Global, shown: Vec<u8>, ran: Ran) -> Ran
-    ensures { (call : Invocation) (script : List ℕ) → CallsTo call script ran.printed.items ran.said.items ran.status → CallsTo call script result.printed.items result.said.items result.status }
+// The run with its trace.
+fn traced(alloc: Global, call: &Invocation, script: &[u8], ops: &Ops) -> Result<Ran, AllocError>
+    requires alone { is_in_threads call.now.job ≡ false }
+    requires own { ⟦<Ops as Listing>⟧.operations ops.now ≡ own_operations }
+    ensures { IfOk result (λ ran. DoesCall call.now script.now ran.printed.items ran.said.items ran.status) }
 {
-    if ran.status == MEMORY {
-        return ran;
-    }
+    let mut trace = Trace::new(alloc, Vec::new(alloc));
+    let ran = observed(alloc, call, script, &mut trace, ops)?;
+    let all = behind(trace.into_writer(), ran)?;
+    Ok(all)
+}
+
+// The run with its table.
+fn tabled(alloc: Global, call: &Invocation, script: &[u8], ops: &Ops) -> Result<Ran, AllocError>
+    requires alone { is_in_threads call.now.job ≡ false }
+    requires own { ⟦<Ops as Listing>⟧.operations ops.now ≡ own_operations }
+    ensures { IfOk result (λ ran. DoesCall call.now script.now ran.printed.items ran.said.items ran.status) }
+{
+    let mut table = Table::new(alloc, Vec::new(alloc));
+    let ran = observed(alloc, call, script, &mut table, ops)?;
+    let all = behind(table.into_writer(), ran)?;
+    Ok(all)
+}
+
+// What it says stands behind what is shown.
+fn behind(shown: Vec<u8>, ran: Ran) -> Result<Ran, AllocError>
+    ensures { IfOk result (λ all. (call : Invocation) (script : List ℕ) → DoesCall call script ran.printed.items ran.said.items ran.status → DoesCall call script all.printed.items all.said.items all.status) }
+{
     let Ran {
         status,
         printed,
         said,
     } = ran;
-    let mut all = shown;
-    if all.extend_from_slice(&said).is_err() {
-        return starved(alloc);
-    }
-    Ran {
+    let all = joined(shown, said.as_slice())?;
+    Ok(Ran {
         status,
         printed,
         said: all,
+    })
+}
+
+// Two texts as one.
+fn joined(first: Vec<u8>, second: &[u8]) -> Result<Vec<u8>, AllocError>
+    ensures { IfOk result (λ all. all.items ≡ first.items ++ second.now) }
+{
+    let mut all = first;
+    if all.extend_from_slice(second).is_err() {
+        return Err(AllocError);
     }
+    Ok(all)
 }
 
 // The run, on which this one looks.
@@ -182,10 +218,10 @@ fn observed(
     script: &[u8],
     observer: &mut dyn Observer,
     ops: &Ops,
-) -> Ran
+) -> Result<Ran, AllocError>
     requires alone { is_in_threads call.now.job ≡ false }
     requires own { ⟦<Ops as Listing>⟧.operations ops.now ≡ own_operations }
-    ensures { CallsTo call.now script.now result.printed.items result.said.items result.status }
+    ensures { IfOk result (λ ran. DoesCall call.now script.now ran.printed.items ran.said.items ran.status) }
 {
     let mut reader = script;
     let mut printed = Vec::new(alloc);
@@ -202,11 +238,11 @@ fn observed(
         ops,
     );
     if is_starved(&exit) {
-        return starved(alloc);
+        return Err(AllocError);
     }
-    Ran {
+    Ok(Ran {
         status: exit.status,
         printed,
         said,
-    }
+    })
 }

@@ -1,7 +1,7 @@
 //! Simulated runs for programs in C.
 ghost use Rattle.gossipmpi_c.specs.Runs.{Prints, Says};
 
-use crate::ran::ran;
+use crate::ran::run_script;
 use crate::write_text;
 use std::alloc::Global;
 
@@ -18,7 +18,7 @@ pub extern "C" fn gossipmpi_run(
 ) -> u8
     ensures { Prints options.now script.now out.old out.new needed.new result }
 {
-    let ran = ran(alloc, options, script);
+    let ran = run_script(alloc, options, script);
     write_text(ran.printed.as_slice(), out, needed);
     ran.status
 }
@@ -36,7 +36,7 @@ pub extern "C" fn gossipmpi_run_says(
 ) -> u8
     ensures { Says options.now script.now out.old out.new needed.new result }
 {
-    let ran = ran(alloc, options, script);
+    let ran = run_script(alloc, options, script);
     write_text(ran.said.as_slice(), out, needed);
     ran.status
 }
