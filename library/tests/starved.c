@@ -41,6 +41,14 @@ void __wrap_free(void *block)
 }
 
 typedef uint8_t call(const uint8_t *, size_t, uint8_t *, size_t, size_t *);
+
+/* A run as a call: it loses frames, and is traced. */
+static uint8_t runs(const uint8_t *script, size_t length, uint8_t *to, size_t room, size_t *needed)
+{
+    static const uint8_t options[] = "--loss 20 --turns 200 --trace";
+    return gossipmpi_run(script, length, options, sizeof options - 1, to, room, needed);
+}
+
 static uint8_t out[1 << 22];
 
 /* How many allocations of a call were refused; -1 where one that is refused isn't answered so. The first EACH are refused in turn, the later ones in steps that grow:
@@ -65,14 +73,14 @@ static long tried(call *f, const uint8_t *script, size_t length, const char *nam
 int main(int argc, char **argv)
 {
     static uint8_t script[1 << 21];
-    call *calls[] = {gossipmpi_eval, gossipmpi_check, gossipmpi_explain};
+    call *calls[] = {gossipmpi_eval, gossipmpi_check, gossipmpi_explain, runs};
     long all = 0;
     for (int i = 1; i < argc; i++) {
         FILE *file = fopen(argv[i], "rb");
         if (!file) { perror(argv[i]); return 2; }
         size_t length = fread(script, 1, sizeof script, file);
         fclose(file);
-        for (int f = 0; f < 3; f++) {
+        for (int f = 0; f < 4; f++) {
             long made = tried(calls[f], script, length, argv[i]);
             if (made < 0) return 1;
             all += made;
