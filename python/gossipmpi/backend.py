@@ -42,8 +42,8 @@ class Library:
 
     def run_of(self, script: bytes, options: List[str]) -> Tuple[int, str, str]:
         words = " ".join(options).encode()
-        status, text = self.ask("run", script, words)
-        return status, text, self.ask("run_says", script, words).text
+        (status, text), (again, said) = self.ask("run", script, words), self.ask("run_says", script, words)
+        return MEMORY if MEMORY in (status, again) else status, text, said
 
     def ask(self, name: str, *given: bytes) -> Answer:
         room, needed, function = 4096, ctypes.c_size_t(0), self.function(name)

@@ -61,7 +61,7 @@ class Scripts(unittest.TestCase):
         self.assertIn("turn 1: rank 2 posts world 0, line 4: allreduce world sum i64 5 6\n", traced.said)
         waits = gossipmpi.run("ranks 3\n0: barrier world\n2: barrier world\n", explain=True)
         self.assertEqual((waits.waiting, waits.status), ([0, 2], 3))
-        self.assertIn("these ranks wait in every run\n", waits.said)
+        self.assertIn("deadlock: these ranks wait whatever the network does\n", waits.said)
         self.assertEqual(gossipmpi.run(SUMS, loss=100, turns=5).waiting, [0, 1, 2])
 
     def test_runs_that_are_none(self):

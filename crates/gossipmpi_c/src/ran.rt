@@ -1,18 +1,19 @@
 //! A simulated run of a script in the caller's thread: what the program prints of it, and what it says.
-ghost use Rattle.std.specs.Prelude.{◌≡◌, ◌++◌, IfOk, List, [], ℕ, Ok, false};
+ghost use Rattle.std.specs.Prelude.{◌≡◌, ◌++◌, ◌⊎◌, IfOk, List, [], ℕ, Ok, false, true};
 ghost use Rattle.mpx_run.specs.Texts.{is_in_threads};
 ghost use Rattle.mpx_words.specs.declared.invocation.Invocation.{Invocation};
 ghost use Rattle.gossipmpi_c.specs.Answers.{own_operations};
-ghost use Rattle.gossipmpi_c.specs.Runs.{AskFor, AskForNone, DoesCall, RunsTo, Starves};
+ghost use Rattle.gossipmpi_c.specs.Runs.{AskFor, AskForNone, Declines, DoesCall, IsDeclined, MakesRun, RefusesOptions, RunsTo, RunsWhole, ShowsCall, is_unexplained};
 
 use crate::options::words_of;
+use join_core::OutOfMemory;
 use mpx_affine::Affine;
 use mpx_num::{Listing, Ops, OwnOp};
 use mpx_program::{Exit, refuse, run_job};
 use mpx_run::{Command, InOneThread, Job, Observer, Unobserved};
 use mpx_trace::{Table, Trace};
 use mpx_words::{Invocation, call_of};
-use std::alloc::{AllocError, Global};
+use std::alloc::Global;
 use std::str;
 
 /// What a run comes to.
@@ -35,30 +36,32 @@ const MEMORY: u8 = 4;
 // The status of a program that can't read or write.
 const FAULT: u8 = 5;
 
-/// What a run of the script with these options comes to: the program's own, in the caller's thread.
+/// What a run of the script with these options comes to: the program's own, in the caller's thread. Where memory is wanting for anything that is printed,
+/// said or shown, there is none of it.
 pub(crate) fn run_script(alloc: Global, options: &[u8], script: &[u8]) -> Ran
     ensures { RunsTo options.now script.now result.printed.items result.said.items result.status }
+{
+    match run_whole(alloc, options, script) {
+        Ok(ran) => ran,
+        Err(OutOfMemory) => Ran {
+            status: MEMORY,
+            printed: Vec::new(alloc),
+            said: Vec::new(alloc),
+        },
+    }
+}
+
+// The same where memory suffices.
+fn run_whole(alloc: Global, options: &[u8], script: &[u8]) -> Result<Ran, OutOfMemory>
+    ensures { IfOk result (λ ran. RunsWhole options.now script.now ran.printed.items ran.said.items ran.status) }
 {
     let Ok(options) = str::from_utf8(options) else {
         return declined(alloc, b"the options are no text\n");
     };
-    let Ok(words) = words_of(alloc, options) else {
-        return starved(alloc);
-    };
+    let words = words_of(alloc, options)?;
     match call_of(alloc, &words) {
         Ok(call) => called(alloc, &call, script),
         Err(why) => refused(alloc, &why),
-    }
-}
-
-// There is no more memory.
-fn starved(alloc: Global) -> Ran
-    ensures { Starves result.printed.items result.said.items result.status }
-{
-    Ran {
-        status: MEMORY,
-        printed: Vec::new(alloc),
-        said: Vec::new(alloc),
     }
 }
 
@@ -83,132 +86,147 @@ fn is_starved(exit: &Exit) -> bool
     }
 }
 
-// The options are declined, for this reason, which memory may be wanting for.
-fn declined(alloc: Global, why: &[u8]) -> Ran
-    ensures status { result.status ≡ 1 }
-    ensures printed { result.printed.items ≡ [] }
+// Whether it is said that memory was wanting for what is explained.
+fn is_unexplained(said: &[u8]) -> bool
+    ensures { result ≡ is_unexplained said.now }
+{
+    said.ends_with(b"out of memory: no more is explained\n")
+}
+
+// The options are declined, for this reason.
+fn declined(alloc: Global, why: &[u8]) -> Result<Ran, OutOfMemory>
+    ensures { IfOk result (λ ran. IsDeclined why.now ran.printed.items ran.said.items ran.status) }
 {
     let mut said = Vec::new(alloc);
-    let _ = said.extend_from_slice(why);
-    Ran {
+    said.extend_from_slice(why)?;
+    Ok(Ran {
         status: USAGE,
         printed: Vec::new(alloc),
         said,
-    }
+    })
 }
 
 // The words ask for no call.
-fn refused(alloc: Global, why: &clap::Error) -> Ran
-    ensures { (options script : List ℕ) → AskForNone options why.now → RunsTo options script result.printed.items result.said.items result.status }
+fn refused(alloc: Global, why: &clap::Error) -> Result<Ran, OutOfMemory>
+    ensures { IfOk result (λ ran. (options script : List ℕ) → AskForNone options why.now → RefusesOptions options script ran.printed.items ran.said.items ran.status) }
 {
     let mut said = Vec::new(alloc);
     let exit = refuse(why, &mut said);
     if is_starved(&exit) {
-        return starved(alloc);
+        return Err(OutOfMemory);
     }
-    Ran {
+    Ok(Ran {
         status: exit.status,
         printed: Vec::new(alloc),
         said,
-    }
+    })
 }
 
 // What a call comes to.
-fn called(alloc: Global, call: &Invocation, script: &[u8]) -> Ran
-    ensures { (options : List ℕ) → AskFor options call.now → RunsTo options script.now result.printed.items result.said.items result.status }
+fn called(alloc: Global, call: &Invocation, script: &[u8]) -> Result<Ran, OutOfMemory>
+    ensures { IfOk result (λ ran. (options : List ℕ) → AskFor options call.now → MakesRun options script.now ran.printed.items ran.said.items ran.status ⊎ Declines options ran.printed.items ran.said.items ran.status) }
 {
     if is_in_threads(&call.job) {
         return declined(alloc, b"the library starts no threads\n");
     }
-    match by_own(alloc, call, script) {
-        Ok(ran) => ran,
-        Err(_) => starved(alloc),
-    }
+    by_own(alloc, call, script)
 }
 
 // The run by the operations of the programs' own.
-fn by_own(alloc: Global, call: &Invocation, script: &[u8]) -> Result<Ran, AllocError>
+fn by_own(alloc: Global, call: &Invocation, script: &[u8]) -> Result<Ran, OutOfMemory>
     requires alone { is_in_threads call.now.job ≡ false }
-    ensures { IfOk result (λ ran. DoesCall call.now script.now ran.printed.items ran.said.items ran.status) }
+    ensures { IfOk result (λ ran. ShowsCall call.now script.now ran.printed.items ran.said.items ran.status) }
 {
     let mut list: Vec<Box<dyn OwnOp + Send + Sync + Drop>> = Vec::new(alloc);
     let Ok(affine) = Box::new(alloc, Affine::of_programs()) else {
-        return Err(AllocError);
+        return Err(OutOfMemory);
     };
     if list.push(affine).is_err() {
-        return Err(AllocError);
+        return Err(OutOfMemory);
     }
     let Ok(ops) = Ops::new(list) else {
-        return Err(AllocError);
+        return Err(OutOfMemory);
     };
     shown(alloc, call, script, &ops)
 }
 
-// The same by these operations, with what is shown of the run as it goes.
-fn shown(alloc: Global, call: &Invocation, script: &[u8], ops: &Ops) -> Result<Ran, AllocError>
+// The same by these operations, behind what is shown of the run as it goes.
+fn shown(alloc: Global, call: &Invocation, script: &[u8], ops: &Ops) -> Result<Ran, OutOfMemory>
     requires alone { is_in_threads call.now.job ≡ false }
     requires own { ⟦<Ops as Listing>⟧.operations ops.now ≡ own_operations }
-    ensures { IfOk result (λ ran. DoesCall call.now script.now ran.printed.items ran.said.items ran.status) }
+    ensures { IfOk result (λ ran. ShowsCall call.now script.now ran.printed.items ran.said.items ran.status) }
 {
     if call.flags.trace {
-        return traced(alloc, call, script, ops);
+        let mut trace = Trace::new(alloc, Vec::new(alloc));
+        let ran = traced(alloc, call, script, &mut trace, ops)?;
+        return behind(trace.into_writer(), ran);
     }
     if call.flags.table {
-        return tabled(alloc, call, script, ops);
+        let mut table = Table::new(alloc, Vec::new(alloc));
+        let ran = tabled(alloc, call, script, &mut table, ops)?;
+        return behind(table.into_writer(), ran);
     }
     observed(alloc, call, script, &mut Unobserved, ops)
 }
 
-// The run with its trace.
-fn traced(alloc: Global, call: &Invocation, script: &[u8], ops: &Ops) -> Result<Ran, AllocError>
+// The run with its trace, for all of which memory sufficed.
+fn traced(
+    alloc: Global,
+    call: &Invocation,
+    script: &[u8],
+    trace: &mut Trace<Vec<u8>>,
+    ops: &Ops,
+) -> Result<Ran, OutOfMemory>
     requires alone { is_in_threads call.now.job ≡ false }
     requires own { ⟦<Ops as Listing>⟧.operations ops.now ≡ own_operations }
-    ensures { IfOk result (λ ran. DoesCall call.now script.now ran.printed.items ran.said.items ran.status) }
+    ensures does { IfOk result (λ ran. DoesCall call.now script.now ran.printed.items ran.said.items ran.status) }
+    ensures whole { IfOk result (λ ran. trace.new.whole ≡ true) }
 {
-    let mut trace = Trace::new(alloc, Vec::new(alloc));
-    let ran = observed(alloc, call, script, &mut trace, ops)?;
-    let all = behind(trace.into_writer(), ran)?;
-    Ok(all)
+    let ran = observed(alloc, call, script, trace, ops)?;
+    if !trace.is_whole() {
+        return Err(OutOfMemory);
+    }
+    Ok(ran)
 }
 
-// The run with its table.
-fn tabled(alloc: Global, call: &Invocation, script: &[u8], ops: &Ops) -> Result<Ran, AllocError>
+// The run with its table, for all of which memory sufficed.
+fn tabled(
+    alloc: Global,
+    call: &Invocation,
+    script: &[u8],
+    table: &mut Table<Vec<u8>>,
+    ops: &Ops,
+) -> Result<Ran, OutOfMemory>
     requires alone { is_in_threads call.now.job ≡ false }
     requires own { ⟦<Ops as Listing>⟧.operations ops.now ≡ own_operations }
-    ensures { IfOk result (λ ran. DoesCall call.now script.now ran.printed.items ran.said.items ran.status) }
+    ensures does { IfOk result (λ ran. DoesCall call.now script.now ran.printed.items ran.said.items ran.status) }
+    ensures whole { IfOk result (λ ran. table.new.whole ≡ true) }
 {
-    let mut table = Table::new(alloc, Vec::new(alloc));
-    let ran = observed(alloc, call, script, &mut table, ops)?;
-    let all = behind(table.into_writer(), ran)?;
-    Ok(all)
+    let ran = observed(alloc, call, script, table, ops)?;
+    if !table.is_whole() {
+        return Err(OutOfMemory);
+    }
+    Ok(ran)
 }
 
-// What it says stands behind what is shown.
-fn behind(shown: Vec<u8>, ran: Ran) -> Result<Ran, AllocError>
-    ensures { IfOk result (λ all. (call : Invocation) (script : List ℕ) → DoesCall call script ran.printed.items ran.said.items ran.status → DoesCall call script all.printed.items all.said.items all.status) }
+// What a run says stands behind what is shown of it.
+fn behind(shown: Vec<u8>, ran: Ran) -> Result<Ran, OutOfMemory>
+    ensures said { IfOk result (λ all. all.said.items ≡ shown.items ++ ran.said.items) }
+    ensures printed { IfOk result (λ all. all.printed.items ≡ ran.printed.items) }
+    ensures status { IfOk result (λ all. all.status ≡ ran.status) }
 {
     let Ran {
         status,
         printed,
         said,
     } = ran;
-    let all = joined(shown, said.as_slice())?;
+    let mut all = shown;
+    all.extend_from_slice(said.as_slice())?;
     Ok(Ran {
         status,
         printed,
         said: all,
     })
-}
-
-// Two texts as one.
-fn joined(first: Vec<u8>, second: &[u8]) -> Result<Vec<u8>, AllocError>
-    ensures { IfOk result (λ all. all.items ≡ first.items ++ second.now) }
-{
-    let mut all = first;
-    if all.extend_from_slice(second).is_err() {
-        return Err(AllocError);
-    }
-    Ok(all)
 }
 
 // The run, on which this one looks.
@@ -218,7 +236,7 @@ fn observed(
     script: &[u8],
     observer: &mut dyn Observer,
     ops: &Ops,
-) -> Result<Ran, AllocError>
+) -> Result<Ran, OutOfMemory>
     requires alone { is_in_threads call.now.job ≡ false }
     requires own { ⟦<Ops as Listing>⟧.operations ops.now ≡ own_operations }
     ensures { IfOk result (λ ran. DoesCall call.now script.now ran.printed.items ran.said.items ran.status) }
@@ -238,7 +256,10 @@ fn observed(
         ops,
     );
     if is_starved(&exit) {
-        return Err(AllocError);
+        return Err(OutOfMemory);
+    }
+    if is_unexplained(said.as_slice()) {
+        return Err(OutOfMemory);
     }
     Ok(Ran {
         status: exit.status,
