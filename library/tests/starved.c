@@ -2,7 +2,7 @@
  * is left allocated. The linker hands it what the library asks of malloc, realloc and free (--wrap), so that a sanitizer's or valgrind's are beneath.
  *
  *     starved SCRIPT..        the files of scripts */
-#include "gossipmpi.h"
+#include "calls.h"
 #include <stdio.h>
 #include <stdlib.h>
 
@@ -40,7 +40,14 @@ void __wrap_free(void *block)
     __real_free(block);
 }
 
-typedef uint8_t call(const uint8_t *, size_t, uint8_t *, size_t, size_t *);
+/* Runs of any script with options that ask for none. */
+RUN(past, gossipmpi_run_says, "--loss 101")
+RUN(unknown, gossipmpi_run_says, "--seed 7 --tarce")
+RUN(twofold, gossipmpi_run_says, "--trace --table")
+RUN(in_threads, gossipmpi_run_says, "--threads")
+RUN(no_text, gossipmpi_run_says, "\xff")
+static call *const refusals[] = {past, unknown, twofold, in_threads, no_text};
+
 static uint8_t out[1 << 22];
 
 /* How many allocations of a call were refused; -1 where one that is refused isn't answered so. The first EACH are refused in turn, the later ones in steps that grow:
@@ -65,14 +72,18 @@ static long tried(call *f, const uint8_t *script, size_t length, const char *nam
 int main(int argc, char **argv)
 {
     static uint8_t script[1 << 21];
-    call *calls[] = {gossipmpi_eval, gossipmpi_check, gossipmpi_explain};
     long all = 0;
+    for (size_t f = 0; f < sizeof refusals / sizeof *refusals; f++) {
+        long made = tried(refusals[f], script, 0, "options");
+        if (made < 0) return 1;
+        all += made;
+    }
     for (int i = 1; i < argc; i++) {
         FILE *file = fopen(argv[i], "rb");
         if (!file) { perror(argv[i]); return 2; }
         size_t length = fread(script, 1, sizeof script, file);
         fclose(file);
-        for (int f = 0; f < 3; f++) {
+        for (int f = 0; f < CALLS; f++) {
             long made = tried(calls[f], script, length, argv[i]);
             if (made < 0) return 1;
             all += made;
