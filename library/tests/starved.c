@@ -62,11 +62,11 @@ static int is_whole(int status, size_t needed, int wanted, size_t length)
 
 /* How many allocations of a call were refused; -1 where one that is refused isn't answered so. The first EACH are refused in turn, the later ones in steps that grow:
  * the quadratic time of all would be minutes. A run may do without some. */
-static long tried(call *f, const uint8_t *script, size_t length, const char *name)
+static long tried(call *f, int is_run, const uint8_t *script, size_t length, const char *name)
 {
     long tries = 0;
     size_t all = 0;
-    int wanted = f(script, length, whole, sizeof whole, &all), runs = f == traced || f == explained;
+    int wanted = f(script, length, whole, sizeof whole, &all);
     for (refused = 1;; refused += refused <= EACH ? 1 : refused / 20) {
         size_t needed = 77;
         out[0] = '#';
@@ -78,7 +78,7 @@ static long tried(call *f, const uint8_t *script, size_t length, const char *nam
         if (allocations < refused) return is_whole(status, needed, wanted, all) ? tries : -1;
         tries++;
         if (status == GOSSIPMPI_MEMORY && !needed && out[0] == '#') continue;
-        if (!runs || !is_whole(status, needed, wanted, all)) { fprintf(stderr, "%s: status %d, allocation %ld refused\n", name, status, refused); return -1; }
+        if (!is_run || !is_whole(status, needed, wanted, all)) { fprintf(stderr, "%s: status %d, allocation %ld refused\n", name, status, refused); return -1; }
         spared++;
     }
 }
@@ -88,7 +88,7 @@ int main(int argc, char **argv)
     static uint8_t script[1 << 21];
     long all = 0;
     for (size_t f = 0; f < sizeof refusals / sizeof *refusals; f++) {
-        long made = tried(refusals[f], script, 0, "options");
+        long made = tried(refusals[f], 0, script, 0, "options");
         if (made < 0) return 1;
         all += made;
     }
@@ -98,7 +98,7 @@ int main(int argc, char **argv)
         size_t length = fread(script, 1, sizeof script, file);
         fclose(file);
         for (int f = 0; f < CALLS; f++) {
-            long made = tried(calls[f], script, length, argv[i]);
+            long made = tried(calls[f], f >= FIRST_RUN, script, length, argv[i]);
             if (made < 0) { fprintf(stderr, "call %d\n", f); return 1; }
             all += made;
         }
