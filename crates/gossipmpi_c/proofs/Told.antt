@@ -1,11 +1,11 @@
 -- What a run comes to, of what a call does.
-use Rattle.std.proofs.Common.{◌≡◌, ◌∙◌, ℕ, List, [], ◌++◌, Option, Some, Result, Ok, true, false, refl, subst}
+use Rattle.std.proofs.Common.{◌≡◌, ℕ, List, [], Some, Result, Ok, false, subst}
 use Rattle.mpx_num.specs.declared.own.Operation.{Operation}
 use Rattle.mpx_run.specs.declared.streams.WriteFault.{WriteFault}
 use Rattle.mpx_program.specs.Jobs.{AsFounded, DoesJobWith, Tells}
 use Rattle.mpx_words.specs.declared.invocation.Invocation.{Invocation}
 use Rattle.gossipmpi_c.specs.Answers.{own_operations}
-use Rattle.gossipmpi_c.specs.Runs.{DoesCall, IsShown, ShowsCall, is_unexplained}
+use Rattle.gossipmpi_c.specs.Runs.{DoesCall, is_unexplained}
 
 -- a job by the programs' own operations, of which all is said
 pub of_job : (ops : List Operation) (call : Invocation) (script left first printed before said : List ℕ) (told : Result (Unit {0}) WriteFault) (status : ℕ) → ops ≡ own_operations → first ≡ [] → before ≡ [] → told ≡ Ok tt

@@ -56,12 +56,19 @@ fn run_whole(alloc: Global, options: &[u8], script: &[u8]) -> Result<Ran, OutOfM
     ensures { IfOk result (λ ran. RunsWhole options.now script.now ran.printed.items ran.said.items ran.status) }
 {
     let Ok(options) = str::from_utf8(options) else {
-        return declined(alloc, b"the options are no text\n");
+        let ran = declined(alloc, b"the options are no text\n")?;
+        return Ok(ran);
     };
     let words = words_of(alloc, options)?;
     match call_of(alloc, &words) {
-        Ok(call) => called(alloc, &call, script),
-        Err(why) => refused(alloc, &why),
+        Ok(call) => {
+            let ran = called(alloc, &call, script)?;
+            Ok(ran)
+        }
+        Err(why) => {
+            let ran = refused(alloc, &why)?;
+            Ok(ran)
+        }
     }
 }
 
@@ -116,9 +123,11 @@ fn called(alloc: Global, call: &Invocation, script: &[u8]) -> Result<Ran, OutOfM
     ensures { IfOk result (λ ran. (options : List ℕ) → AskFor options call.now → MakesRun options script.now ran.printed.items ran.said.items ran.status ⊎ Declines options ran.printed.items ran.said.items ran.status) }
 {
     if is_in_threads(&call.job) {
-        return declined(alloc, b"the library starts no threads\n");
+        let ran = declined(alloc, b"the library starts no threads\n")?;
+        return Ok(ran);
     }
-    by_own(alloc, call, script)
+    let ran = by_own(alloc, call, script)?;
+    Ok(ran)
 }
 
 // The run by the operations of the programs' own.
@@ -148,14 +157,17 @@ fn shown(alloc: Global, call: &Invocation, script: &[u8], ops: &Ops) -> Result<R
     if call.flags.trace {
         let mut trace = Trace::new(alloc, Vec::new(alloc));
         let ran = traced(alloc, call, script, &mut trace, ops)?;
-        return behind(trace.into_writer(), ran);
+        let all = behind(trace.into_writer(), ran)?;
+        return Ok(all);
     }
     if call.flags.table {
         let mut table = Table::new(alloc, Vec::new(alloc));
         let ran = tabled(alloc, call, script, &mut table, ops)?;
-        return behind(table.into_writer(), ran);
+        let all = behind(table.into_writer(), ran)?;
+        return Ok(all);
     }
-    observed(alloc, call, script, &mut Unobserved, ops)
+    let ran = observed(alloc, call, script, &mut Unobserved, ops)?;
+    Ok(ran)
 }
 
 // The run with its trace, for all of which memory sufficed.
@@ -230,10 +242,12 @@ fn observed(
     requires own { ⟦<Ops as Listing>⟧.operations ops.now ≡ own_operations }
     ensures { IfOk result (λ ran. DoesCall call.now script.now ran.printed.items ran.said.items ran.status) }
 {
+    let printed = Vec::new(alloc);
+    let said = Vec::new(alloc);
     let mut streams = Streams {
         reader: script,
-        out: Vec::new(alloc),
-        err: Vec::new(alloc),
+        out: printed,
+        err: said,
     };
     let exit = run_job(&InOneThread, alloc, call, &mut streams, observer, ops);
     if is_starved(&exit) {
