@@ -62,7 +62,9 @@ block_upto f each (suc n) number are below =
 
 -- so many times a number, by how many
 times_by : (each n number : ℕ) → number < n → (n * each) / n ≡ each
-times_by each n number below = ap (λ m. m / n) (mul_comm n each ∙ omega arith) ∙ div-mul-add each n 0 (omega (arith, below))
+times_by each n number below =
+    let turned : n * each ≡ each * n + 0 = mul_comm n each ∙ omega arith in
+    ap (λ m. m / n) turned ∙ div-mul-add each n 0 (omega (arith, below))
 
 pub block_in_upto : {T : Type 0} (f : ℕ → List T) (each n number : ℕ) → ((i : ℕ) → i < n → length (f i) ≡ each) → number < n → block_in n number (flat_map f (upto n)) ≡ f number
 block_in_upto f each n number are below =
@@ -106,8 +108,10 @@ block_in_put {T} n number lists below =
 -- one block of each list: the lists one after the other
 block_alone : {T : Type 0} (list : List T) → block_in 1 0 list ≡ list
 block_alone list =
-    let each : length list / 1 ≡ length list = ap (λ m. m / 1) (omega arith) ∙ div-mul-add (length list) 1 0 (omega arith) in
-    ap (λ e. take e (drop (0 * e) list)) each ∙ ap (λ m. take (length list) (drop m list)) (omega arith) ∙ take_all (length list) list (omega arith)
+    let once : length list ≡ length list * 1 + 0 = omega arith in
+    let each : length list / 1 ≡ length list = ap (λ m. m / 1) once ∙ div-mul-add (length list) 1 0 (omega arith) in
+    let none : 0 * length list ≡ 0 = omega arith in
+    ap (λ e. take e (drop (0 * e) list)) each ∙ ap (λ m. take (length list) (drop m list)) none ∙ take_all (length list) list (omega arith)
 
 alone_of_each : {P T : Type 0} (f : P → List T) (parts : List P) → flat_map (λ part. block_in 1 0 (f part)) parts ≡ flat_map f parts
 alone_of_each f [] = refl
@@ -131,12 +135,12 @@ nothing_upto : {T : Type 0} (n : ℕ) (f : ℕ → List T) → ((i : ℕ) → f 
 nothing_upto zero f none = refl
 nothing_upto (suc n) f none = upto_suc f n ∙ ap₂ (λ a b. a ++ b) (nothing_upto n f none) (none n)
 
-pub block_in_none : {T : Type 0} (n i : ℕ) → block_in {T} n i [] ≡ []
+pub block_in_none : {T : Type 0} (n i : ℕ) → block_in {T = T} n i [] ≡ []
 block_in_none n i = ap (take (0 / n)) (drop_all (i * (0 / n)) [] (omega arith)) ∙ take_all (0 / n) [] (omega arith)
 
-nothing_of_each : {P T : Type 0} (n i : ℕ) (parts : List P) → flat_map (block_in {T} n i) (map (λ (part : P). []) parts) ≡ []
+nothing_of_each : {P T : Type 0} (n i : ℕ) (parts : List P) → flat_map (block_in {T = T} n i) (map (λ (part : P). []) parts) ≡ []
 nothing_of_each n i [] = refl
 nothing_of_each n i (part ∷ parts) = ap₂ (λ a b. a ++ b) (block_in_none n i) (nothing_of_each n i parts)
 
-pub put_none : {P T : Type 0} (n : ℕ) (parts : List P) → put_together {T} n (map (λ (part : P). []) parts) ≡ []
+pub put_none : {P T : Type 0} (n : ℕ) (parts : List P) → put_together {T = T} n (map (λ (part : P). []) parts) ≡ []
 put_none n parts = nothing_upto n (λ i. flat_map (block_in n i) (map (λ part. []) parts)) (λ i. nothing_of_each n i parts)

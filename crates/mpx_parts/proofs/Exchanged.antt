@@ -46,6 +46,11 @@ whole_at row ty rank fine is below items =
 
 -- BLOCKS FOR EACH MEMBER
 
+so_many : (each size all : ℕ) → all ≡ each * size → 0 < size → all / size ≡ each
+so_many each size all is some =
+    let sum : all ≡ each * size + 0 = omega (arith, is) in
+    ap (λ n. n / size) sum ∙ div-mul-add each size 0 some
+
 -- of a sender of one block for each member: its numbers are so many blocks of its one count
 all_sent : (ty : Ty) (size count : ℕ) (counts : List ℕ) (given : Given) → counts ≡ count ∷ [] → type_of given ≡ ty → fill (Some (repeated size counts)) given ≡ true → length (numbers_of given) ≡ count * item_len ty * size
 all_sent ty size count counts given alone is filled =
@@ -54,7 +59,7 @@ all_sent ty size count counts given alone is filled =
 
 block_sent : (ty : Ty) (size count receiver : ℕ) (counts : List ℕ) (nums : List ℤ) → counts ≡ count ∷ [] → length nums ≡ count * item_len ty * size → receiver < size → block_at ty (repeated size counts) nums receiver ≡ block_in size receiver nums
 block_sent ty size count receiver counts nums alone all below =
-    let each : length nums / size ≡ count * item_len ty = ap (λ n. n / size) (all ∙ omega arith) ∙ div-mul-add (count * item_len ty) size 0 (omega (arith, below)) in
+    let each : length nums / size ≡ count * item_len ty = so_many (count * item_len ty) size (length nums) all (omega (arith, below)) in
     ap (λ c. block_at ty (repeated size c) nums receiver) alone ∙ block_at-repeated ty size count nums receiver below
     ∙ ap (λ n. take (count * item_len ty) (drop n nums)) (mul_assoc receiver count (item_len ty)) ∙ ap (λ e. take e (drop (receiver * e) nums)) (sym each)
 
@@ -139,7 +144,7 @@ each_block row part rank sender is below l =
     let sends = each_sends part sender is.fine is.kind here in
     let count : received (post_at part sender) ≡ received (first_of part) = amounts_at part (K.Exchange Alltoall) sender is.fine is.kind here in
     let given = post_at part sender in
-    let each : length (numbers_of given) / length part ≡ received given * item_len (type_of given) = ap (λ n. n / length part) (sends.long ∙ omega arith) ∙ div-mul-add (received given * item_len (type_of given)) (length part) 0 (omega (arith, here)) in
+    let each : length (numbers_of given) / length part ≡ received given * item_len (type_of given) = so_many (received given * item_len (type_of given)) (length part) (length (numbers_of given)) sends.long (omega (arith, here)) in
     ap length (sends.blocks rank there) ∙ length-block_in (length part) rank (numbers_of given) there ∙ each
     ∙ ap₂ (λ n t. n * item_len t) count (same_type part sender is.fine here ∙ is.ty)
 
