@@ -7,6 +7,7 @@ ghost use Rattle.mpx_board.specs.Parts.{PartsView};
 ghost use Rattle.mpx_format.specs.Decoding.{IsSpelled, decoded, shown};
 ghost use Rattle.mpx_format.specs.Encoding.{length_told};
 ghost use Rattle.mpx_delta.specs.Facts.{OnlyFactsOf};
+ghost use Rattle.mpx_delta.specs.Pieces.{NoNeighboursFit};
 ghost use Rattle.mpx_node.specs.Deltas.{AreLacked, LackFrames, SaysWhatItHas, lacking_on};
 ghost use Rattle.mpx_node.specs.Harvests.{harvested};
 ghost use Rattle.mpx_node.specs.Nodes.{Opens, StopsTaking, front_on, gathers_on, has_next, learn, learn_some, prune_part};
@@ -149,7 +150,7 @@ impl Desk<Node> {
     }
 
     /// Says what the process has, and gives what others may lack of its board in parts whose frames have at most `limit` bytes, from
-    /// 524,288 to 1,048,576, as [`Node::deltas`] does. An `Err`, for want of memory, changes nothing.
+    /// 524,288 to 1,048,576, and the join of no two beside each other would fit, as [`Node::deltas`] does. An `Err`, for want of memory, changes nothing.
     pub fn deltas(&mut self, alloc: Global, limit: usize) -> Result<Vec<Board>, OutOfMemory>
         requires least { 524288 ≤ limit }
         requires most { limit ≤ 1048576 }
@@ -157,6 +158,7 @@ impl Desk<Node> {
         ensures facts { IfOk result (λ made. All (λ part. OnlyFactsOf (look part) (node_of self.new.host).board) made.items) }
         ensures fit { IfOk result (λ made. All (λ part. length_told (parts_of part) ≤ limit) made.items) }
         ensures join { IfOk result (λ made. join_all (map look made.items) ≡ lacking_on (node_of self.new.host)) }
+        ensures few { IfOk result (λ made. NoNeighboursFit limit made.items) }
         ensures err { OnErr result (node_of self.new.host ≡ node_of self.old.host) }
         ensures requests { self.new.requests.keys ≡ self.old.requests.keys }
     {
