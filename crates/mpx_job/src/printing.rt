@@ -42,6 +42,13 @@ pub fn print_answers<A: Display, E: GivesUp, R: Print + Eprint>(
             print_after(rt, rank, e, answers);
         }
     }
+    status_of(answers)
+}
+
+// Success just where every rank answers.
+fn status_of<A, E>(answers: &[Result<A, E>]) -> ExitCode
+    ensures { exit_status result ≡ (if list_all is_ok answers.now then 0 else 1) }
+{
     if answers.iter().all(|answer| answer.is_ok()) {
         ExitCode::SUCCESS
     } else {
