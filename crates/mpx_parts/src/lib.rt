@@ -3,4 +3,4 @@
 
 mod laws;
 
-pub use laws::parts_give_what_one_call_gives;
+pub use laws::{parts_give_what_one_call_gives, parts_of_exchanges_give_what_one_call_gives};
