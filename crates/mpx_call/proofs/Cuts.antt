@@ -99,7 +99,7 @@ are_all f blocks count list l are = blocks_upto f blocks count list are blocks (
 -- one part more, after parts that are full
 one_full : {T : Type 0} (most : ℕ) (parts : List (Part T)) (part : Part T) → All (λ (p : Part T). p.count ≡ most) parts → 0 < part.count → part.count ≤ most → AreFull most (parts ++ part ∷ [])
 one_full most [] part full some few = (some, few)
-one_full {T} most (first ∷ []) part full some few = (All-head (λ (p : Part T). p.count ≡ most) first [] full, some, few)
+one_full {T} most (first ∷ []) part full some few = (All-head (λ (p : Part T). p.count ≡ most) first [] full, (some, few))
 one_full {T} most (first ∷ next ∷ parts) part full some few =
     (All-head (λ (p : Part T). p.count ≡ most) first (next ∷ parts) full, one_full most (next ∷ parts) part (All-tail (λ (p : Part T). p.count ≡ most) first (next ∷ parts) full) some few)
 
