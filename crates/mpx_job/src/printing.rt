@@ -49,11 +49,18 @@ pub fn print_answers<A: Display, E: GivesUp, R: Print + Eprint>(
 fn status_of<A, E>(answers: &[Result<A, E>]) -> ExitCode
     ensures { exit_status result ≡ (if list_all is_ok answers.now then 0 else 1) }
 {
-    if answers.iter().all(|answer| answer.is_ok()) {
+    if all_answer(answers) {
         ExitCode::SUCCESS
     } else {
         ExitCode::FAILURE
     }
+}
+
+// Whether every rank answers.
+fn all_answer<A, E>(answers: &[Result<A, E>]) -> bool
+    ensures { result ≡ list_all is_ok answers.now }
+{
+    answers.iter().all(|answer| answer.is_ok())
 }
 
 // Prints the error of a rank that names another, with what that one gave.
