@@ -36,7 +36,7 @@ by_places g none xs = ap (flat_map g) (sym (take_all (length xs) xs (omega arith
 
 -- one of so many equal blocks
 
-length_upto : {T : Type 0} (f : ℕ → List T) (each n : ℕ) → ((i : ℕ) → i < n → length (f i) ≡ each) → length (flat_map f (upto n)) ≡ n * each
+pub length_upto : {T : Type 0} (f : ℕ → List T) (each n : ℕ) → ((i : ℕ) → i < n → length (f i) ≡ each) → length (flat_map f (upto n)) ≡ n * each
 length_upto f each zero are = omega arith
 length_upto f each (suc n) are =
     ap length (upto_suc f n) ∙ length-append (flat_map f (upto n)) (f n)

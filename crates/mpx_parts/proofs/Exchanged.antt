@@ -1,6 +1,6 @@
 -- An exchange's parts give, put together block by block, what one call of whole blocks gives.
-use Rattle.std.proofs.Common.{◌≡◌, ◌==◌, ◌&&◌, ℕ, zero, suc, ◌+◌, ◌*◌, ◌/◌, ◌<◌, Bool, true, false, ◌++◌, ◌∷◌, [], List, ℤ, Option, Some, None, length, map, cond, unwrap_or, inl, inr, refl, ap, ap₂, sym, subst, ◌∙◌, eq-eqb, eqb-true, mul_assoc, arith}
-use Rattle.std.specs.List.{All, flat_map, sum}
+use Rattle.std.proofs.Common.{◌≡◌, ◌==◌, ℕ, ◌+◌, ◌*◌, ◌/◌, ◌<◌, Bool, true, false, ◌∷◌, [], List, ℤ, Option, Some, None, length, map, cond, unwrap_or, refl, ap, ap₂, sym, subst, ◌∙◌, eq-eqb, eqb-true, mul_assoc, arith}
+use Rattle.std.specs.List.{flat_map, sum}
 use Rattle.std.specs.Option.{option_map_or}
 use Rattle.std.specs.Prelude.{take, drop, nat_lt}
 use Rattle.std.proofs.lemmas.Bool.Decides.{nat_tests}
@@ -20,7 +20,7 @@ use Rattle.mpx_post.specs.declared.value.Value.TheVariants.{Nothing}
 use Rattle.mpx_post.specs.Posts.{Given, count_of, nothing_given, numbers_of, root_of, type_of}
 use Rattle.mpx_post.specs.Rows.{RowView}
 use Rattle.mpx_post.specs.Blocks.{block_at, repeated}
-use Rattle.mpx_post.specs.Agreement.{AmountsAgree, IsFine, count_at, fill, first_of, is_root, post_at, received, root_post}
+use Rattle.mpx_post.specs.Agreement.{AmountsAgree, IsFine, fill, first_of, is_root, post_at, received, root_post}
 use Rattle.mpx_post.specs.Values.{as_items}
 use Rattle.mpx_post.proofs.Agreement.{fits_parts, same_type}
 use Rattle.mpx_post.proofs.Blocks.{block_at-repeated, count_alone, filled_as, rcounts_as, repeated-replicate}
@@ -33,20 +33,20 @@ use Rattle.mpx_parts.proofs.Equal.{block_in_none, block_in_put, by_places, lengt
 
 -- THE POSTS OF A FINE ROW
 
-kind_at : (row : RowView) (kind : Kind) (rank : ℕ) → IsFine row → (first_of row).kind ≡ kind → rank < length row → (post_at row rank).kind ≡ kind
+pub kind_at : (row : RowView) (kind : Kind) (rank : ℕ) → IsFine row → (first_of row).kind ≡ kind → rank < length row → (post_at row rank).kind ≡ kind
 kind_at row kind rank fine is below = (fine.with.each rank below).kind ∙ is
 
-amounts_at : (row : RowView) (kind : Kind) (rank : ℕ) (fine : IsFine row) → (first_of row).kind ≡ kind → rank < length row → AmountsAgree fine.topology kind row rank (post_at row rank)
+pub amounts_at : (row : RowView) (kind : Kind) (rank : ℕ) (fine : IsFine row) → (first_of row).kind ≡ kind → rank < length row → AmountsAgree fine.topology kind row rank (post_at row rank)
 amounts_at row kind rank fine is below = subst (λ (k : Kind). AmountsAgree fine.topology k row rank (post_at row rank)) is (fine.with.each rank below).amounts
 
 -- as many numbers as the items have
-whole_at : (row : RowView) (ty : Ty) (rank : ℕ) → IsFine row → type_of (first_of row) ≡ ty → rank < length row → AreItems ty (numbers_of (post_at row rank)) → length (numbers_of (post_at row rank)) ≡ count_of (post_at row rank) * item_len ty
+pub whole_at : (row : RowView) (ty : Ty) (rank : ℕ) → IsFine row → type_of (first_of row) ≡ ty → rank < length row → AreItems ty (numbers_of (post_at row rank)) → length (numbers_of (post_at row rank)) ≡ count_of (post_at row rank) * item_len ty
 whole_at row ty rank fine is below items =
     sym (eqb-true _ _ items.whole) ∙ ap (λ t. item_count t (numbers_of (post_at row rank)) * item_len ty) (sym (same_type row rank fine below ∙ is))
 
 -- BLOCKS FOR EACH MEMBER
 
-so_many : (each size all : ℕ) → all ≡ each * size → 0 < size → all / size ≡ each
+pub so_many : (each size all : ℕ) → all ≡ each * size → 0 < size → all / size ≡ each
 so_many each size all is some =
     let sum : all ≡ each * size + 0 = omega (arith, is) in
     ap (λ n. n / size) sum ∙ div-mul-add each size 0 some
@@ -114,7 +114,7 @@ none_sent row fine is named receiver below =
     ∙ sym (block_in_none (length row) receiver) ∙ ap (block_in (length row) receiver) (sym nothing)
 
 -- the root of a row that has one, and of one that has none
-root_below : (row : RowView) → IsFine row → 0 < length row → root_of (first_of row) < length row
+pub root_below : (row : RowView) → IsFine row → 0 < length row → root_of (first_of row) < length row
 root_below row fine some = root_by (first_of row).root (length row) some (fits_parts fine.topology (length row) 0 (first_of row) (fine.with.each 0 some).fit).root
   where
     root_by : (root : Option ℕ) (size : ℕ) → 0 < size → option_map_or (λ r. nat_lt r size) root true ≡ true → unwrap_or root 0 < size
@@ -137,7 +137,7 @@ root_block row fine is receiver below = by_root (first_of row).root refl
 -- VALUES
 
 -- how many numbers each sender's block of an alltoall has
-each_block : (row part : RowView) (rank sender : ℕ) → IsPart Alltoall row part → rank < length row → sender < length row → length (block_for part rank sender) ≡ received (first_of part) * item_len (type_of (first_of row))
+pub each_block : (row part : RowView) (rank sender : ℕ) → IsPart Alltoall row part → rank < length row → sender < length row → length (block_for part rank sender) ≡ received (first_of part) * item_len (type_of (first_of row))
 each_block row part rank sender is below l =
     let here : sender < length part = omega (arith, is.ranks, l) in
     let there : rank < length part = omega (arith, is.ranks, below) in
@@ -169,7 +169,7 @@ where_put : (b : Bool) (f : RowView → List ℤ) (xs : List ℤ) (n : ℕ) (par
 where_put true f xs n parts is = is
 where_put false f xs n parts is = sym (put_none n parts)
 
-where_so : (b : Bool) (row : RowView) (xs : List ℤ) → cond b xs [] ≡ value_numbers (cond b (as_items row xs) Nothing)
+pub where_so : (b : Bool) (row : RowView) (xs : List ℤ) → cond b xs [] ≡ value_numbers (cond b (as_items row xs) Nothing)
 where_so true row xs = refl
 where_so false row xs = refl
 
