@@ -10,7 +10,8 @@ typedef uint8_t call(const uint8_t *, size_t, uint8_t *, size_t, size_t *);
         return f(script, length, options, sizeof options - 1, out, room, needed); \
     }
 RUN(printed, gossipmpi_run, "--seed 7 --loss 20 --turns 50 --trace")
-RUN(explained, gossipmpi_run_says, "--loss=40 --relays 1 --turns 8 --explain --strict")
+RUN(traced, gossipmpi_run_says, "--seed 7 --loss 20 --turns 50 --trace")
+RUN(tabled, gossipmpi_run_says, "--loss=40 --relays 1 --turns 8 --table --explain --strict")
 
-static call *const calls[] = {gossipmpi_eval, gossipmpi_check, gossipmpi_explain, printed, explained};
+static call *const calls[] = {gossipmpi_eval, gossipmpi_check, gossipmpi_explain, printed, traced, tabled};
 enum { CALLS = sizeof calls / sizeof *calls, FIRST_RUN = 3 };
