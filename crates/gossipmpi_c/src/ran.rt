@@ -9,7 +9,7 @@ use crate::options::words_of;
 use join_core::OutOfMemory;
 use mpx_affine::Affine;
 use mpx_num::{Listing, Ops, OwnOp};
-use mpx_program::{Exit, refuse, run_job};
+use mpx_program::{Exit, Streams, refuse, run_job};
 use mpx_run::{Command, InOneThread, Job, Observer, Unobserved};
 use mpx_trace::{Table, Trace};
 use mpx_words::{Invocation, call_of};
@@ -253,29 +253,23 @@ fn observed(
     requires own { ⟦<Ops as Listing>⟧.operations ops.now ≡ own_operations }
     ensures { IfOk result (λ ran. DoesCall call.now script.now ran.printed.items ran.said.items ran.status) }
 {
-    let mut reader = script;
-    let mut printed = Vec::new(alloc);
-    let mut said = Vec::new(alloc);
-    let (out, err) = (&mut printed, &mut said);
-    let exit = run_job(
-        &InOneThread,
-        alloc,
-        call,
-        &mut reader,
-        out,
-        err,
-        observer,
-        ops,
-    );
+    let printed = Vec::new(alloc);
+    let said = Vec::new(alloc);
+    let mut streams = Streams {
+        reader: script,
+        out: printed,
+        err: said,
+    };
+    let exit = run_job(&InOneThread, alloc, call, &mut streams, observer, ops);
     if is_starved(&exit) {
         return Err(OutOfMemory);
     }
-    if is_unexplained(said.as_slice()) {
+    if is_unexplained(streams.err.as_slice()) {
         return Err(OutOfMemory);
     }
     Ok(Ran {
         status: exit.status,
-        printed,
-        said,
+        printed: streams.out,
+        said: streams.err,
     })
 }
