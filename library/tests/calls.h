@@ -9,8 +9,8 @@ typedef uint8_t call(const uint8_t *, size_t, uint8_t *, size_t, size_t *);
         static const uint8_t options[] = words; \
         return f(script, length, options, sizeof options - 1, out, room, needed); \
     }
-RUN(printed, gossipmpi_run, "--seed 7 --loss 20 --turns 50 --trace")
-RUN(traced, gossipmpi_run_says, "--seed 7 --loss 20 --turns 50 --trace")
+RUN(printed, gossipmpi_run, "--seed 7 --loss 20 --turns 8 --trace")
+RUN(traced, gossipmpi_run_says, "--seed 7 --loss 20 --turns 8 --trace")
 RUN(tabled, gossipmpi_run_says, "--loss=40 --relays 1 --turns 8 --table --explain --strict")
 
 static call *const calls[] = {gossipmpi_eval, gossipmpi_check, gossipmpi_explain, printed, traced, tabled};

@@ -1,4 +1,4 @@
-/* Refuses each allocation of a call in turn: the status is GOSSIPMPI_MEMORY and the room is unchanged, or a run has its whole answer; until one call has all that
+/* Refuses each allocation of a call in turn: the status is GOSSIPMPI_MEMORY and the room is unchanged, or a run has its whole answer, until one call has all that
  * it asks for. Then nothing is left allocated. The linker hands it what the library asks of malloc, realloc and free (--wrap), so that a sanitizer's or valgrind's are beneath.
  *
  *     starved SCRIPT..        the files of scripts */
@@ -61,7 +61,7 @@ static int is_whole(int status, size_t needed, int wanted, size_t length)
 }
 
 /* How many allocations of a call were refused; -1 where one that is refused isn't answered so. The first EACH are refused in turn, the later ones in steps that grow:
- * the quadratic time of all would be minutes. A run may do without some. */
+ * the quadratic time of all would be minutes. A run, and a refusal of options, may do without some. */
 static long tried(call *f, int is_run, const uint8_t *script, size_t length, const char *name)
 {
     long tries = 0;
@@ -75,6 +75,7 @@ static long tried(call *f, int is_run, const uint8_t *script, size_t length, con
         int status = f(script, length, out, sizeof out, &needed);
         counts = 0;
         if (open_blocks) { fprintf(stderr, "%s: %ld blocks are left, allocation %ld refused\n", name, open_blocks, refused); return -1; }
+        if (all > sizeof whole) { fprintf(stderr, "%s: %zu bytes\n", name, all); return -1; }
         if (allocations < refused) return is_whole(status, needed, wanted, all) ? tries : -1;
         tries++;
         if (status == GOSSIPMPI_MEMORY && !needed && out[0] == '#') continue;
@@ -88,7 +89,7 @@ int main(int argc, char **argv)
     static uint8_t script[1 << 21];
     long all = 0;
     for (size_t f = 0; f < sizeof refusals / sizeof *refusals; f++) {
-        long made = tried(refusals[f], 0, script, 0, "options");
+        long made = tried(refusals[f], 1, script, 0, "options");
         if (made < 0) return 1;
         all += made;
     }
