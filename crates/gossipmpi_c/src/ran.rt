@@ -10,7 +10,7 @@ use join_core::OutOfMemory;
 use mpx_affine::Affine;
 use mpx_num::{Listing, Ops, OwnOp};
 use mpx_program::{Exit, Streams, refuse, run_job};
-use mpx_run::{Command, InOneThread, Job, Observer, Unobserved};
+use mpx_run::{InOneThread, Observer, Unobserved, is_in_threads};
 use mpx_trace::{Table, Trace};
 use mpx_words::{Invocation, call_of};
 use std::alloc::Global;
@@ -69,17 +69,6 @@ fn run_whole(alloc: Global, options: &[u8], script: &[u8]) -> Result<Ran, OutOfM
             let ran = refused(alloc, &why)?;
             Ok(ran)
         }
-    }
-}
-
-// Whether a job is a run in threads.
-fn is_in_threads(job: &Job) -> bool
-    ensures { result ≡ is_in_threads job.now }
-{
-    match job.command {
-        Command::Run => job.options.threads,
-        Command::Eval => false,
-        Command::Check => false,
     }
 }
 
