@@ -3,7 +3,7 @@ import struct, sys
 
 from . import floats, folds
 from .blocks import has_numbers
-from .parts import BITS, WIDTH
+from .parts import BITS, FOLDS, WIDTH
 
 # The script's type for each number of an item, and how an item's numbers lie in bytes.
 AS = dict(f32='u32', c64='u32', logical='i32', f64='u64', c128='u64')
@@ -63,7 +63,8 @@ def retake(calls, part, convert, by):
 
 
 def make_one_type(calls, row):
-    """Gives all parts of an exchange one type of a script."""
+    """Gives all parts of an exchange one type of a script. Those of a reduction keep theirs, as its operation isn't for others."""
+    if all(part.kind in FOLDS and part.type in WIDTH for part in row.values()): return
     named = {part.type for part in row.values() if part.type and not is_empty(part)}
     one = named.pop() if len(named) == 1 else None
     if not named and one in WIDTH or named and named <= set(WIDTH) - {'2int'}:
