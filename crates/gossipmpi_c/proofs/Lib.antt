@@ -1,2 +1,3 @@
 mod Words
 pub mod Told
+mod Shown
