@@ -1,12 +1,12 @@
 -- Which calls come first where a rank waits, one asked-for call after the other.
-use Rattle.std.proofs.Common.{◌≡◌, ◌<◌, ◌≤◌, ◌⊎◌, ℕ, zero, suc, ◌+◌, ◌-◌, nat_lt, ◌||◌, Bool, true, false, cond, List, [], ◌∷◌, ◌++◌, append-nil, drop, drop-cons, length, map, Option, Some, None, inl, inr, arith, ap, refl, subst, sym, ◌∙◌}
-use Rattle.std.specs.Prelude.{MatchOption, is_some, slice_index_or}
+use Rattle.std.proofs.Common.{◌≡◌, ◌<◌, ◌≤◌, ◌⊎◌, ℕ, zero, suc, ◌+◌, ◌-◌, nat_lt, ◌||◌, Bool, true, false, cond, List, [], ◌∷◌, ◌++◌, append-nil, drop, drop-cons, length, length-drop, map, Option, Some, None, Result, Ok, Err, inl, inr, arith, ap, refl, subst, sym, ◌∙◌}
+use Rattle.std.specs.Prelude.{MatchOption, OnOk, is_some, slice_index_or}
 use Rattle.std.specs.BTreeMap.{BTreeMap, Updates, get, is_at}
 use Rattle.std.specs.List.{list_any}
 use Rattle.std.specs.Map.{lookup}
 use Rattle.std.specs.Option.{option_map, option_or, option_to_list}
 use Rattle.std.proofs.lemmas.Bool.{lt-ltb}
-use Rattle.std.proofs.lemmas.List.{map-append}
+use Rattle.std.proofs.lemmas.List.{map-append, nil_from_length}
 use Rattle.std.proofs.lemmas.List.Folds.{list_any-append}
 use Rattle.mpx_name.specs.Name.{Name, same_name}
 use Rattle.mpx_name.specs.Order.{name_cmp, name_equality}
@@ -16,7 +16,7 @@ use Rattle.mpx_meaning.specs.declared.end.AskedCall.{AskedCall}
 use Rattle.mpx_eval.specs.Waiting.{MissingCallView}
 use Rattle.mpx_eval.specs.declared.missing.MissingMember.{MissingMember}
 use Rattle.mpx_explain.specs.Firsts.{HasLooked, is_told_in}
-use Rattle.mpx_explain.specs.RunEnds.{FirstView, first_at, first_lacking, first_view, is_told_on, lacked_by, lacking_at, with_first, with_firsts, with_missing}
+use Rattle.mpx_explain.specs.RunEnds.{FirstView, first_at, first_lacking, first_view, is_told_on, lacked_by, lacking_at, lacking_of, with_first, with_firsts, with_missing}
 use Rattle.mpx_explain.specs.declared.ended.EndedRun.{EndedRun}
 use Rattle.mpx_explain.specs.declared.firsts.EarlierCall.{EarlierCall}
 
@@ -66,6 +66,10 @@ module _ (run : EndedRun) (node : NodeView) (name : Name) where
       or_none (first_lacking run node name n) (lacking_at run node None name n) (none_below_front n (omega (arith, within)))
       (ap (λ (b : Bool). cond b None (with_missing None name n (lacked_by run node name n))) (lt-ltb n (front_on node name) less))
 
+  -- none before its front
+  pub front_is : (front : ℕ) → front ≡ front_on node name → first_lacking run node name front ≡ None
+  front_is front is = none_below_front front (omega (arith, is))
+
   -- one call more
   pub none_more : (call : ℕ) → first_lacking run node name call ≡ None → lacking_at run node None name call ≡ None → first_lacking run node name (call + 1) ≡ None
   none_more call none here =
@@ -104,7 +108,20 @@ module _ (run : EndedRun) (node : NodeView) (name : Name) where
   not_found view None call some is none = none_more call none (sym is)
   not_found view (Some x) call some is none = cc
 
+  -- of two numbers of calls either
+  pub none_either : (n one other : ℕ) → (n ≡ one) ⊎ (n ≡ other) → first_lacking run node name one ≡ None → first_lacking run node name other ≡ None → first_lacking run node name n ≡ None
+  none_either n one other (inl is) this that = subst (λ (k : ℕ). first_lacking run node name k ≡ None) (sym is) this
+  none_either n one other (inr is) this that = subst (λ (k : ℕ). first_lacking run node name k ≡ None) (sym is) that
+
 -- HOW FAR CONTEXTS ARE LOOKED THROUGH
+
+pub ok_then : {E : Type 0} (r : Result (Unit {0}) E) (P Q : Type 0) → (P → Q) → OnOk r P → OnOk r Q
+ok_then (Ok done) P Q then is = then is
+ok_then (Err e) P Q then is = tt
+
+pub ok_so : {E : Type 0} (r : Result (Unit {0}) E) (P : Type 0) → P → OnOk r P
+ok_so (Ok done) P is = is
+ok_so (Err e) P is = tt
 
 -- before this call none lacks posts, or one is told
 pub looked_upto : (run : EndedRun) (node : NodeView) (name : Name) (upto : Option ℕ) (got : Option (Option ℕ)) → Some upto ≡ got → ((calls : ℕ) → got ≡ Some (Some calls) → first_lacking run node name calls ≡ None)
@@ -151,6 +168,14 @@ module _ (run : EndedRun) (node : NodeView) (told : List FirstView) (m : BTreeMa
     none = λ q calls is. had.none q calls (none_told (same_name name q) (get name_cmp m q) calls (sym (news.0 q) ∙ is));
   }
 
+  -- the same, as it is pushed
+  pub looked_pushed : (place : ℕ × ℕ) (had new : List EarlierCall) (e : EarlierCall) (n : BTreeMap Name (Option ℕ)) (name key : Name) (calls : ℕ) (c : MissingCallView) → told ≡ map first_view had → HasLooked run node told m → new ≡ had ++ e ∷ [] → first_view e ≡ first_at place c
+      → Some c ≡ first_lacking run node name calls → key ≡ name → Updates name_cmp m n key (Some None) → HasLooked run node (map first_view new) n
+  looked_pushed place had new e n name key calls c are looked more is there same news =
+      let on : (first_view e).call.name ≡ name = ap (λ (f : FirstView). f.call.name) is ∙ first_lacking-name run node name calls c (sym there) in
+      let all : map first_view new ≡ told ++ first_view e ∷ [] = ap (map first_view) more ∙ map-append first_view had (e ∷ []) ∙ ap (λ (xs : List FirstView). xs ++ first_view e ∷ []) (sym are) in
+      subst (λ (xs : List FirstView). HasLooked run node xs n) (sym all) (looked_told n name (first_view e) looked on (subst (λ (k : Name). Updates name_cmp m n k (Some None)) same news))
+
   more_by : (name q : Name) (calls n : ℕ) → HasLooked run node told m → first_lacking run node name calls ≡ None → ((same_name name q ≡ true) × (n ≡ calls)) ⊎ (get name_cmp m q ≡ Some (Some n)) → first_lacking run node q n ≡ None
   more_by name q calls n had none (inl (same, is)) =
       subst (λ (k : Name). first_lacking run node k n ≡ None) (name_equality.sound name q same) (subst (λ (k : ℕ). first_lacking run node name k ≡ None) (sym is) none)
@@ -173,6 +198,9 @@ pub first_at_lacking : (run : EndedRun) (node : NodeView) (place : ℕ × ℕ) (
 first_at_lacking run node place told a c is =
     sym (append-nil told)
     ∙ ap (λ (o : Option MissingCallView). told ++ option_to_list (option_map (first_at place) (cond (is_some o || is_told_on a.1.0 told) None (first_lacking run node a.1.0 a.1.1)))) (sym is)
+
+pub none_lacking : (run : EndedRun) (node : NodeView) (a : Asked) (had : List MissingCallView) → lacking_at run node a.0 a.1.0 a.1.1 ≡ None → had ≡ had ++ lacking_of run node a
+none_lacking run node a had none = sym (append-nil had) ∙ ap (λ (o : Option MissingCallView). had ++ option_to_list o) (sym none)
 
 -- before another one the first call
 pub first_at_other : (run : EndedRun) (node : NodeView) (place : ℕ × ℕ) (told new : List FirstView) (a : Asked) → lacking_at run node a.0 a.1.0 a.1.1 ≡ None
@@ -212,10 +240,15 @@ firsts_more run node place asked i item had new whole within is told before =
     ∙ ap (λ (xs : List AskedCall). with_firsts run node place had (map asked_view xs)) (sym cut)
     ∙ before
 
+-- behind none
+pub with_none_told : (run : EndedRun) (node : NodeView) (place : ℕ × ℕ) (told : List FirstView) (asked : List Asked) → told ≡ [] → with_firsts run node place told asked ≡ with_firsts run node place [] asked
+with_none_told run node place told asked none = ap (λ (xs : List FirstView). with_firsts run node place xs asked) none
+
 -- all of them
-pub firsts_all : (run : EndedRun) (node : NodeView) (place : ℕ × ℕ) (asked : List AskedCall) (i : ℕ) (told : List EarlierCall) (old new : List EarlierCall) (whole : List FirstView) → drop i asked ≡ [] → old ≡ [] → new ≡ old ++ told
+pub firsts_all : (run : EndedRun) (node : NodeView) (place : ℕ × ℕ) (asked : List AskedCall) (i : ℕ) (told : List EarlierCall) (old new : List EarlierCall) (whole : List FirstView) → length asked ≤ i → old ≡ [] → new ≡ old ++ told
     → with_firsts run node place (map first_view told) (map asked_view (drop i asked)) ≡ whole → map first_view new ≡ whole
-firsts_all run node place asked i told old new whole end empty is before =
+firsts_all run node place asked i told old new whole passed empty is before =
+    let end : drop i asked ≡ [] = nil_from_length (drop i asked) (omega (arith, passed, length-drop i asked)) in
     ap (map first_view) (is ∙ ap (λ (xs : List EarlierCall). xs ++ told) empty)
     ∙ ap (λ (xs : List AskedCall). with_firsts run node place (map first_view told) (map asked_view xs)) (sym end)
     ∙ before

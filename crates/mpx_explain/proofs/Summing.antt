@@ -1,25 +1,31 @@
 -- Exact sums and products, one rank after the other, and the posts of ranks.
-use Rattle.std.proofs.Common.{◌≡◌, ◌⊎◌, ℕ, zero, suc, ◌+◌, ◌-◌, ◌*◌, ◌^◌, ◌<◌, ◌≤◌, nat_le, nat_lt, ◌==◌, ◌&&◌, ◌||◌, Bool, true, false, cond, List, [], ◌∷◌, ◌++◌, Vec, append-nil, append_assoc, length, map, take, set, Option, Some, None, Result, Ok, Err, FitsSigned, SomeIff, ap, refl, sym, subst, ◌∙◌, arith, ℤ, pos, negsuc, ◌*ℤ◌, inl, inr}
+use Rattle.std.proofs.Common.{◌≡◌, ◌⊎◌, ℕ, zero, suc, ◌+◌, ◌-◌, ◌*◌, ◌^◌, ◌<◌, ◌≤◌, nat_le, nat_lt, ◌==◌, ◌&&◌, ◌||◌, Bool, true, false, cond, List, [], ◌∷◌, ◌++◌, Vec, append-nil, append_assoc, drop, drop-cons, length, length-drop, map, take, set, Option, Some, None, FitsSigned, SomeIff, ap, refl, sym, subst, ◌∙◌, arith, ℤ, pos, negsuc, neg_ℤ, ◌*ℤ◌, ◌≤ℤ◌, ◌<ℤ◌, inl, inr}
 use mir.Syntax.{w128}
-use Rattle.std.specs.Prelude.{IsSomeAnd, OnOk, slice_get, slice_index_or, option_and_then, unsigned_abs}
-use Rattle.std.specs.List.{AllZip, filter, flat_map, list_any, range_with_len}
+use Rattle.std.specs.Prelude.{IsSomeAnd, MatchOption, int_le, is_some, slice_get, slice_index_or, option_and_then, unsigned_abs}
+use Rattle.std.specs.List.{AllZip, filter, flat_map, list_all, list_any, range_with_len, sum}
 use Rattle.std.specs.Option.{option_map, option_map_or, option_or, option_to_list}
 use Rattle.std.proofs.Math.ListN.{replicate}
-use Rattle.std.proofs.Math.Bool.{or_assoc}
-use Rattle.std.proofs.lemmas.Bool.{cases_lt, lt-ltb, ltb-true}
+use Rattle.std.proofs.Math.Bool.{and-false, or_assoc}
+use Rattle.std.proofs.lemmas.Bool.{and_parts, cases_lt, le-ltb, lt-ltb, ltb-true}
 use Rattle.std.proofs.lemmas.Grind.{flat_map-append}
-use Rattle.std.proofs.lemmas.List.{get_or-replicate, get_or-set_other, get_or-set_same, length-replicate, length-set, map-append, map-id}
+use Rattle.std.proofs.lemmas.Int.{ints}
+use Rattle.std.proofs.lemmas.List.{get_or-replicate, get_or-set_other, get_or-set_same, length-replicate, length-set, map-append, map-id, nil_from_length}
 use Rattle.std.proofs.lemmas.List.Folds.{list_any_more}
 use Rattle.std.proofs.lemmas.List.FromFn.{filter_of_map_range_with_len_more, map-range_with_len_more}
 use Rattle.std.proofs.lemmas.Slice.Zip.{all_zipped_more}
 use Rattle.mpx_kind.specs.declared.kinds.Reduction.{Reduction}
+use Rattle.mpx_kind.specs.declared.kinds.Reduction.TheVariants as R
+use Rattle.mpx_num.specs.Types.{IsInRange, IsOutOfRange, greatest, least}
 use Rattle.mpx_num.specs.declared.types.Ty.{Ty}
+use Rattle.mpx_num.specs.declared.types.Ty.TheVariants as T
+use Rattle.mpx_post.specs.Agreement.{count_at}
+use Rattle.mpx_post.specs.Drafts.{is_count, is_of, natural, naturals}
 use Rattle.mpx_post.specs.declared.draft.Draft.{Draft}
 use Rattle.mpx_statement.specs.declared.statement.Statement.{Statement}
 use Rattle.mpx_eval.specs.declared.complaints.Complaint.{Complaint}
 use Rattle.mpx_eval.specs.Found.{complaint_view}
-use Rattle.mpx_explain.specs.Overflows.{IsKnownAs, IsToldAs, PastView, Posts, combined_kept, draft_to, first_past, given_to, is_named_at, is_posted, is_product, kept, neutral, past_at, past_by, past_in_call, past_in_row, past_type, summed_in}
-use Rattle.mpx_explain.specs.Sums.{AreCombined, AreTold, AreUpto, IsExact, comes_to, posts_in, statements_in, with_given}
+use Rattle.mpx_explain.specs.Overflows.{IsKnownAs, IsToldAs, PastView, Posts, bounds_of, combined_kept, draft_to, first_past, given_to, is_named_at, is_posted, is_product, is_signed, is_summed, kept, neutral, past_at, past_by, past_in_call, past_in_row, past_number, past_there, past_type, post_to, reduction_in, summed_in, taken}
+use Rattle.mpx_explain.specs.Sums.{AreCombined, AreTold, AreUpto, IsExact, comes_to, past_for, posts_in, statements_in, taken_by, with_given}
 use Rattle.mpx_explain.specs.declared.exact.Exact.{Exact}
 use Rattle.mpx_explain.specs.declared.exact.Exact.TheVariants.{Number, Unknown}
 use Rattle.mpx_explain.specs.declared.overflows.Overflow.{Overflow}
@@ -67,10 +73,6 @@ all_more {Z} posts n had new one was own more =
     ∙ sym (map-range_with_len_more posts 0 n n (omega arith))
 
 -- ONE RESULT AFTER THE OTHER
-
-pub ok_then : {E : Type 0} (r : Result (Unit {0}) E) (P Q : Type 0) → (P → Q) → OnOk r P → OnOk r Q
-ok_then (Ok done) P Q then is = then is
-ok_then (Err e) P Q then is = tt
 
 pub told_nothing : (all : List Overflow) → AreTold [] all all
 told_nothing all told zip = subst (AllZip IsToldAs all) (sym (append-nil told)) zip
@@ -122,9 +124,35 @@ past_of statements posts call draft reduction = flat_map (past_by statements pos
 pub none_summed : (statements : List (List Statement)) (posts : Posts) (call : ℕ) (draft : Draft) (all : List Overflow) → None ≡ summed_in draft → AreTold (past_in_row statements posts call draft) all all
 none_summed statements posts call draft all none = subst (λ (o : Option Reduction). AreTold (option_map_or (past_of statements posts call draft) o []) all all) none (told_nothing all)
 
-pub summed : (statements : List (List Statement)) (posts : Posts) (call : ℕ) (draft : Draft) (reduction : Reduction) (old new : List Overflow) → Some reduction ≡ summed_in draft → AreTold (past_of statements posts call draft reduction) old new
+pub summed_told : (statements : List (List Statement)) (posts : Posts) (call : ℕ) (draft : Draft) (reduction : Reduction) (old new : List Overflow) → Some reduction ≡ summed_in draft → AreTold (past_of statements posts call draft reduction) old new
     → AreTold (past_in_row statements posts call draft) old new
-summed statements posts call draft reduction old new is told = subst (λ (o : Option Reduction). AreTold (option_map_or (past_of statements posts call draft) o []) old new) is told
+summed_told statements posts call draft reduction old new is told = subst (λ (o : Option Reduction). AreTold (option_map_or (past_of statements posts call draft) o []) old new) is told
+
+-- WHETHER EACH RANK HAS POSTED
+
+cut_at : {A : Type 0} (xs : List A) (i : ℕ) (item : A) → i < length xs → item ≡ slice_index_or xs i item → drop i xs ≡ item ∷ drop (i + 1) xs
+cut_at {A} xs i item within is =
+    let k : suc i ≡ i + 1 = omega arith in
+    drop-cons xs i item within ∙ ap (λ (x : A). x ∷ drop (suc i) xs) (sym is) ∙ ap (λ (n : ℕ). item ∷ drop n xs) k
+
+-- one rank more has
+pub posted_more : {Z : Type 0} (posts : List (Vec ℕ Z)) (i call : ℕ) (one : Vec ℕ Z) (whole : Bool) → i < length posts → one ≡ slice_index_or posts i one → call < length one.items → is_posted (posts_in (drop i posts)) call ≡ whole → is_posted (posts_in (drop (i + 1) posts)) call ≡ whole
+posted_more {Z} posts i call one whole within is less before =
+    ap (λ (b : Bool). b && is_posted (posts_in (drop (i + 1) posts)) call) (sym (lt-ltb call (length one.items) less))
+    ∙ ap (λ (xs : List (Vec ℕ Z)). is_posted (posts_in xs) call) (sym (cut_at posts i one within is))
+    ∙ before
+
+-- one hasn't
+pub posted_less : {Z : Type 0} (posts : List (Vec ℕ Z)) (i call : ℕ) (one : Vec ℕ Z) (whole : Bool) → i < length posts → one ≡ slice_index_or posts i one → length one.items ≤ call → is_posted (posts_in (drop i posts)) call ≡ whole → false ≡ whole
+posted_less {Z} posts i call one whole within is less before =
+    ap (λ (b : Bool). b && is_posted (posts_in (drop (i + 1) posts)) call) (sym (le-ltb call (length one.items) less))
+    ∙ ap (λ (xs : List (Vec ℕ Z)). is_posted (posts_in xs) call) (sym (cut_at posts i one within is))
+    ∙ before
+
+pub posted_all : {Z : Type 0} (posts : List (Vec ℕ Z)) (i call : ℕ) (whole : Bool) → length posts ≤ i → is_posted (posts_in (drop i posts)) call ≡ whole → true ≡ whole
+posted_all {Z} posts i call whole passed before =
+    let end : drop i posts ≡ [] = nil_from_length (drop i posts) (omega (arith, passed, length-drop i posts)) in
+    ap (λ (xs : List (Vec ℕ Z)). is_posted (posts_in xs) call) (sym end) ∙ before
 
 -- THE RESULT OF A RANK
 
@@ -151,11 +179,11 @@ one_past o found post old new there is known =
 -- THE FIRST NUMBER PAST A TYPE
 
 -- one number more, which isn't
-pub not_past : (ty : Ty) (bounds : ℕ × ℕ) (comes : ℕ → Option ℤ) (index : ℕ) → first_past ty bounds comes index ≡ None → cond (nat_le bounds.0 index && nat_lt index bounds.1) (past_type ty (comes index)) None ≡ None
+pub not_past : (ty : Ty) (bounds : ℕ × ℕ) (comes : ℕ → Option ℤ) (index : ℕ) → first_past ty bounds comes index ≡ None → past_there ty bounds index (comes index) ≡ None
     → first_past ty bounds comes (index + 1) ≡ None
 not_past ty bounds comes index before here =
     let k : suc index ≡ index + 1 = omega arith in
-    subst (λ (n : ℕ). first_past ty bounds comes n ≡ None) k (ap (λ (o : Option ℤ). option_or o (cond (nat_le bounds.0 index && nat_lt index bounds.1) (past_type ty (comes index)) None)) before ∙ here)
+    subst (λ (n : ℕ). first_past ty bounds comes n ≡ None) k (ap (λ (o : Option ℤ). option_or o (past_there ty bounds index (comes index))) before ∙ here)
 
 or_still : (one other : Option ℤ) (P : ℤ → Type 0) → IsSomeAnd one P → IsSomeAnd (option_or one other) P
 or_still (Some z) other P is = is
@@ -168,12 +196,70 @@ past_kept ty bounds comes (suc more) index P is =
     subst (λ (n : ℕ). IsSomeAnd (first_past ty bounds comes n) P) k (or_still (first_past ty bounds comes (more + index)) _ P (past_kept ty bounds comes more index P is))
 
 -- one that is
-pub is_past : (ty : Ty) (bounds : ℕ × ℕ) (comes : ℕ → Option ℤ) (index numbers : ℕ) (P : ℤ → Type 0) → index < numbers → first_past ty bounds comes index ≡ None → IsSomeAnd (cond (nat_le bounds.0 index && nat_lt index bounds.1) (past_type ty (comes index)) None) P
+pub is_past : (ty : Ty) (bounds : ℕ × ℕ) (comes : ℕ → Option ℤ) (index numbers : ℕ) (P : ℤ → Type 0) → index < numbers → first_past ty bounds comes index ≡ None → IsSomeAnd (past_there ty bounds index (comes index)) P
     → IsSomeAnd (first_past ty bounds comes numbers) P
 is_past ty bounds comes index numbers P less before here =
     let k : (numbers - suc index) + suc index ≡ numbers = omega (arith, less) in
-    let at : IsSomeAnd (first_past ty bounds comes (suc index)) P = subst (λ (o : Option ℤ). IsSomeAnd (option_or o (cond (nat_le bounds.0 index && nat_lt index bounds.1) (past_type ty (comes index)) None)) P) (sym before) here in
+    let at : IsSomeAnd (first_past ty bounds comes (suc index)) P = subst (λ (o : Option ℤ). IsSomeAnd (option_or o (past_there ty bounds index (comes index))) P) (sym before) here in
     subst (λ (n : ℕ). IsSomeAnd (first_past ty bounds comes n) P) k (past_kept ty bounds comes (numbers - suc index) (suc index) P at)
+
+-- by what is found there
+pub past_first : (ty : Ty) (bounds : ℕ × ℕ) (comes : ℕ → Option ℤ) (index numbers : ℕ) (past : Option (Option ℤ)) → is_some past ≡ true → index < numbers → first_past ty bounds comes index ≡ None
+    → MatchOption past (past_there ty bounds index (comes index) ≡ None) (λ e. IsSomeAnd (past_there ty bounds index (comes index)) (IsKnownAs e))
+    → MatchOption past (first_past ty bounds comes numbers ≡ None) (λ e. IsSomeAnd (first_past ty bounds comes numbers) (IsKnownAs e))
+past_first ty bounds comes index numbers (Some e) some less before here = is_past ty bounds comes index numbers (IsKnownAs e) less before here
+past_first ty bounds comes index numbers None some less before here = cc
+
+pub past_not : (ty : Ty) (bounds : ℕ × ℕ) (comes : ℕ → Option ℤ) (index : ℕ) (past : Option (Option ℤ)) → is_some past ≡ false → first_past ty bounds comes index ≡ None
+    → MatchOption past (past_there ty bounds index (comes index) ≡ None) (λ e. IsSomeAnd (past_there ty bounds index (comes index)) (IsKnownAs e)) → first_past ty bounds comes (index + 1) ≡ None
+past_not ty bounds comes index None some before here = not_past ty bounds comes index before here
+past_not ty bounds comes index (Some e) some before here = cc
+
+-- of a number that is within the bounds, and of one that isn't
+pub past_inside : (ty : Ty) (bounds : ℕ × ℕ) (index : ℕ) (comes : Option ℤ) (past : Option (Option ℤ)) → (nat_le bounds.0 index && nat_lt index bounds.1) ≡ true → MatchOption past (past_type ty comes ≡ None) (λ e. IsSomeAnd (past_type ty comes) (IsKnownAs e))
+    → MatchOption past (past_there ty bounds index comes ≡ None) (λ e. IsSomeAnd (past_there ty bounds index comes) (IsKnownAs e))
+past_inside ty bounds index comes past inside told =
+    subst (λ (b : Bool). MatchOption past (cond b (past_type ty comes) None ≡ None) (λ e. IsSomeAnd (cond b (past_type ty comes) None) (IsKnownAs e))) (sym inside) told
+
+pub past_outside : (ty : Ty) (bounds : ℕ × ℕ) (index : ℕ) (comes : Option ℤ) → (nat_le bounds.0 index && nat_lt index bounds.1) ≡ false → past_there ty bounds index comes ≡ None
+past_outside ty bounds index comes outside = ap (λ (b : Bool). cond b (past_type ty comes) None) outside
+
+-- what is found of a rank's result is told
+pub past_here : (row : Row) (rank statement numbers : ℕ) (bounds : ℕ × ℕ) (exact : Option ℤ) (old new : List Overflow) → bounds ≡ bounds_of row.reduction row.draft.now rank → numbers ≡ length row.draft.now.items → Some statement ≡ post_to (posts_in row.posts.now) row.call rank
+    → IsSomeAnd (first_past row.draft.now.ty bounds (comes_to row (taken_by row rank)) numbers) (IsKnownAs exact) → new ≡ old ++ record { rank = rank; statement = statement; ty = row.draft.now.ty; exact = exact } ∷ [] → AreTold (past_for row rank) old new
+past_here row rank statement numbers bounds exact old new bound many there known is =
+    one_past (record { rank = rank; statement = statement; ty = row.draft.now.ty; exact = exact }) (past_number (statements_in row) (posts_in row.posts.now) row.call row.draft.now row.reduction rank) (post_to (posts_in row.posts.now) row.call rank) old new there is
+    (subst (λ (b : ℕ × ℕ). IsSomeAnd (first_past row.draft.now.ty b (comes_to row (taken_by row rank)) (length row.draft.now.items)) (IsKnownAs exact)) bound
+      (subst (λ (n : ℕ). IsSomeAnd (first_past row.draft.now.ty bounds (comes_to row (taken_by row rank)) n) (IsKnownAs exact)) many known))
+
+pub past_nowhere : (row : Row) (rank statement numbers : ℕ) (bounds : ℕ × ℕ) (all : List Overflow) → bounds ≡ bounds_of row.reduction row.draft.now rank → numbers ≡ length row.draft.now.items → Some statement ≡ post_to (posts_in row.posts.now) row.call rank
+    → first_past row.draft.now.ty bounds (comes_to row (taken_by row rank)) numbers ≡ None → AreTold (past_for row rank) all all
+past_nowhere row rank statement numbers bounds all bound many there none =
+    none_past rank statement row.draft.now.ty (past_number (statements_in row) (posts_in row.posts.now) row.call row.draft.now row.reduction rank) (post_to (posts_in row.posts.now) row.call rank) all there
+    (subst (λ (b : ℕ × ℕ). first_past row.draft.now.ty b (comes_to row (taken_by row rank)) (length row.draft.now.items) ≡ None) bound
+      (subst (λ (n : ℕ). first_past row.draft.now.ty bounds (comes_to row (taken_by row rank)) n ≡ None) many none))
+
+-- ROWS
+
+cond_some : (b : Bool) (o : Option Reduction) (r : Reduction) → cond b o None ≡ Some r → b ≡ true
+cond_some true o r is = refl
+cond_some false o r is = cc
+
+-- its counts are within their limit
+pub counted : (draft : Draft) (r : Reduction) → summed_in draft ≡ Some r → list_all is_count draft.rcounts ≡ true
+counted draft r is =
+    let both : ((is_signed draft.ty && is_summed draft.op) && list_all is_count draft.rcounts) ≡ true = cond_some ((is_signed draft.ty && is_summed draft.op) && list_all is_count draft.rcounts) (reduction_in draft.call) r is in
+    (and_parts (is_signed draft.ty && is_summed draft.op) (list_all is_count draft.rcounts) both).1
+
+-- all ranks count where it is no scan
+pub taken_all : (r : Reduction) (ranks rank : ℕ) → (r ≡ R.Scan → ⊥) → (r ≡ R.Exscan → ⊥) → taken r ranks rank ≡ ranks
+taken_all R.Scan ranks rank scan exscan = absurd (scan refl)
+taken_all R.Exscan ranks rank scan exscan = absurd (exscan refl)
+taken_all r ranks rank scan exscan = refl
+
+-- nothing is told yet
+pub told_start : (all : List Overflow) → all ≡ [] → AreTold [] [] all
+told_start all none = subst (λ (os : List Overflow). AreTold [] [] os) (sym none) (told_nothing [])
 
 -- SUMS
 
@@ -282,3 +368,81 @@ kept_none (negsuc n) never = lost_by n (negsuc n) (nat_lt n (2 ^ 127)) refl (λ 
 pub kept_by : (r : Option ℤ) (z : ℤ) → SomeIff r (FitsSigned w128 z) z → r ≡ kept z
 kept_by (Some x) z is = ap Some (sym is.1) ∙ sym (kept_is z is.0)
 kept_by None z never = kept_none z never
+
+-- BLOCKS
+
+never : (z : ℤ) → Some z ≡ None → ⊥
+never z is = cc
+
+some_is : (x y : ℤ) → Some x ≡ Some y → x ≡ y
+some_is x y is = cc
+
+sum_take : (xs : List ℕ) (n : ℕ) → sum (take (suc n) xs) ≡ sum (take n xs) + count_at xs n
+sum_take [] n = refl
+sum_take (x ∷ xs) zero = omega arith
+sum_take (x ∷ xs) (suc n) = omega (arith, sum_take xs n)
+
+count_there : (counts : List ℤ) (place : ℕ) → count_at (naturals counts) place ≡ option_map_or natural (slice_get counts place) 0
+count_there [] place = refl
+count_there (z ∷ counts) zero = refl
+count_there (z ∷ counts) (suc place) = count_there counts place
+
+-- the count that stands at a place
+pub count_is : (counts : List ℤ) (place : ℕ) (z : ℤ) → Some z ≡ slice_get counts place → natural z ≡ count_at (naturals counts) place
+count_is counts place z is = ap (λ (o : Option ℤ). option_map_or natural o 0) is ∙ sym (count_there counts place)
+
+pub count_none : (counts : List ℤ) (place : ℕ) → None ≡ slice_get counts place → 0 ≡ count_at (naturals counts) place
+count_none counts place none = ap (λ (o : Option ℤ). option_map_or natural o 0) none ∙ sym (count_there counts place)
+
+-- each of them is one
+pub is_count_at : (counts : List ℤ) (place : ℕ) (z : ℤ) → list_all is_count counts ≡ true → Some z ≡ slice_get counts place → is_count z ≡ true
+is_count_at [] place z all is = absurd (never z is)
+is_count_at (y ∷ counts) zero z all is = ap is_count (some_is z y is) ∙ (and_parts (is_count y) (list_all is_count counts) all).0
+is_count_at (y ∷ counts) (suc place) z all is = is_count_at counts place z (and_parts (is_count y) (list_all is_count counts) all).1 is
+
+-- the sum of one count more
+pub sum_take_more : (xs : List ℕ) (n : ℕ) → sum (take (n + 1) xs) ≡ sum (take n xs) + count_at xs n
+sum_take_more xs n = let k : suc n ≡ n + 1 = omega arith in subst (λ (m : ℕ). sum (take m xs) ≡ sum (take n xs) + count_at xs n) k (sum_take xs n)
+
+-- A TYPE'S RANGE
+
+-- a number within it
+pub within_type : (ty : Ty) (z : ℤ) → IsInRange ty z → is_of ty z ≡ true
+within_type ty z within =
+    let above : least ty ≤ℤ z = within.low in
+    let below : z ≤ℤ greatest ty = within.high in
+    let l : int_le (least ty) z ≡ true = grind (arith, ints, above) in
+    let h : int_le z (greatest ty) ≡ true = grind (arith, ints, below) in
+    rw (l, h) refl
+
+-- one out of it
+pub out_of_type : (ty : Ty) (z : ℤ) → IsOutOfRange ty z → is_of ty z ≡ false
+out_of_type ty z (inl below) = let l : int_le (least ty) z ≡ false = grind (arith, ints, below) in rw l refl
+out_of_type ty z (inr above) = let h : int_le z (greatest ty) ≡ false = grind (arith, ints, above) in rw h (and-false (int_le (least ty) z))
+
+far_by : (low high : ℕ) (z : ℤ) → low < 2 ^ 127 → high < 2 ^ 127 → 2 ^ 127 ≤ unsigned_abs z → (z <ℤ neg_ℤ (pos low)) ⊎ (pos high <ℤ z)
+far_by low high (pos n) l h far = inr (grind (arith, ints, h, far))
+far_by low high (negsuc n) l h far = inl (grind (arith, ints, l, far))
+
+-- one past 128 bits
+pub far_from_type : (ty : Ty) (z : ℤ) → 2 ^ 127 ≤ unsigned_abs z → is_of ty z ≡ false
+far_from_type T.I8 z far = out_of_type T.I8 z (far_by 128 127 z (omega arith) (omega arith) far)
+far_from_type T.I16 z far = out_of_type T.I16 z (far_by 32768 32767 z (omega arith) (omega arith) far)
+far_from_type T.I32 z far = out_of_type T.I32 z (far_by 2147483648 2147483647 z (omega arith) (omega arith) far)
+far_from_type T.I64 z far = out_of_type T.I64 z (far_by 9223372036854775808 9223372036854775807 z (omega arith) (omega arith) far)
+far_from_type T.U8 z far = out_of_type T.U8 z (far_by 0 255 z (omega arith) (omega arith) far)
+far_from_type T.U16 z far = out_of_type T.U16 z (far_by 0 65535 z (omega arith) (omega arith) far)
+far_from_type T.U32 z far = out_of_type T.U32 z (far_by 0 4294967295 z (omega arith) (omega arith) far)
+far_from_type T.U64 z far = out_of_type T.U64 z (far_by 0 18446744073709551615 z (omega arith) (omega arith) far)
+far_from_type T.TwoInt z far = out_of_type T.TwoInt z (far_by 2147483648 2147483647 z (omega arith) (omega arith) far)
+
+-- what is said of a number that is one of the type, or isn't
+pub past_within : (ty : Ty) (z : ℤ) (comes : Option ℤ) → comes ≡ Some z → is_of ty z ≡ true → past_type ty comes ≡ None
+past_within ty z comes is within = ap (past_type ty) is ∙ ap (λ (b : Bool). cond b None (Some z)) within
+
+pub past_beyond : (ty : Ty) (z : ℤ) (comes : Option ℤ) → comes ≡ Some z → is_of ty z ≡ false → past_type ty comes ≡ Some z
+past_beyond ty z comes is beyond = ap (past_type ty) is ∙ ap (λ (b : Bool). cond b None (Some z)) beyond
+
+pub past_far : (ty : Ty) (comes : Option ℤ) → IsSomeAnd comes (λ whole. 2 ^ 127 ≤ unsigned_abs whole) → IsSomeAnd (past_type ty comes) (IsKnownAs None)
+past_far ty (Some whole) far = subst (λ (b : Bool). IsSomeAnd (cond b None (Some whole)) (IsKnownAs None)) (sym (far_from_type ty whole far)) far
+past_far ty None far = absurd far

@@ -110,7 +110,7 @@ reduction_in call = None
 
 -- of which kind it is, where it is a sum or product of signed numbers, with counts within their limit
 abbrev pub summed_in : Draft → Option Reduction
-summed_in draft = cond (is_signed draft.ty && is_summed draft.op && list_all is_count draft.rcounts) (reduction_in draft.call) None
+summed_in draft = cond ((is_signed draft.ty && is_summed draft.op) && list_all is_count draft.rcounts) (reduction_in draft.call) None
 
 -- EXACT SUMS AND PRODUCTS
 
@@ -158,10 +158,14 @@ abbrev pub past_type : Ty → Option ℤ → Option ℤ
 past_type ty None = None
 past_type ty (Some z) = cond (is_of ty z) None (Some z)
 
+-- the same of one with this index, where that is within these bounds
+abbrev pub past_there : Ty → (bounds : ℕ × ℕ) → (index : ℕ) → Option ℤ → Option ℤ
+past_there ty bounds index comes = cond (nat_le bounds.0 index && nat_lt index bounds.1) (past_type ty comes) None
+
 -- the first of so many numbers, within these bounds, that isn't one of the type
 abbrev pub first_past : Ty → (bounds : ℕ × ℕ) → (comes : (index : ℕ) → Option ℤ) → (numbers : ℕ) → Option ℤ
 first_past ty bounds comes zero = None
-first_past ty bounds comes (suc index) = option_or (first_past ty bounds comes index) (cond (nat_le bounds.0 index && nat_lt index bounds.1) (past_type ty (comes index)) None)
+first_past ty bounds comes (suc index) = option_or (first_past ty bounds comes index) (past_there ty bounds index (comes index))
 
 -- of a rank's result: at which statement, of which type, and what the first such number comes to
 pub record PastView : Type 0 where

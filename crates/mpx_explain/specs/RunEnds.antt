@@ -37,10 +37,6 @@ waits_in run rank = option_and_then (λ (end : RankEnd). (end_view end).waits) (
 abbrev pub place_with : EndedRun → (rank : ℕ) → WaitsAtView → ℕ
 place_with run rank w = length (statements_of_rank run rank) - w.left
 
--- that of the statement at which a rank waits, if it does
-abbrev pub waiting_place : EndedRun → (rank : ℕ) → Option ℕ
-waiting_place run rank = option_map (place_with run rank) (waits_in run rank)
-
 -- WHOSE POSTS A BOARD LACKS
 
 -- the process of a rank

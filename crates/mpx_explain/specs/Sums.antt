@@ -1,9 +1,8 @@
 -- Exact sums and products in the making, by the program's values.
 use Rattle.std.specs.Prelude.{◌≡◌, ℕ, ◌<◌, ◌≤◌, ◌^◌, Bool, true, false, List, ◌++◌, Vec, length, map, slice_get, slice_index_or, Option, Some, None, option_and_then, ℤ, unsigned_abs, IsSomeAnd}
-use Rattle.std.specs.List.{AllZip, list_all}
-use Rattle.mpx_post.specs.Drafts.{is_count}
+use Rattle.std.specs.List.{AllZip, flat_map, range_with_len}
 use Rattle.mpx_statement.specs.declared.statement.Statement.{Statement}
-use Rattle.mpx_explain.specs.Overflows.{IsToldAs, PastView, Posts, combined_kept, draft_to, exact_upto, given_to, is_posted, is_product, summed_in}
+use Rattle.mpx_explain.specs.Overflows.{IsToldAs, PastView, Posts, combined_kept, draft_to, exact_upto, given_to, is_posted, is_product, past_by, summed_in, taken}
 use Rattle.mpx_explain.specs.declared.exact.Exact.{Exact}
 use Rattle.mpx_explain.specs.declared.exact.Exact.TheVariants.{Number, Far, Unknown}
 use Rattle.mpx_explain.specs.declared.overflows.Overflow.{Overflow}
@@ -37,6 +36,18 @@ pub record IsRow (row : Row) : Type 0 where
   pub posted : is_posted (posts_in row.posts.now) row.call ≡ true
   pub draft : draft_to (statements_in row) (posts_in row.posts.now) row.call 0 ≡ Some row.draft.now
   pub reduces : summed_in row.draft.now ≡ Some row.reduction
+
+-- what is past its type of a rank's result
+abbrev pub past_for : Row → (rank : ℕ) → List PastView
+past_for row rank = past_by (statements_in row) (posts_in row.posts.now) row.call row.draft.now row.reduction rank
+
+-- the same of the first so many ranks
+abbrev pub past_upto : Row → (ranks : ℕ) → List PastView
+past_upto row ranks = flat_map (past_for row) (range_with_len 0 ranks)
+
+-- how many ranks count for a rank
+abbrev pub taken_by : Row → (rank : ℕ) → ℕ
+taken_by row rank = taken row.reduction (length (statements_in row)) rank
 
 -- what the first so many ranks give at an index comes to
 abbrev pub comes_to : Row → (ranks index : ℕ) → Option ℤ

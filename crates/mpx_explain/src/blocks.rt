@@ -13,13 +13,9 @@ use mpx_post::Draft;
 pub(crate) fn are_counts(counts: &[i128]) -> bool
     ensures { result ≡ list_all is_count counts.now }
 {
-    counts.iter().all(|count| is_count(*count))
-}
-
-fn is_count(count: i128) -> bool
-    ensures { result ≡ is_count count }
-{
-    0 <= count && count <= 4096
+    counts
+        .iter()
+        .all(|&number| 0 <= number && number <= 4096)
 }
 
 /// From which number on a rank gets those that all give, and up to which: of a reduction to a root that gets all, of a scattered one each

@@ -1,12 +1,12 @@
 //! Where ranks wait at the end of a run that ended early, and whose posts they lack by what their own boards hold.
-ghost use Rattle.std.specs.Prelude.{◌≡◌, ◌×◌, ◌++◌, ◌∷◌, ◌==◌, ◌&&◌, [], Bool, IfOk, OnOk, Some, cond, length, map, not, slice_get};
+ghost use Rattle.std.specs.Prelude.{◌≡◌, ◌-◌, ◌++◌, ◌∷◌, [], ℕ, IfOk, OnOk, cond, length, map};
 ghost use Rattle.std.specs.List.{flat_map};
 ghost use Rattle.std.specs.Option.{option_copied, option_map};
 ghost use Rattle.mpx_node.specs.Shown.{node_of};
 ghost use Rattle.mpx_meaning.specs.Ends.{asked_view, waits_at_view};
 ghost use Rattle.mpx_eval.specs.Found.{missing_view, waiting_view};
 ghost use Rattle.mpx_explain.specs.Firsts.{HasLooked};
-ghost use Rattle.mpx_explain.specs.RunEnds.{TellsRun, calls_of, first_view, firsts_at, firsts_of, lacking_of, place_with, process_of, served_at, told_of, unmade_at, waits_at, waits_in, with_first, with_firsts};
+ghost use Rattle.mpx_explain.specs.RunEnds.{TellsRun, calls_of, first_view, firsts_at, firsts_of, lacking_of, process_of, served_at, served_by, statements_of_rank, told_of, unmade_at, waits_at, waits_in, with_first, with_firsts};
 
 use crate::ended::{EndedRun, end_at, node_at};
 use crate::firsts::{EarlierCall, Firsts, Waiter, push_before};
@@ -87,19 +87,39 @@ fn push_waiting(
     ensures served { OnOk result (end.new.served.items ≡ end.old.served.items ++ served_at run.now rank (waits_at_view waits.now)) }
     ensures unmade { OnOk result (end.new.unmade.items ≡ end.old.unmade.items ++ unmade_at run.now rank (waits_at_view waits.now)) }
 {
-    let statement = run.script.statements(rank).len().saturating_sub(waits.left);
+    let asked = waits.calls.as_slice();
+    let statement = statement_with(run, rank, waits.left);
     let mut firsts = Vec::new(alloc);
-    let calls = calls_at(alloc, run, (rank, statement), &waits.calls, &mut firsts)?;
-    let asks = !waits.calls.is_empty();
-    let is_served = calls.is_empty() && firsts.is_empty();
+    let calls = calls_at(alloc, run, (rank, statement), asked, &mut firsts)?;
+    let served = is_served(asked, calls.as_slice(), firsts.as_slice());
     end.waiting.push(WaitingRank {
         rank,
         statement,
         calls,
     })?;
     end.earlier.append(&mut firsts)?;
-    push_where(asks && is_served, (rank, statement), &mut end.served)?;
-    push_where(!asks, (rank, statement), &mut end.unmade)
+    push_where(served, (rank, statement), &mut end.served)?;
+    push_where(asked.is_empty(), (rank, statement), &mut end.unmade)?;
+    Ok(())
+}
+
+// The place of the statement at which so many are left.
+fn statement_with(run: &EndedRun<'_>, rank: u8, left: usize) -> usize
+    ensures { result ≡ length (statements_of_rank run.now rank) - left }
+{
+    run.script.statements(rank).len().saturating_sub(left)
+}
+
+// Whether calls are asked for, none of them lacks posts, and none comes first.
+fn is_served(asked: &[AskedCall], calls: &[MissingCall], firsts: &[EarlierCall]) -> bool
+    ensures { (place : ℕ × ℕ) → cond result (place ∷ []) [] ≡ served_by place (map asked_view asked.now) (map missing_view calls.now) (map first_view firsts.now) }
+{
+    let is_unasked = asked.is_empty();
+    if is_unasked {
+        return false;
+    }
+    let is_held = calls.is_empty();
+    if is_held { firsts.is_empty() } else { false }
 }
 
 // Adds a place where this is so.
@@ -179,14 +199,15 @@ fn push_call(
     ensures firsts { OnOk result (map first_view firsts.new.told.items
         ≡ with_first waiter.now.run.now (node_of waiter.now.node.now) (waiter.now.rank, waiter.now.statement) (map first_view firsts.old.told.items) (asked_view asked.now)) }
 {
-    match lacking_call(
+    let found = lacking_call(
         alloc,
         waiter.run,
         waiter.node,
         &asked.request,
         &asked.name,
         asked.call,
-    )? {
+    )?;
+    match found {
         Some(call) => Ok(calls.push(call)?),
         None => push_before(alloc, waiter, asked, firsts),
     }

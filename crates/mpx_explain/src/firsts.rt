@@ -1,5 +1,5 @@
 //! Which calls come first where a rank waits: of a call's context an earlier one of which the rank's board lacks posts.
-ghost use Rattle.std.specs.Prelude.{◌≡◌, ◌×◌, ◌++◌, IfOk, MatchOption, None, OnOk, Some, cond, false, map, true};
+ghost use Rattle.std.specs.Prelude.{◌≡◌, ◌⊎◌, ◌++◌, ℕ, IfOk, MatchOption, None, OnOk, Some, cond, false, map, true};
 ghost use Rattle.std.specs.BTreeMap.{get};
 ghost use Rattle.std.specs.Option.{option_map, option_to_list};
 ghost use Rattle.mpx_name.specs.Order.{name_cmp};
@@ -93,16 +93,24 @@ fn push_from(
         ++ option_to_list (option_map (first_at (waiter.now.rank, waiter.now.statement)) (first_lacking waiter.now.run.now (node_of waiter.now.node.now) asked.now.name asked.now.call))) }
 {
     let name = asked.name.copy(alloc)?;
-    match first_from(alloc, waiter, &asked.name, from, asked.call)? {
+    let found = first_from(alloc, waiter, &asked.name, from, asked.call)?;
+    match found {
         Some(call) => {
             drop(firsts.looked.insert(name, None)?);
             Ok(firsts.told.push(earlier_call(waiter, call))?)
         }
         None => {
-            drop(firsts.looked.insert(name, Some(from.max(asked.call)))?);
+            let upto = later(from, asked.call);
+            drop(firsts.looked.insert(name, Some(upto))?);
             Ok(())
         }
     }
+}
+
+fn later(one: u32, other: u32) -> u32
+    ensures { (result ≡ one) ⊎ (result ≡ other) }
+{
+    if one < other { other } else { one }
 }
 
 // The first of so many calls of which the node's board lacks posts, where none before this one does.

@@ -1,10 +1,10 @@
 //! Sums and products that are past the range of their signed type.
-ghost use Rattle.std.specs.Prelude.{◌≡◌, ◌+◌, ◌<◌, ◌≤◌, ℕ, Bool, IfOk, IfSome, IsSomeAnd, MatchOption, None, OnOk, Option, Some, ℤ, length, slice_get, slice_index_or, true};
-ghost use Rattle.std.specs.List.{AllZip, flat_map, list_all, range_with_len};
-ghost use Rattle.std.specs.Option.{option_copied, option_map_or};
-ghost use Rattle.mpx_post.specs.Drafts.{is_count};
-ghost use Rattle.mpx_explain.specs.Overflows.{IsKnownAs, IsToldAs, all_past, all_posts, bounds_of, draft_to, evaluated, first_past, is_posted, is_signed, is_summed, past_by, past_in_call, past_in_row, past_type, post_to, reduction_in, summed_in, taken};
-ghost use Rattle.mpx_explain.specs.Sums.{AreTold, AreUpto, IsExact, IsRow, posts_in, statements_in};
+ghost use Rattle.std.specs.Prelude.{◌≡◌, ◌+◌, ◌<◌, ◌&&◌, [], ℕ, Bool, IfOk, IsSomeAnd, MatchOption, None, OnOk, Option, Some, ℤ, cond, length, nat_le, nat_lt, slice_index_or, true};
+ghost use Rattle.std.specs.List.{AllZip};
+ghost use Rattle.std.specs.Option.{option_copied};
+ghost use Rattle.mpx_post.specs.Drafts.{is_of};
+ghost use Rattle.mpx_explain.specs.Overflows.{IsKnownAs, IsToldAs, all_past, all_posts, draft_to, evaluated, first_past, is_posted, is_signed, is_summed, past_in_call, past_in_row, past_there, past_type, post_to, reduction_in, summed_in, taken};
+ghost use Rattle.mpx_explain.specs.Sums.{AreTold, AreUpto, IsExact, IsRow, past_for, past_upto, posts_in, statements_in, taken_by};
 ghost use Rattle.mpx_explain.specs.declared.exact.Exact.TheVariants.{Unknown};
 
 use crate::blocks::{are_counts, bounds_of};
@@ -53,7 +53,7 @@ fn calls_in(posts: &[Vec<usize>]) -> usize
     ensures { result ≡ length (slice_index_or (posts_in posts.now) 0 []) }
 {
     match posts.first() {
-        Some(first) => first.len(),
+        Some(first) => first.as_slice().len(),
         None => 0,
     }
 }
@@ -78,9 +78,25 @@ fn push_call(
 ) -> Result<(), OutOfMemory>
     ensures { OnOk result (AreTold (past_in_call script.now.statements (posts_in posts.now) call) all.old.items all.new.items) }
 {
-    if !is_posted(posts, call) {
-        return Ok(());
+    let posted = is_posted(posts, call);
+    if posted {
+        push_posted(alloc, script, posts, call, all)
+    } else {
+        Ok(())
     }
+}
+
+// The same, where each has.
+fn push_posted(
+    alloc: Global,
+    script: &Script,
+    posts: &[Vec<usize>],
+    call: usize,
+    all: &mut Vec<Overflow>,
+) -> Result<(), OutOfMemory>
+    requires { is_posted (posts_in posts.now) call ≡ true }
+    ensures { OnOk result (AreTold (past_in_call script.now.statements (posts_in posts.now) call) all.old.items all.new.items) }
+{
     match draft_to(script, posts, call, 0) {
         Some(draft) => push_draft(alloc, script, posts, call, draft, all),
         None => Ok(()),
@@ -91,7 +107,13 @@ fn push_call(
 fn is_posted(posts: &[Vec<usize>], call: usize) -> bool
     ensures { result ≡ is_posted (posts_in posts.now) call }
 {
-    posts.iter().all(|one| call < one.len())
+    for one in posts {
+        let many = one.as_slice().len();
+        if many <= call {
+            return false;
+        }
+    }
+    true
 }
 
 // The same, where rank 0 posts this to it.
@@ -107,17 +129,19 @@ fn push_draft(
     requires draft { draft_to script.now.statements (posts_in posts.now) call 0 ≡ Some draft.now }
     ensures { OnOk result (AreTold (past_in_row script.now.statements (posts_in posts.now) call draft.now) all.old.items all.new.items) }
 {
-    let Some(reduction) = summed(draft) else {
-        return Ok(());
-    };
-    let row = Row {
-        script,
-        posts,
-        call,
-        draft,
-        reduction,
-    };
-    push_row(alloc, &row, all)
+    match summed(draft) {
+        Some(reduction) => {
+            let row = Row {
+                script,
+                posts,
+                call,
+                draft,
+                reduction,
+            };
+            push_row(alloc, &row, all)
+        }
+        None => Ok(()),
+    }
 }
 
 // What a rank posts to a call.
@@ -149,7 +173,8 @@ fn summed(draft: &Draft) -> Option<Reduction>
     ensures { result ≡ summed_in draft.now }
 {
     let counts = are_counts(draft.rcounts.as_slice());
-    if is_signed(draft.ty) & is_summed(draft.op) & counts {
+    let summed = is_signed(draft.ty) & is_summed(draft.op);
+    if summed & counts {
         reduction_in(draft.call)
     } else {
         None
@@ -190,7 +215,7 @@ fn is_summed(op: Op) -> bool
 // Adds those of each rank once all that count for it are taken into the sums.
 fn push_row(alloc: Global, row: &Row<'_>, all: &mut Vec<Overflow>) -> Result<(), OutOfMemory>
     requires { IsRow row.now }
-    ensures { OnOk result (AreTold (flat_map (past_by (statements_in row.now) (posts_in row.now.posts.now) row.now.call row.now.draft.now row.now.reduction) (range_with_len 0 (length (statements_in row.now)))) all.old.items all.new.items) }
+    ensures { OnOk result (AreTold (past_upto row.now (length (statements_in row.now))) all.old.items all.new.items) }
 {
     match row.reduction {
         Reduction::Scan => push_scanned(alloc, row, all),
@@ -203,7 +228,7 @@ fn push_row(alloc: Global, row: &Row<'_>, all: &mut Vec<Overflow>) -> Result<(),
 fn push_scanned(alloc: Global, row: &Row<'_>, all: &mut Vec<Overflow>) -> Result<(), OutOfMemory>
     requires row { IsRow row.now }
     requires taken { (ranks rank : ℕ) → taken row.now.reduction ranks rank ≡ rank + 1 }
-    ensures { OnOk result (AreTold (flat_map (past_by (statements_in row.now) (posts_in row.now.posts.now) row.now.call row.now.draft.now row.now.reduction) (range_with_len 0 (length (statements_in row.now)))) all.old.items all.new.items) }
+    ensures { OnOk result (AreTold (past_upto row.now (length (statements_in row.now))) all.old.items all.new.items) }
 {
     let mut sums = first_sums(alloc, row)?;
     for rank in 0..row.script.ranks() {
@@ -221,7 +246,7 @@ fn push_scanned_before(
 ) -> Result<(), OutOfMemory>
     requires row { IsRow row.now }
     requires taken { (ranks rank : ℕ) → taken row.now.reduction ranks rank ≡ rank }
-    ensures { OnOk result (AreTold (flat_map (past_by (statements_in row.now) (posts_in row.now.posts.now) row.now.call row.now.draft.now row.now.reduction) (range_with_len 0 (length (statements_in row.now)))) all.old.items all.new.items) }
+    ensures { OnOk result (AreTold (past_upto row.now (length (statements_in row.now))) all.old.items all.new.items) }
 {
     let mut sums = first_sums(alloc, row)?;
     for rank in 0..row.script.ranks() {
@@ -235,7 +260,7 @@ fn push_scanned_before(
 fn push_reduced(alloc: Global, row: &Row<'_>, all: &mut Vec<Overflow>) -> Result<(), OutOfMemory>
     requires row { IsRow row.now }
     requires taken { (ranks rank : ℕ) → taken row.now.reduction ranks rank ≡ ranks }
-    ensures { OnOk result (AreTold (flat_map (past_by (statements_in row.now) (posts_in row.now.posts.now) row.now.call row.now.draft.now row.now.reduction) (range_with_len 0 (length (statements_in row.now)))) all.old.items all.new.items) }
+    ensures { OnOk result (AreTold (past_upto row.now (length (statements_in row.now))) all.old.items all.new.items) }
 {
     let sums = all_sums(alloc, row)?;
     for rank in 0..row.script.ranks() {
@@ -283,14 +308,31 @@ fn push_result(
     all: &mut Vec<Overflow>,
 ) -> Result<(), OutOfMemory>
     requires row { IsRow row.now }
-    requires sums { AreUpto row.now (taken row.now.reduction (length (statements_in row.now)) rank) sums.now }
-    ensures { OnOk result (AreTold (past_by (statements_in row.now) (posts_in row.now.posts.now) row.now.call row.now.draft.now row.now.reduction rank) all.old.items all.new.items) }
+    requires sums { AreUpto row.now (taken_by row.now rank) sums.now }
+    ensures { OnOk result (AreTold (past_for row.now rank) all.old.items all.new.items) }
 {
-    let Some(statement) = place_in(row.posts, row.call, rank) else {
-        return Ok(());
-    };
+    match place_in(row.posts, row.call, rank) {
+        Some(statement) => push_past(row, rank, statement, sums, all),
+        None => Ok(()),
+    }
+}
+
+// The same, where its statement is this.
+fn push_past(
+    row: &Row<'_>,
+    rank: u8,
+    statement: usize,
+    sums: &[Exact],
+    all: &mut Vec<Overflow>,
+) -> Result<(), OutOfMemory>
+    requires row { IsRow row.now }
+    requires sums { AreUpto row.now (taken_by row.now rank) sums.now }
+    requires post { Some statement ≡ post_to (posts_in row.now.posts.now) row.now.call rank }
+    ensures { OnOk result (AreTold (past_for row.now rank) all.old.items all.new.items) }
+{
     let bounds = bounds_of(row.reduction, row.draft, rank);
-    match first_past(row.draft.ty, bounds, sums) {
+    let past = first_past(row.draft.ty, bounds, sums);
+    match past {
         Some(exact) => Ok(all.push(Overflow {
             rank,
             statement,
@@ -301,20 +343,42 @@ fn push_result(
     }
 }
 
-// The first of these numbers, from one on and up to one, that is past its type.
+// The first of these numbers, within these bounds, that is past its type.
 fn first_past(ty: Ty, bounds: (usize, usize), numbers: &[Exact]) -> Option<Option<i128>>
     ensures { (is_product : Bool) (comes : ℕ → Option ℤ) → ((index : ℕ) → index < length numbers.now → IsExact is_product (slice_index_or numbers.now index Unknown) (comes index))
         → MatchOption result (first_past ty bounds comes (length numbers.now) ≡ None) (λ exact. IsSomeAnd (first_past ty bounds comes (length numbers.now)) (IsKnownAs exact)) }
 {
     for index in 0..numbers.len() {
-        if bounds.0 <= index && index < bounds.1 {
-            let past = past_type(ty, numbers[index]);
-            if past.is_some() {
-                return past;
-            }
+        let past = past_within(ty, bounds, index, numbers[index]);
+        if past.is_some() {
+            return past;
         }
     }
     None
+}
+
+// A number with this index that is past its type, where it is within these bounds.
+fn past_within(
+    ty: Ty,
+    bounds: (usize, usize),
+    index: usize,
+    exact: Exact,
+) -> Option<Option<i128>>
+    ensures { (is_product : Bool) (comes : Option ℤ) → IsExact is_product exact comes
+        → MatchOption result (past_there ty bounds index comes ≡ None) (λ exact. IsSomeAnd (past_there ty bounds index comes) (IsKnownAs exact)) }
+{
+    let is_within = is_within(bounds, index);
+    if is_within {
+        past_type(ty, exact)
+    } else {
+        None
+    }
+}
+
+fn is_within(bounds: (usize, usize), index: usize) -> bool
+    ensures { result ≡ (nat_le bounds.0 index && nat_lt index bounds.1) }
+{
+    bounds.0 <= index && index < bounds.1
 }
 
 // A number that is past its type; one that is past 128 bits is.
@@ -322,14 +386,18 @@ fn past_type(ty: Ty, exact: Exact) -> Option<Option<i128>>
     ensures { (is_product : Bool) (comes : Option ℤ) → IsExact is_product exact comes → MatchOption result (past_type ty comes ≡ None) (λ exact. IsSomeAnd (past_type ty comes) (IsKnownAs exact)) }
 {
     match exact {
-        Exact::Number(number) => {
-            if is_in_range(ty, number) {
-                None
-            } else {
-                Some(Some(number))
-            }
-        }
+        Exact::Number(number) => past_number(ty, number),
         Exact::Far => Some(None),
         Exact::Unknown => None,
+    }
+}
+
+fn past_number(ty: Ty, number: i128) -> Option<Option<i128>>
+    ensures { result ≡ cond (is_of ty number) None (Some (Some number)) }
+{
+    if is_in_range(ty, number) {
+        None
+    } else {
+        Some(Some(number))
     }
 }
