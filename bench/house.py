@@ -24,7 +24,7 @@ PAGE, PICTURE = ROOT / "docs" / "ARCHITECTURE.md", ROOT / "docs" / "house.svg"
 BEGIN, END = "<!-- bench/house.py writes this table -->\n", "<!-- until here -->\n"
 
 # The crates whose code control enters in a run of one allreduce, and those besides where a frame carries its posts.
-ENTERED = """gossipmpi mpx_shell mpx_words mpx_affine mpx_num mpx_program mpx_run mpx_script mpx_statement mpx_kind mpx_post mpx_sim mpx_node
+ENTERED = """gossipmpi mpx_words mpx_affine mpx_num mpx_program mpx_run mpx_script mpx_statement mpx_kind mpx_post mpx_sim mpx_node
 mpx_board mpx_floor mpx_bus mpx_birth mpx_name mpx_group mpx_format join_nest join_core mpx_rank mpx_value mpx_match mpx_fold mpx_meaning""".split()
 FRAMED = "mpx_delta mpx_digest mpx_encode mpx_rope mpx_wire mpx_decode".split()
 

@@ -7,7 +7,7 @@ use crate::joins::DEAD_CHILD;
 use join_core::Exact;
 use mpx_board::Board;
 use mpx_name::Name;
-use mpx_wire::{WireError, decode, encode, frame_len, take_spelled};
+use mpx_wire::{WireError, decode, encode, frame_len};
 use std::alloc::Global;
 use std::test::Fail;
 use test_drafts::contexts::FRAME;
@@ -66,10 +66,10 @@ fn is_written(alloc: Global, board: &Board, wanted: &[u8]) -> Result<bool, Fail>
 
 // Whether the bytes are read as the board, as a board of its own and into one.
 fn is_read(alloc: Global, bytes: &[u8], board: &Board) -> Result<bool, Fail> {
-    let read = decode(alloc, bytes)?.same(board);
+    let read = decode(alloc, bytes)?;
     let mut taken = Board::new(alloc);
-    take_spelled(alloc, &mut taken, bytes)?;
-    Ok(read && taken.same(board))
+    taken.take(alloc, &read)?;
+    Ok(read.same(board) && taken.same(board))
 }
 
 // The length of the frame of so many names of contexts, or none, and what `frame_len` says.

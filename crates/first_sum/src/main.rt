@@ -1,10 +1,7 @@
 //! The program `first_sum`: four ranks, each in a thread of its own, add their numbers, split, and gather.
 #![tactic(auto)]
 
-use mpx_job::{RankProgram, job, print_answers};
-use mpx_num::{Op, Ops};
-use mpx_program_rank::{CallError, Host, Rank};
-use mpx_ranks::RanksError;
+use mpx_job::{CallError, Host, Op, Rank, RankProgram, run};
 use std::process::ExitCode;
 
 struct FirstSum;
@@ -24,8 +21,6 @@ impl RankProgram for FirstSum {
     }
 }
 
-fn main(rt: HostRuntime) -> Result<ExitCode, RanksError> {
-    let ops = Ops::none(rt.alloc());
-    let answers = job(&rt, rt.alloc(), 4, &FirstSum, &ops)?;
-    Ok(print_answers(&rt, &answers))
+fn main(rt: HostRuntime) -> ExitCode {
+    run(&rt, rt.alloc(), 4, &FirstSum)
 }

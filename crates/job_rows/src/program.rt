@@ -1,6 +1,8 @@
 //! The program's own call, as its `main` makes it, over streams in memory.
 use crate::terminals::{Leaping, Shown};
-use mpx_shell::{asks_for_threads, exit_code, exit_code_in_threads, say_how_to_give, seen_by};
+use mpx_program::{
+    Streams, asks_for_threads, exit_code, exit_code_in_threads, say_how_to_give, seen_by,
+};
 use mpx_words::call_of;
 use std::alloc::Global;
 use std::io::{Read, Write};
@@ -38,11 +40,17 @@ pub fn call_program<T: Threads + Wait + Sync, R: Read, W: Write>(
     };
     say_how_to_give(&asked, &shown, said);
     let mut seen = seen_by(&asked, alloc, &clock, shown);
-    let code = if asks_for_threads(&asked) {
-        exit_code_in_threads(rt, alloc, &asked, reader, out, said, &mut seen)
-    } else {
-        exit_code(rt, alloc, &asked, reader, out, said, &mut seen)
+    let mut streams = Streams {
+        reader,
+        out,
+        err: said,
     };
+    let code = if asks_for_threads(&asked) {
+        exit_code_in_threads(rt, alloc, &asked, &mut streams, &mut seen)
+    } else {
+        exit_code(rt, alloc, &asked, &mut streams, &mut seen)
+    };
+    drop(streams);
     drop(asked);
     Exited {
         status: number_of(code),

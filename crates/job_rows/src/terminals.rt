@@ -1,7 +1,7 @@
 //! What a run is shown on as it goes, and a clock for it.
 use crate::gates::UntilTold;
+use mpx_program::Seen;
 use mpx_run::{Observer, Progress};
-use mpx_shell::Seen;
 use mpx_words::flags_behind;
 use std::alloc::Global;
 use std::cell::Cell;

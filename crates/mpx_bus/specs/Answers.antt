@@ -45,6 +45,13 @@ PopsOne (O.Took frame) old new = new.journal ≡ (old.journal ++ A.Popped frame 
 PopsOne O.Empty old new = new ≡ old
 PopsOne (O.OutOfMemory frame) old new = Wants frame old new
 
+-- no frame is popped only where the queue was empty at a moment of the call: under its rule it held none, while the port stood as the
+-- queue has seen it
+abbrev pub FoundNone : Pop → PortView → Type 0
+FoundNone (O.Took frame) new = Unit {0}
+FoundNone O.Empty new = Held 0 (IsHeldAt (view_in new))
+FoundNone (O.OutOfMemory frame) new = Unit {0}
+
 -- a frame that was popped may be pushed on
 abbrev pub PassesOn : Pop → PortView → Type 0
 PassesOn (O.Took frame) new = CanPush new frame

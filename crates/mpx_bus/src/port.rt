@@ -12,7 +12,7 @@ ghost use Rattle.mpx_bus.specs.Rule.{Stood};
 ghost use Rattle.mpx_bus.specs.Ports.{CanPush, PortGoes, PortGoesOn, HaveMet, IsFleet, IsSamePort, KeepsPlan, node_in};
 ghost use Rattle.mpx_bus.specs.Buses.{room_of, table_of};
 ghost use Rattle.mpx_bus.specs.Finished.{BothHaveFinished};
-ghost use Rattle.mpx_bus.specs.Answers.{FoundNoRoom, HarvestsOne, PassesOn, PopsOne, PushesNext, PushesOne, PushesLast, TakesIn};
+ghost use Rattle.mpx_bus.specs.Answers.{FoundNoRoom, FoundNone, HarvestsOne, PassesOn, PopsOne, PushesNext, PushesOne, PushesLast, TakesIn};
 
 use crate::both::both_finished;
 use crate::frame::Frame;
@@ -84,7 +84,7 @@ pub enum Push {
 pub enum Pop {
     /// The part of this frame is on the port's board.
     Took(Frame),
-    /// The queue was empty.
+    /// The queue was empty at a moment of the call.
     Empty,
     /// Memory was wanting to join the part of this frame, which the queue has lost: the port's board is one between the old one
     /// and the join.
@@ -222,6 +222,7 @@ impl Bus {
         ensures port { PortGoesOn port.old port.new }
         ensures kept { port.new.kept ≡ port.old.kept }
         ensures answer { PopsOne result port.old port.new }
+        ensures empty { FoundNone result port.new }
         ensures board { TakesIn result (node_in port.old) (node_in port.new) }
         ensures passes_on { PassesOn result port.new }
     {
@@ -234,6 +235,7 @@ impl Bus {
         ensures port { IsSamePort port.old port.new }
         ensures kept { port.new.kept ≡ port.old.kept }
         ensures answer { PopsOne result port.old port.new }
+        ensures empty { FoundNone result port.new }
     {
         let Some(frame) = pop_to::<Brand, R>(rt, &self.queue, &mut port.pass, &port.line) else {
             return Pop::Empty;

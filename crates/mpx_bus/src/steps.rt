@@ -1,5 +1,5 @@
 //! A process's steps at the queue, under its rule, and the list of what it did, which has none at first.
-ghost use Rattle.std.specs.Prelude.{◌≡◌, [], IfOk, OnErr, MatchOption, MatchResult};
+ghost use Rattle.std.specs.Prelude.{◌≡◌, [], IfNone, IfOk, OnErr, MatchOption, MatchResult};
 ghost use Rattle.crossbeam_queue.specs.Fifo.{Held, Pops, Pushes};
 ghost use Rattle.crossbeam_queue.specs.Passes.{IsPassOf, IsSamePass, ruled_capacity, view};
 ghost use Rattle.mpx_board.specs.Parts.{PartsView};
@@ -49,6 +49,7 @@ pub(crate) fn pop_to<M: Aim, R: Wait>(
     ensures queue { IsSamePass pass.old pass.new }
     ensures rule { MatchOption result (view pass.new ≡ view pass.old)
         (λ x. (view pass.new ≡ after_pop (view line.now) x (view pass.old)) × Stood (view pass.old).setup (seat_of (view pass.old)).me (seat_of (view pass.new)).journal × ((parts : PartsView) × IsSpelled x parts)) }
+    ensures empty { IfNone result (Held 0 (IsHeldAt (view pass.old))) }
 {
     let _ = line;
     queue.pop_as::<Takes<M>, R>(rt, pass)

@@ -5,10 +5,10 @@ use Rattle.std.proofs.Math.Nat.{mul_comm, suc-mul}
 use Rattle.std.proofs.lemmas.Nat.{div-mul-add, mul-le}
 use Rattle.std.proofs.lemmas.List.{drop-drop, drop-take, drop_at, length-append, length-drop, length-take-le, map-append, take-append-drop, take-take, take_all, take_at}
 use Rattle.std.proofs.lemmas.List.Concat.{flat_map-append}
-use Rattle.std.proofs.lemmas.List.Elements.{All-append, All-from_recursion, All-nil}
+use Rattle.std.proofs.lemmas.List.Elements.{All-append, All-from_recursion, All-head, All-nil, All-tail}
 use Rattle.std.proofs.lemmas.List.Sums.{sum_by_push}
 use Rattle.mpx_birth.specs.Births.{upto}
-use Rattle.mpx_call.specs.Parts.{AreParts, Follow, Part, block_in, cut, put_together}
+use Rattle.mpx_call.specs.Parts.{AreFull, AreParts, Follow, Part, block_in, cut, put_together}
 use Rattle.mpx_call.proofs.Parts.{upto_more}
 
 -- the first of a list, and then the next ones
@@ -96,10 +96,19 @@ blocks_upto f blocks count list are (suc upper) below =
 pub are_all : {T : Type 0} (f : ℕ → List T) (blocks count : ℕ) (list : List T) → length list ≡ blocks * count → ((number : ℕ) → number < blocks → f number ≡ take count (drop (number * count) list)) → flat_map f (upto blocks) ≡ list
 are_all f blocks count list l are = blocks_upto f blocks count list are blocks (omega arith) ∙ take_all (blocks * count) list (omega (arith, l))
 
+-- one part more, after parts that are full
+one_full : {T : Type 0} (most : ℕ) (parts : List (Part T)) (part : Part T) → All (λ (p : Part T). p.count ≡ most) parts → 0 < part.count → part.count ≤ most → AreFull most (parts ++ part ∷ [])
+one_full most [] part full some few = (some, few)
+one_full {T} most (first ∷ []) part full some few = (All-head (λ (p : Part T). p.count ≡ most) first [] full, (some, few))
+one_full {T} most (first ∷ next ∷ parts) part full some few =
+    (All-head (λ (p : Part T). p.count ≡ most) first (next ∷ parts) full, one_full most (next ∷ parts) part (All-tail (λ (p : Part T). p.count ≡ most) first (next ∷ parts) full) some few)
+
 -- what calls have given so far, of the first so many items of each block
 pub record SoFar {T S : Type 0} (Call : Part T → S → S → Type 0) (most gives count first : ℕ) (items : List T) (lists : List (List T)) (old new : S) : Type 0 where
   pub parts : List (Part T)
   pub follow : Follow Call parts old new
+  pub before : first < count → All (λ (part : Part T). part.count ≡ most) parts
+  pub full : AreFull most parts
   pub each : All (λ (part : Part T). part.count ≤ most) parts
   pub lengths : All (λ (part : Part T). length part.given ≡ gives * part.count) parts
   pub all : sum_by (λ (part : Part T). part.count) parts ≡ first
@@ -110,6 +119,8 @@ pub none_yet : {T S : Type 0} (Call : Part T → S → S → Type 0) (most gives
 none_yet {T} Call most gives count items old = record {
   parts = [];
   follow = refl;
+  before = λ more. All-nil (λ (p : Part T). p.count ≡ most);
+  full = tt;
   each = All-nil (λ (p : Part T). p.count ≤ most);
   lengths = All-nil (λ (p : Part T). length p.given ≡ gives * p.count);
   all = refl;
@@ -123,16 +134,18 @@ follow_more Call [] part old between new same does = (new, subst (λ s. Call par
 follow_more Call (p ∷ parts) part old between new (first, did, follow) does = (first, did, follow_more Call parts part first between new follow does)
 
 pub one_more : {T S : Type 0} (Call : Part T → S → S → Type 0) (most gives count first each : ℕ) (items : List T) (lists : List (List T)) (given got : List T) (old between new : S)
-    → SoFar Call most gives count first items lists old between → length items ≡ gives * count → first + each ≤ count → each ≤ most → given ≡ cut gives count first each items
+    → SoFar Call most gives count first items lists old between → length items ≡ gives * count → first + each ≤ count → each ≤ most → 0 < each → (first + each < count → each ≡ most) → given ≡ cut gives count first each items
     → Call (record { count = each; given = given; got = got }) between new
     → SoFar Call most gives count (first + each) items (lists ++ got ∷ []) old new
-one_more {T} Call most gives count first each items lists given got old between new so_far l fits few is does =
+one_more {T} Call most gives count first each items lists given got old between new so_far l fits few some last is does =
     let part : Part T = record { count = each; given = given; got = got } in
     let whole : length given ≡ gives * each = ap length is ∙ length-cut gives count first each items fits l in
     let f = λ (p : Part T). p.given in
     record {
       parts = so_far.parts ++ part ∷ [];
       follow = follow_more Call so_far.parts part old between new so_far.follow does;
+      before = λ more. All-append (λ (p : Part T). p.count ≡ most) so_far.parts (part ∷ []) (so_far.before (omega arith)) (All-from_recursion (λ (p : Part T). p.count ≡ most) (part ∷ []) (last more, tt));
+      full = one_full most so_far.parts part (so_far.before (omega arith)) some few;
       each = All-append (λ (p : Part T). p.count ≤ most) so_far.parts (part ∷ []) so_far.each (All-from_recursion (λ (p : Part T). p.count ≤ most) (part ∷ []) (few, tt));
       lengths = All-append (λ (p : Part T). length p.given ≡ gives * p.count) so_far.parts (part ∷ []) so_far.lengths (All-from_recursion (λ (p : Part T). length p.given ≡ gives * p.count) (part ∷ []) (whole, tt));
       all = sum_by_push (λ (p : Part T). p.count) so_far.parts part ∙ ap (λ n. n + each) so_far.all;
@@ -152,6 +165,8 @@ all_done {T} Call most gives gets count items lists list old new so_far l is = (
   so_far.parts,
   so_far.follow,
   record {
+    whole = l;
+    full = so_far.full;
     each = so_far.each;
     lengths = so_far.lengths;
     all = so_far.all;

@@ -1,5 +1,5 @@
 -- Lists of equal blocks, cut into parts and put together again.
-use Rattle.std.specs.Prelude.{◌≡◌, ℕ, zero, suc, ◌*◌, ◌/◌, ◌≤◌, ◌++◌, List, [], ◌∷◌, length, map, take, drop}
+use Rattle.std.specs.Prelude.{◌≡◌, ℕ, zero, suc, ◌*◌, ◌/◌, ◌<◌, ◌≤◌, ◌++◌, List, [], ◌∷◌, length, map, take, drop}
 use Rattle.std.specs.List.{All, flat_map, sum_by}
 use Rattle.mpx_birth.specs.Births.{upto}
 
@@ -27,8 +27,17 @@ abbrev pub Follow : {T S : Type 0} → (Call : Part T → S → S → Type 0) �
 Follow Call [] old new = new ≡ old
 Follow {T} {S} Call (part ∷ parts) old new = (between : S) × Call part old between × Follow Call parts between new
 
--- `gives` blocks of `count` items are cut into these parts, in each at most so many of a block. What they give, put together, is the list of `gets` blocks
+-- each part but the last has just so many items of a block, and the last has some, and no more
+abbrev pub AreFull : {T : Type 0} → (most : ℕ) → List (Part T) → Type 0
+AreFull most [] = Unit {0}
+AreFull most (part ∷ []) = (0 < part.count) × (part.count ≤ most)
+AreFull most (part ∷ next ∷ parts) = (part.count ≡ most) × AreFull most (next ∷ parts)
+
+-- `gives` blocks of `count` items are cut into these parts, each but the last of just so many of a block. What they give, put together, is the list of
+-- `gets` blocks
 pub record AreParts {T : Type 0} (most gives gets count : ℕ) (items list : List T) (parts : List (Part T)) : Type 0 where
+  pub whole : length items ≡ gives * count
+  pub full : AreFull most parts
   pub each : All (λ (part : Part T). part.count ≤ most) parts
   pub lengths : All (λ (part : Part T). length part.given ≡ gives * part.count) parts
   pub all : sum_by (λ (part : Part T). part.count) parts ≡ count

@@ -1,5 +1,5 @@
 //! A desk over a node alone, whose user carries the boards.
-ghost use Rattle.std.specs.Prelude.{ℕ, ◌≡◌, ◌≢◌, ◌<◌, ◌≤◌, ◌+◌, ◌-◌, All, IfOk, IsTrue, OnOk, OnErr, false, is_ok, map, nat_lt, true};
+ghost use Rattle.std.specs.Prelude.{ℕ, ◌≡◌, ◌≢◌, ◌<◌, ◌≤◌, ◌+◌, ◌-◌, All, IfOk, OnOk, OnErr, false, map, nat_lt, true};
 ghost use Rattle.mpx_board.specs.Boards.{IsBoardBelow, empty, join_all};
 ghost use Rattle.mpx_board.specs.Changes.{pruned_on};
 ghost use Rattle.mpx_board.specs.Looks.{look, parts_of};
@@ -7,6 +7,7 @@ ghost use Rattle.mpx_board.specs.Parts.{PartsView};
 ghost use Rattle.mpx_format.specs.Decoding.{IsSpelled, decoded, shown};
 ghost use Rattle.mpx_format.specs.Encoding.{length_told};
 ghost use Rattle.mpx_delta.specs.Facts.{OnlyFactsOf};
+ghost use Rattle.mpx_delta.specs.Pieces.{NoNeighboursFit};
 ghost use Rattle.mpx_node.specs.Deltas.{AreLacked, LackFrames, SaysWhatItHas, lacking_on};
 ghost use Rattle.mpx_node.specs.Harvests.{harvested};
 ghost use Rattle.mpx_node.specs.Nodes.{Opens, StopsTaking, front_on, gathers_on, has_next, learn, learn_some, prune_part};
@@ -70,19 +71,8 @@ impl Desk<Node> {
         self.host.take(alloc, part)
     }
 
-    /// Joins the board that the bytes of a frame spell, as [`Node::take_frame`] does; that they spell one is the caller's condition. An
-    /// `Err` leaves what it leaves there; a frame that tells nothing wants no memory.
-    pub fn take_frame(&mut self, alloc: Global, frame: &[u8]) -> Result<(), OutOfMemory>
-        requires spelled { IsTrue (is_ok (decoded frame.now)) }
-        ensures ok { OnOk result (node_of self.new.host ≡ learn (shown (decoded frame.now)) (node_of self.old.host)) }
-        ensures err { OnErr result (StopsTaking (shown (decoded frame.now)) (node_of self.old.host) (node_of self.new.host)) }
-        ensures some { OnErr result (shown (decoded frame.now) ≢ empty) }
-        ensures requests { self.new.requests.keys ≡ self.old.requests.keys }
-    {
-        self.host.take_frame(alloc, frame)
-    }
-
-    /// The same of a frame whose items may be shared, as [`Node::take_rope`] does.
+    /// Joins the board that a frame spells, as [`Node::take_rope`] does; that it spells one is the caller's condition. An `Err` leaves what
+    /// it leaves there; a frame that tells nothing wants no memory.
     pub fn take_rope(&mut self, alloc: Global, frame: &RopeRef<'_>) -> Result<(), OutOfMemory>
         requires spelled { (parts : PartsView) × IsSpelled frame.now parts }
         ensures ok { OnOk result (node_of self.new.host ≡ learn (shown (decoded frame.now)) (node_of self.old.host)) }
@@ -160,7 +150,7 @@ impl Desk<Node> {
     }
 
     /// Says what the process has, and gives what others may lack of its board in parts whose frames have at most `limit` bytes, from
-    /// 524,288 to 1,048,576, as [`Node::deltas`] does. An `Err`, for want of memory, changes nothing.
+    /// 524,288 to 1,048,576, and the join of no two beside each other would fit, as [`Node::deltas`] does. An `Err`, for want of memory, changes nothing.
     pub fn deltas(&mut self, alloc: Global, limit: usize) -> Result<Vec<Board>, OutOfMemory>
         requires least { 524288 ≤ limit }
         requires most { limit ≤ 1048576 }
@@ -168,6 +158,7 @@ impl Desk<Node> {
         ensures facts { IfOk result (λ made. All (λ part. OnlyFactsOf (look part) (node_of self.new.host).board) made.items) }
         ensures fit { IfOk result (λ made. All (λ part. length_told (parts_of part) ≤ limit) made.items) }
         ensures join { IfOk result (λ made. join_all (map look made.items) ≡ lacking_on (node_of self.new.host)) }
+        ensures few { IfOk result (λ made. NoNeighboursFit limit made.items) }
         ensures err { OnErr result (node_of self.new.host ≡ node_of self.old.host) }
         ensures requests { self.new.requests.keys ≡ self.old.requests.keys }
     {

@@ -1,5 +1,7 @@
 //! What is printed of a job.
-ghost use Rattle.std.specs.Prelude.{◌≡◌, Err, IfSome, Some, slice_get};
+ghost use Rattle.std.specs.Prelude.{◌≡◌, Err, IfSome, Some, if◌then◌else◌, is_ok, slice_get};
+ghost use Rattle.std.specs.List.{list_all};
+ghost use Rattle.std.specs.Process.{exit_status};
 
 use crate::running::GivesUp;
 use std::fmt::Display;
@@ -20,8 +22,9 @@ pub fn cause_of<A, E>(answers: &[Result<A, E>], rank: u8) -> Option<&E>
 pub fn print_answers<A: Display, E: GivesUp, R: Print + Eprint>(
     rt: &R,
     answers: &[Result<A, E>],
-) -> ExitCode {
-    let mut code = ExitCode::SUCCESS;
+) -> ExitCode
+    ensures { exit_status result ≡ (if list_all is_ok answers.now then 0 else 1) }
+{
     for (rank, answer) in answers.iter().enumerate() {
         if let Ok(text) = answer {
             let _printed = println!(rt; "rank {rank}: {text}");
@@ -29,7 +32,6 @@ pub fn print_answers<A: Display, E: GivesUp, R: Print + Eprint>(
     }
     for (rank, answer) in answers.iter().enumerate() {
         if let Err(e) = answer {
-            code = ExitCode::FAILURE;
             if e.quitter().is_none() {
                 let _printed = eprintln!(rt; "rank {rank} gave up: {e}");
             }
@@ -40,7 +42,25 @@ pub fn print_answers<A: Display, E: GivesUp, R: Print + Eprint>(
             print_after(rt, rank, e, answers);
         }
     }
-    code
+    status_of(answers)
+}
+
+// Success just where every rank answers.
+fn status_of<A, E>(answers: &[Result<A, E>]) -> ExitCode
+    ensures { exit_status result ≡ (if list_all is_ok answers.now then 0 else 1) }
+{
+    if all_answer(answers) {
+        ExitCode::SUCCESS
+    } else {
+        ExitCode::FAILURE
+    }
+}
+
+// Whether every rank answers.
+fn all_answer<A, E>(answers: &[Result<A, E>]) -> bool
+    ensures { result ≡ list_all is_ok answers.now }
+{
+    answers.iter().all(|answer| answer.is_ok())
 }
 
 // Prints the error of a rank that names another, with what that one gave.

@@ -1,12 +1,14 @@
 //! What every rank of a job runs, and how.
 ghost use Rattle.std.specs.Prelude.{◌≡◌, IfOk, length};
 
+use crate::printing::print_answers;
 use mpx_comm::{Comm, Desk, Host};
 use mpx_num::{Listing, Ops};
 use mpx_program_rank::{CallError, Rank};
 use mpx_ranks::{Program, RanksError, ranks};
 use std::alloc::Global;
 use std::fmt::Display;
+use std::process::ExitCode;
 use std::sync::Wait;
 use std::thread::Threads;
 
@@ -88,5 +90,27 @@ where
     match ran {
         Ok(ran) => Ok(ran.into_answers()),
         Err(e) => Err(e),
+    }
+}
+
+/// A job without operations of its own, and what [`print_answers`] prints of it. It fails where a rank gave up, or where there was no job, and then it
+/// prints why.
+pub fn run<P: RankProgram + Sync, R: Threads + Wait + Print + Eprint + Sync>(
+    rt: &R,
+    alloc: Global,
+    count: u8,
+    program: &P,
+) -> ExitCode
+where
+    P::Answer: Display + Send + Drop,
+    P::Error: Send + Drop,
+{
+    let ops = Ops::none(alloc);
+    match job(rt, alloc, count, program, &ops) {
+        Ok(answers) => print_answers(rt, &answers),
+        Err(e) => {
+            let _printed = eprintln!(rt; "no job: {e}");
+            ExitCode::FAILURE
+        }
     }
 }

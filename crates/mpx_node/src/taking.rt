@@ -1,5 +1,5 @@
 //! What a node takes: parts, and the frames of parts.
-ghost use Rattle.std.specs.Prelude.{◌≡◌, ◌≢◌, OnOk, OnErr, IsTrue, is_ok};
+ghost use Rattle.std.specs.Prelude.{◌≡◌, ◌≢◌, OnOk, OnErr};
 ghost use Rattle.mpx_board.specs.Boards.{IsBoardBelow, empty};
 ghost use Rattle.mpx_board.specs.Looks.{look};
 ghost use Rattle.mpx_board.specs.Parts.{PartsView};
@@ -9,7 +9,7 @@ use crate::node::Node;
 use join_core::OutOfMemory;
 use mpx_board::Board;
 use mpx_rope::RopeRef;
-use mpx_wire::{take_rope, take_spelled};
+use mpx_wire::take_rope;
 use std::alloc::Global;
 
 impl Node {
@@ -27,19 +27,9 @@ impl Node {
         self.board.take(alloc, part)
     }
 
-    /// Joins the board that the bytes of a frame spell, as [`Node::take`] joins a part, with no board of its own for what they say. That
-    /// they spell one is the caller's condition. An `Err` leaves what it leaves there; a frame that tells nothing wants no memory.
-    pub fn take_frame(&mut self, alloc: Global, frame: &[u8]) -> Result<(), OutOfMemory>
-        requires spelled { IsTrue (is_ok (decoded frame.now)) }
-        ensures ok { OnOk result (node_of self.new ≡ learn (shown (decoded frame.now)) (node_of self.old)) }
-        ensures err { OnErr result (StopsTaking (shown (decoded frame.now)) (node_of self.old) (node_of self.new)) }
-        ensures some { OnErr result (shown (decoded frame.now) ≢ empty) }
-    {
-        self.kept.forget_all();
-        take_spelled(alloc, &mut self.board, frame)
-    }
-
-    /// The same of a frame whose items may be shared.
+    /// Joins the board that a frame spells, as [`Node::take`] joins a part, with no board of its own for what it says. Its items may be
+    /// shared. That it spells one is the caller's condition. An `Err` leaves what it leaves there; a frame that tells nothing wants no
+    /// memory.
     pub fn take_rope(&mut self, alloc: Global, frame: &RopeRef<'_>) -> Result<(), OutOfMemory>
         requires spelled { (parts : PartsView) × IsSpelled frame.now parts }
         ensures ok { OnOk result (node_of self.new ≡ learn (shown (decoded frame.now)) (node_of self.old)) }

@@ -1,3 +1,4 @@
 mod Answering
 mod Telling
 mod Saying
+mod Ending

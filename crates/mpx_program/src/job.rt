@@ -31,7 +31,15 @@ pub struct Exit {
     pub told: Result<(), WriteFault>,
 }
 
-/// Does what a call asks for: reads the script from `reader`, once, writes what it comes to to `out`, and tells `err` what is to be said. Where
+/// What a job reads its script from, what it prints on, and what it says on.
+#[derive(Drop)]
+pub struct Streams<R: Read, W: Write, E: Write> {
+    pub reader: R,
+    pub out: W,
+    pub err: E,
+}
+
+/// Does what a call asks for: reads the script from the reader, once, writes what it comes to to `out`, and tells `err` what is to be said. Where
 /// it asks for a run, these workers make it, and `observer` looks on: it is the caller who shows a run as it goes. It waits for nobody, so it is
 /// proved to return.
 ///
@@ -41,29 +49,27 @@ pub fn run_job<K: Workers, R: Read, W: Write, E: Write>(
     workers: &K,
     alloc: Global,
     call: &Invocation,
-    reader: &mut R,
-    out: &mut W,
-    err: &mut E,
+    streams: &mut Streams<R, W, E>,
     observer: &mut dyn Observer,
     ops: &Ops,
 ) -> Exit
     requires may { K.may_work workers.now }
     requires alone { is_in_threads call.now.job ≡ false }
-    ensures prints { DoesJobWith AsPrinted (⟦<Ops as Listing>⟧.operations ops.now) call.now (R.remaining reader.old) (R.remaining reader.new) (W.contents out.old) (W.contents out.new) result.status (Tells (E.contents err.old) (E.contents err.new) result.told) }
-    ensures founded { DoesJobWith AsFounded (⟦<Ops as Listing>⟧.operations ops.now) call.now (R.remaining reader.old) (R.remaining reader.new) (W.contents out.old) (W.contents out.new) result.status (Tells (E.contents err.old) (E.contents err.new) result.told) }
+    ensures prints { DoesJobWith AsPrinted (⟦<Ops as Listing>⟧.operations ops.now) call.now (R.remaining streams.old.reader) (R.remaining streams.new.reader) (W.contents streams.old.out) (W.contents streams.new.out) result.status (Tells (E.contents streams.old.err) (E.contents streams.new.err) result.told) }
+    ensures founded { DoesJobWith AsFounded (⟦<Ops as Listing>⟧.operations ops.now) call.now (R.remaining streams.old.reader) (R.remaining streams.new.reader) (W.contents streams.old.out) (W.contents streams.new.out) result.status (Tells (E.contents streams.old.err) (E.contents streams.new.err) result.told) }
 {
-    match prepare(alloc, call, reader, ops) {
+    match prepare(alloc, call, &mut streams.reader, ops) {
         Ok(prepared) => {
             observer.begins(&prepared.text);
             let printed = print_job(workers, alloc, &call.job, &prepared.script, observer, ops);
-            answer(alloc, call, &prepared, printed, out, err, ops)
+            answer(alloc, call, &prepared, printed, streams, ops)
         }
         Err(failed) => exit_of(
             &Err(failed.error),
             false,
             call.flags.explain,
             more_of(&failed.more),
-            err,
+            &mut streams.err,
         ),
     }
 }
@@ -73,28 +79,26 @@ pub fn run_job_in_threads<T: Threads + Wait + Sync, R: Read, W: Write, E: Write>
     rt: &T,
     alloc: Global,
     call: &Invocation,
-    reader: &mut R,
-    out: &mut W,
-    err: &mut E,
+    streams: &mut Streams<R, W, E>,
     observer: &mut dyn Observer,
     ops: &Ops,
 ) -> Exit
     requires threads { is_in_threads call.now.job ≡ true }
-    ensures prints { DoesJobWith AsPrinted (⟦<Ops as Listing>⟧.operations ops.now) call.now (R.remaining reader.old) (R.remaining reader.new) (W.contents out.old) (W.contents out.new) result.status (Tells (E.contents err.old) (E.contents err.new) result.told) }
-    ensures founded { DoesJobWith AsFounded (⟦<Ops as Listing>⟧.operations ops.now) call.now (R.remaining reader.old) (R.remaining reader.new) (W.contents out.old) (W.contents out.new) result.status (Tells (E.contents err.old) (E.contents err.new) result.told) }
+    ensures prints { DoesJobWith AsPrinted (⟦<Ops as Listing>⟧.operations ops.now) call.now (R.remaining streams.old.reader) (R.remaining streams.new.reader) (W.contents streams.old.out) (W.contents streams.new.out) result.status (Tells (E.contents streams.old.err) (E.contents streams.new.err) result.told) }
+    ensures founded { DoesJobWith AsFounded (⟦<Ops as Listing>⟧.operations ops.now) call.now (R.remaining streams.old.reader) (R.remaining streams.new.reader) (W.contents streams.old.out) (W.contents streams.new.out) result.status (Tells (E.contents streams.old.err) (E.contents streams.new.err) result.told) }
 {
-    match prepare(alloc, call, reader, ops) {
+    match prepare(alloc, call, &mut streams.reader, ops) {
         Ok(prepared) => {
             let (job, script) = (&call.job, &prepared.script);
             let printed = print_job_in_threads(rt, alloc, job, script, observer, &OpenGate, ops);
-            answer(alloc, call, &prepared, printed, out, err, ops)
+            answer(alloc, call, &prepared, printed, streams, ops)
         }
         Err(failed) => exit_of(
             &Err(failed.error),
             false,
             call.flags.explain,
             more_of(&failed.more),
-            err,
+            &mut streams.err,
         ),
     }
 }
@@ -110,13 +114,12 @@ pub fn refuse<E: Write>(refusal: &clap::Error, err: &mut E) -> Exit
 }
 
 // Writes what a job came to with a script, and tells what is to be said.
-fn answer<W: Write, E: Write>(
+fn answer<R: Read, W: Write, E: Write>(
     alloc: Global,
     call: &Invocation,
     prepared: &Prepared,
     printed: Result<Printed, RunError>,
-    out: &mut W,
-    err: &mut E,
+    streams: &mut Streams<R, W, E>,
     ops: &Ops,
 ) -> Exit
     requires read { reading (⟦<Ops as Listing>⟧.operations ops.now) prepared.now.text.items ≡ Ok prepared.now.script }
@@ -125,19 +128,27 @@ fn answer<W: Write, E: Write>(
     requires comes { IfOk printed (λ p. ComesTo IsFounded (⟦<Ops as Listing>⟧.operations ops.now) call.now.job.command call.now.job.options prepared.now.script p.end (string_bytes p.text)) }
     requires left { IfOk printed (λ p. Leaves (⟦<Ops as Listing>⟧.operations ops.now) call.now.job.command call.now.job.options prepared.now.script p.end (string_bytes p.text) p.left) }
     requires refused { IfErr printed (λ e. IsRefusedFor call.now.job prepared.now.script e) }
-    ensures { AnswersText AsFounded (⟦<Ops as Listing>⟧.operations ops.now) call.now prepared.now.text.items (W.contents out.old) (W.contents out.new) result.status (Tells (E.contents err.old) (E.contents err.new) result.told) }
+    ensures unread { R.remaining streams.new.reader ≡ R.remaining streams.old.reader }
+    ensures answers { AnswersText AsFounded (⟦<Ops as Listing>⟧.operations ops.now) call.now prepared.now.text.items (W.contents streams.old.out) (W.contents streams.new.out) result.status (Tells (E.contents streams.old.err) (E.contents streams.new.err) result.told) }
 {
     match printed {
         Ok(printed) => {
             let Printed { text, end, left } = printed;
-            let answer = write_printed(text.as_bytes(), end, out);
+            let answer = write_printed(text.as_bytes(), end, &mut streams.out);
             let told = explained(alloc, call, prepared, &answer, &left);
             left.let_go();
             let explains = call.flags.explain;
-            exit_of(&answer, prepared.complains, explains, more_of(&told), err)
+            exit_of(
+                &answer,
+                prepared.complains,
+                explains,
+                more_of(&told),
+                &mut streams.err,
+            )
         }
         Err(error) => {
             let answer = Err(error);
+            let err = &mut streams.err;
             exit_of(&answer, prepared.complains, call.flags.explain, &[], err)
         }
     }

@@ -1,5 +1,5 @@
 -- Calls in parts, one more after the others.
-use Rattle.std.proofs.Common.{◌≡◌, ℕ, ℤ, ◌+◌, ◌*◌, ◌≤◌, ◌++◌, ◌∷◌, [], List, length, map, Result, Ok, Err, Vec, ap, sym, subst, ◌∙◌, inl, inr}
+use Rattle.std.proofs.Common.{◌≡◌, ℕ, ℤ, ◌+◌, ◌*◌, ◌<◌, ◌≤◌, ◌++◌, ◌∷◌, [], List, length, map, Result, Ok, Err, Vec, ap, sym, subst, ◌∙◌, inl, inr}
 use Rattle.std.specs.declared.alloc.Global.{Global}
 use Rattle.std.proofs.lemmas.List.{map-append}
 use Rattle.mpx_name.specs.Name.{Name}
@@ -27,13 +27,13 @@ made ops_of node turned refused name draft_of numbers turns each given part old 
 
 pub goes_on : {H : Type 0} {g : _} {T : Type 0} (ops_of : H → List Operation) (node : H → NodeView) (turned : H → ℕ → H → Type 0) (refused : H → TurnError → H → Type 0) (name : Name) (draft_of : ℕ → List T → Draft) (numbers : List T → List ℤ) (turns now most gives count first each : ℕ) (items given : List T) (lists more : List (Vec T Global)) (part : Vec T Global) (old between new : Desk H g)
     → SoFar (MakesPart ops_of node turned refused name draft_of numbers turns) most gives count first items (lists_of lists) old between
-    → length items ≡ gives * count → first + each ≤ count → each ≤ most → given ≡ cut gives count first each items → now ≡ turns
+    → length items ≡ gives * count → first + each ≤ count → each ≤ most → 0 < each → (first + each < count → each ≡ most) → given ≡ cut gives count first each items → now ≡ turns
     → Gives (ops_of between.host) node turned refused name (draft_of each given) now (IsRead numbers) (Ok part) between new → more ≡ lists ++ part ∷ []
     → SoFar (MakesPart ops_of node turned refused name draft_of numbers turns) most gives count (first + each) items (lists_of more) old new
-goes_on {H} {g} {T} ops_of node turned refused name draft_of numbers turns now most gives count first each items given lists more part old between new so_far whole fits few is same call push =
+goes_on {H} {g} {T} ops_of node turned refused name draft_of numbers turns now most gives count first each items given lists more part old between new so_far whole fits few some last is same call push =
     subst (λ l. SoFar (MakesPart ops_of node turned refused name draft_of numbers turns) most gives count (first + each) items l old new)
     (sym (ap lists_of push ∙ map-append (λ (list : Vec T Global). list.items) lists (part ∷ [])))
-    (one_more (MakesPart ops_of node turned refused name draft_of numbers turns) most gives count first each items (lists_of lists) given part.items old between new so_far whole fits few is
+    (one_more (MakesPart ops_of node turned refused name draft_of numbers turns) most gives count first each items (lists_of lists) given part.items old between new so_far whole fits few some last is
     (made ops_of node turned refused name draft_of numbers turns each given part between new
     (subst (λ n. Gives (ops_of between.host) node turned refused name (draft_of each given) n (IsRead numbers) (Ok part) between new) same call)))
 

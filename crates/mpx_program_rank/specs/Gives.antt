@@ -11,6 +11,8 @@ use Rattle.mpx_node.specs.Nodes.{NodeView}
 use Rattle.mpx_request.specs.declared.answers.TurnError.{TurnError}
 use Rattle.mpx_request.specs.declared.request.Request.{Request}
 use Rattle.mpx_request.specs.Turns.{MakesTurns}
+use Rattle.mpx_comm.specs.declared.asking.AskError.{AskError}
+use Rattle.mpx_comm.specs.declared.asking.AskError.TheVariants as Q
 use Rattle.mpx_comm.specs.declared.answers.CallError.{CallError as DeskError}
 use Rattle.mpx_comm.specs.declared.answers.CallError.TheVariants as C
 use Rattle.mpx_comm.specs.declared.comm.Comm.{Comm}
@@ -46,6 +48,12 @@ desk_error NoTopology = None
 abbrev pub quitter_of : Cause → Option ℕ
 quitter_of (GaveUp request rank) = Some rank
 quitter_of cause = None
+
+-- the cause where a question about a communicator has no answer
+abbrev pub asked : AskError → Cause
+asked Q.NotKnown = NotKnown
+asked Q.NoTopology = NoTopology
+asked Q.OutOfMemory = OutOfMemory
 
 -- why the numbers that a call gave are no list of items: it gave none but a fault, one is out of range, or memory was short
 abbrev pub IsUnread : Result (List ℤ) FaultView → Cause → Type 0

@@ -1,5 +1,6 @@
 -- Calls of more items than one call takes.
-use Rattle.std.specs.Prelude.{ℕ, ℤ, pos, ◌/◌, ◌==◌, if◌then◌else◌, ◌≡◌, List, [], ◌∷◌, map, Result, Ok, Err, IsOk, Vec}
+use Rattle.std.specs.Prelude.{ℕ, ℤ, pos, ◌/◌, ◌==◌, if◌then◌else◌, ◌≡◌, List, [], ◌∷◌, map, Result, Ok, Err, Vec}
+use Rattle.std.specs.List.{All}
 use Rattle.std.specs.declared.alloc.Global.{Global}
 use Rattle.mpx_kind.specs.declared.kinds.Mode.TheVariants.{Blocking}
 use Rattle.mpx_name.specs.Name.{Name}
@@ -60,18 +61,18 @@ part_line (Allreduce op) ty count numbers = line.allreduce Blocking op ty number
 part_line (Scan op) ty count numbers = line.scan Blocking op ty numbers
 part_line (Exscan op) ty count numbers = line.exscan Blocking op ty numbers
 
--- before its parts each rank says how many items of a block it gives, and gets what all say
+-- before its parts each rank says how many items of a block it gives. All say this number
 abbrev pub HaveAgreed : {H : Type 0} {g : _} → (ops_of : H → List Operation) → (node : H → NodeView) → (turned : H → ℕ → H → Type 0) → (refused : H → TurnError → H → Type 0) → Name → (count turns : ℕ) → (old new : Desk H g) → Type 0
 HaveAgreed ops_of node turned refused name count turns old new =
-    (counts : Result (Vec ℕ Global) CallError) × Gives (ops_of old.host) node turned refused name (line.allgather Blocking U64 (pos count ∷ [])) turns (IsRead (map pos)) counts old new × IsOk counts
+    (counts : Vec ℕ Global) × Gives (ops_of old.host) node turned refused name (line.allgather Blocking U64 (pos count ∷ [])) turns (IsRead (map pos)) (Ok counts) old new × All (λ n. n ≡ count) counts.items
 
 -- one call of the desk, of the items of a part, which gives that part's
 abbrev pub MakesPart : {H : Type 0} {g : _} {T : Type 0} → (ops_of : H → List Operation) → (node : H → NodeView) → (turned : H → ℕ → H → Type 0) → (refused : H → TurnError → H → Type 0) → Name → (draft_of : ℕ → List T → Draft) → (numbers : List T → List ℤ) → (turns : ℕ) → Part T → (old new : Desk H g) → Type 0
 MakesPart ops_of node turned refused name draft_of numbers turns part old new =
     (finished : Finished) × DeskCalls (ops_of old.host) node turned refused name (draft_of part.count part.given) turns (Ok finished) old new × (numbers_given finished.outcome ≡ Ok (numbers part.got))
 
--- a call of any length that gives its list: ranks have agreed on the number of items of a block, and then there is one call of each part.
--- `most` is how many items of a block a part has at most, `gives` how many blocks this rank gives, and `gets` how many it gets
+-- a call of any length that gives its list: all ranks gave this number of items of a block, and then there is one call of each part, in order.
+-- `most` is how many items of a block each part but the last has, `gives` how many blocks this rank gives, and `gets` how many it gets
 abbrev pub GivesInParts : {H : Type 0} {g : _} {T : Type 0} → (ops_of : H → List Operation) → (node : H → NodeView) → (turned : H → ℕ → H → Type 0) → (refused : H → TurnError → H → Type 0) → Name → (draft_of : ℕ → List T → Draft) → (numbers : List T → List ℤ) → (turns most gives gets count : ℕ) → (items : List T) → Result (Vec T Global) CallError → (old new : Desk H g) → Type 0
 GivesInParts {H} {g} {T} ops_of node turned refused name draft_of numbers turns most gives gets count items (Ok list) old new =
     (agreed : Desk H g) × (parts : List (Part T)) × HaveAgreed ops_of node turned refused name count turns old agreed

@@ -1,5 +1,5 @@
 -- What a rank's waits and tests answer, of what its desk's answer.
-use Rattle.std.specs.Prelude.{◌≡◌, ◌≢◌, ℕ, ℤ, List, [], Option, Some, None, Result, Ok, Err, Vec}
+use Rattle.std.specs.Prelude.{◌≡◌, ◌≢◌, ℕ, ℤ, Bool, true, false, List, [], Option, Some, None, Result, Ok, Err, IfOk, IfErr, Vec}
 use Rattle.std.specs.declared.alloc.Global.{Global}
 use Rattle.std.specs.declared.alloc.AllocFailed.{AllocFailed}
 use Rattle.join_core.specs.declared.memory.OutOfMemory.{OutOfMemory as NoMemoryView}
@@ -13,7 +13,8 @@ use Rattle.mpx_request.specs.declared.answers.TurnError.TheVariants as U
 use Rattle.mpx_request.specs.declared.answers.WaitError.{WaitError}
 use Rattle.mpx_request.specs.declared.answers.WaitError.TheVariants as W
 use Rattle.mpx_request.specs.declared.request.Request.{Request}
-use Rattle.mpx_request.specs.Requests.{Tests, TestsAny, Waits}
+use Rattle.mpx_request.specs.Later.{IsAtHand}
+use Rattle.mpx_request.specs.Requests.{HasStatus, Tests, TestsAny, Waits}
 use Rattle.mpx_request.specs.Any.{TestsSome, WaitsAny}
 use Rattle.mpx_request.specs.Turns.{MakesTurns}
 use Rattle.mpx_comm.specs.declared.desk.Desk.{Desk}
@@ -100,6 +101,21 @@ abbrev pub TestGives : {H : Type 0} {g : _} {A : Type 0} → (node : H → NodeV
 TestGives {H} {g} node turned refused request is_said result old new =
     (between : Desk H g) × (turn : Result (Unit {0}) TurnError) × (answer : Result (Tested Finished Request) (AllocFailed Request)) × TurnsOnce turned refused turn old between
     × turned between.host 0 new.host × Tests request answer (node new.host) between.requests.keys new.requests.keys × is_said turn answer result
+
+-- whether a call is done, of the turn before and of what the desk says. It says that it isn't done only where the turn was made
+abbrev pub IsStatus : Result (Unit {0}) TurnError → Result Bool NoMemoryView → Result Bool CallError → Type 0
+IsStatus turn (Ok true) (Ok is_done) = is_done ≡ true
+IsStatus (Ok u) (Ok false) (Ok is_done) = is_done ≡ false
+IsStatus (Err why) (Ok false) (Err e) = turn_error e.cause ≡ Some why
+IsStatus turn (Err none) (Err e) = e.cause ≡ NoMemory None
+IsStatus turn answer result = ⊥
+
+-- one turn, and then the desk's word whether the call is done. It stays open
+abbrev pub StatusGives : {H : Type 0} {g : _} → (node : H → NodeView) → (turned : H → ℕ → H → Type 0) → (refused : H → TurnError → H → Type 0) → Request → Result Bool CallError → (old new : Desk H g) → Type 0
+StatusGives {H} {g} node turned refused request result old new =
+    (between : Desk H g) × (turn : Result (Unit {0}) TurnError) × (answer : Result Bool NoMemoryView) × TurnsOnce turned refused turn old between
+    × turned between.host 0 new.host × IfOk answer (λ is_done. HasStatus is_done request (node new.host))
+    × IfErr answer (λ none. IsAtHand (node new.host) request.name request.call) × (new.requests.keys ≡ between.requests.keys) × IsStatus turn answer result
 
 -- what a test of all open calls says
 abbrev pub IsAny : Result (Unit {0}) TurnError → Result (Option (Request × Finished)) NoMemoryView → Result (Option Done) CallError → Type 0

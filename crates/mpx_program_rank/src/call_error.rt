@@ -1,9 +1,10 @@
 //! Why a call of a rank gave nothing.
 ghost use Rattle.std.specs.Prelude.{◌≡◌, IfSome, Some};
-ghost use Rattle.mpx_program_rank.specs.Gives.{quitter_of};
+ghost use Rattle.mpx_program_rank.specs.Gives.{asked, quitter_of};
 ghost use Rattle.mpx_program_rank.specs.declared.call_error.Cause.TheVariants as C;
 
 use crate::called::{Awaited, Called, Detail, Place};
+use mpx_comm::AskError;
 use mpx_match::Fault;
 use mpx_post::PostError;
 use mpx_request::Request;
@@ -43,11 +44,11 @@ pub enum Cause {
     /// This rank is in no new communicator.
     #[error("no new communicator at this rank")]
     NoComm,
-    /// The communicator isn't known, or not any more.
-    #[error("communicator not known")]
+    /// A question about a communicator that isn't known, or not any more: all its members have freed it.
+    #[error("a communicator that isn't known, or that all its members have freed")]
     NotKnown,
-    /// The communicator has no graph.
-    #[error("no topology")]
+    /// A question about the graph of a communicator that has none.
+    #[error("a communicator without a topology")]
     NoTopology,
 }
 
@@ -118,5 +119,17 @@ impl<T: Drop> From<AllocFailed<T>> for CallError {
 impl From<join_core::OutOfMemory> for CallError {
     fn from(_e: join_core::OutOfMemory) -> CallError {
         CallError::bare(Cause::OutOfMemory)
+    }
+}
+
+impl From<AskError> for CallError {
+    ghost from_gives = { λ why e. e.cause ≡ asked why };
+
+    fn from(why: AskError) -> CallError {
+        match why {
+            AskError::NotKnown => CallError::bare(Cause::NotKnown),
+            AskError::NoTopology => CallError::bare(Cause::NoTopology),
+            AskError::OutOfMemory => CallError::bare(Cause::OutOfMemory),
+        }
     }
 }

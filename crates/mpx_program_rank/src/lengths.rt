@@ -2,7 +2,8 @@
 //!
 //! Before these calls the ranks say how many items they give, by an `allgather`. Where the numbers differ, each rank gets the fault that one call
 //! would give, and none goes on by itself. A rank whose items fit into one call makes that call, which then meets the `allgather`: a fault too.
-ghost use Rattle.std.specs.Prelude.{◌≡◌, ◌<◌, ◌*◌, [], OnOk};
+ghost use Rattle.std.specs.Prelude.{◌≡◌, ◌<◌, ◌*◌, ◌↔◌, [], IsTrue, OnOk};
+ghost use Rattle.std.specs.List.{All};
 ghost use Rattle.mpx_program_rank.specs.Gives.{Gives, IsRead};
 ghost use Rattle.mpx_program_rank.specs.Lengths.{GivesInParts, HaveAgreed, at_root, block_of, blocks_given, blocks_got, most_of, part_line};
 
@@ -157,16 +158,17 @@ impl<'a, H: Host> Rank<'a, H> {
         ensures same { self.new.desk.ghost_name ≡ self.old.desk.ghost_name }
         ensures kept { (self.new.world ≡ self.old.world) × (self.new.turns ≡ self.old.turns) }
     {
-        match self.one_allgather(comm, &[count as u64]) {
-            Ok(counts) => match first_other(&counts) {
-                None => Ok(()),
-                Some(rank) => {
-                    let what = FaultKind::Amount;
-                    let cause = Cause::Fault(Fault { what, rank });
-                    let made = Made::new(name, comm, count);
-                    Err(self.failed(made, self.last_call(comm), cause))
+        let mine = count as u64;
+        match self.one_allgather(comm, &[mine]) {
+            Ok(counts) => {
+                if are_all(&counts, mine) {
+                    return Ok(());
                 }
-            },
+                let (what, rank) = (FaultKind::Amount, first_other(&counts));
+                let cause = Cause::Fault(Fault { what, rank });
+                let made = Made::new(name, comm, count);
+                Err(self.failed(made, self.last_call(comm), cause))
+            }
             Err(e) => Err(e),
         }
     }
@@ -184,14 +186,21 @@ impl<'a, H: Host> Rank<'a, H> {
     }
 }
 
-// The first rank that gives another number than rank 0, where one does.
-fn first_other(counts: &[u64]) -> Option<u8> {
+// Whether all ranks give this number.
+fn are_all(counts: &[u64], count: u64) -> bool
+    ensures { IsTrue result ↔ All (λ n. n ≡ count) counts.now }
+{
+    counts.iter().all(|other| *other == count)
+}
+
+// The first rank that gives another number than rank 0; 0 where none does.
+fn first_other(counts: &[u64]) -> u8 {
     let mut rank: u8 = 0;
     for other in counts {
         if Some(other) != counts.first() {
-            return Some(rank);
+            return rank;
         }
         rank = rank.saturating_add(1);
     }
-    None
+    0
 }

@@ -3,7 +3,7 @@ ghost use Rattle.std.specs.Prelude.{◌≡◌, [], IfErr, IfOk, Ok, Some};
 ghost use Rattle.mpx_comm.specs.Given.{numbers_given};
 ghost use Rattle.mpx_request.specs.Requests.{same_request};
 ghost use Rattle.mpx_program_rank.specs.Gives.{IsStarted, IsUnread};
-ghost use Rattle.mpx_program_rank.specs.Waiting.{AnyGives, IsAny, IsSome, IsTested, IsWaited, SomeGives, TestGives, TurnsGive, WaitAnyGives, WaitGives, any_error, turn_error, wait_error};
+ghost use Rattle.mpx_program_rank.specs.Waiting.{AnyGives, IsAny, IsSome, IsStatus, IsTested, IsWaited, SomeGives, StatusGives, TestGives, TurnsGive, WaitAnyGives, WaitGives, any_error, turn_error, wait_error};
 
 use crate::call_error::{CallError, Cause};
 use crate::called::{Awaited, Called};
@@ -95,6 +95,18 @@ impl<'a, H: Host> Rank<'a, H> {
         tested(self.alloc, called, turned, answer)
     }
 
+    /// Makes a turn, and says whether the call is done (`MPI_REQUEST_GET_STATUS`). It stays open, and [`Rank::wait`] gives its items.
+    pub fn status<T: Item>(&mut self, pending: &Pending<T>) -> Result<bool, CallError>
+        ensures gives { StatusGives H.node H.turned H.turn_refused pending.now.request result self.old.desk.now self.new.desk.now }
+        ensures same { self.new.desk.ghost_name ≡ self.old.desk.ghost_name }
+        ensures kept { (self.new.world ≡ self.old.world) × (self.new.turns ≡ self.old.turns) }
+    {
+        let turned = self.desk.turn(self.alloc, 1);
+        let ops = Ops::none(self.alloc);
+        let answer = self.desk.status(self.alloc, &pending.request, &ops);
+        self.status_of(pending, turned, answer)
+    }
+
     /// Makes a turn, and gives the first open call in order of posting that is done (`MPI_TESTANY`), or none.
     pub fn testany(&mut self) -> Result<Option<Done>, CallError>
         ensures gives { AnyGives (λ host. H.goes_by host []) H.node H.turned H.turn_refused result self.old.desk.now self.new.desk.now }
@@ -169,6 +181,34 @@ impl<'a, H: Host> Rank<'a, H> {
         }
     }
 
+    // Whether a call is done, of the turn before and of what the desk says.
+    fn status_of<T: Item>(
+        &self,
+        pending: &Pending<T>,
+        turned: Result<(), TurnError>,
+        answer: Result<bool, OutOfMemory>,
+    ) -> Result<bool, CallError>
+        ensures { IsStatus turned answer result }
+    {
+        match answer {
+            Ok(true) => Ok(true),
+            Ok(false) => match turned {
+                Ok(()) => Ok(false),
+                Err(why) => Err(self.not_known(pending, cause_of(why, None))),
+            },
+            Err(_) => Err(self.not_known(pending, Cause::NoMemory(None))),
+        }
+    }
+
+    // Why it isn't known whether a call is done.
+    fn not_known<T: Item>(&self, pending: &Pending<T>, cause: Cause) -> CallError
+        ensures { result.cause ≡ cause }
+    {
+        let request = &pending.request;
+        let called = self.called(pending.name, request.name(), request.call());
+        CallError::of(called, cause)
+    }
+
     // The call with this number on a communicator.
     fn called(&self, name: &'static str, comm: &Name, call: u32) -> Called {
         Called {
@@ -239,7 +279,7 @@ fn tested<T: Item>(
     }
 }
 
-// The same of a test of all open calls.
+// What a test of all open calls says, of the turn before it and of the desk's test.
 fn any_tested(
     turned: Result<(), TurnError>,
     answer: Result<Option<(Request, Finished)>, OutOfMemory>,

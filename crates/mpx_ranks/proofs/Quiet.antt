@@ -8,7 +8,7 @@ use Rattle.mpx_board.specs.Changes.{pruned_on}
 use Rattle.mpx_board.specs.declared.errors.PruneError.{PruneError}
 use Rattle.mpx_bus.proofs.Journals.{after-append}
 use Rattle.mpx_bus.specs.Acts.{act_on, after, at_start, node_at, process_at}
-use Rattle.mpx_bus.specs.Answers.{PopsOne, PushesLast, PushesNext, Stopped}
+use Rattle.mpx_bus.specs.Answers.{FoundNone, PopsOne, PushesLast, PushesNext, Stopped}
 use Rattle.mpx_bus.specs.declared.act.Act.{Act}
 use Rattle.mpx_bus.specs.declared.act.Act.TheVariants as A
 use Rattle.mpx_bus.specs.declared.port.Pop.{Pop}
@@ -121,12 +121,12 @@ heard_prune (Err e) name n a b same ok err = heard_itself a b err
 
 -- WHAT A TURN DOES
 
-pub turn_of : {A : Type 0} (r : Result A OutOfMemory) (pop : Pop) (prune : Result (Unit {0}) OutOfMemory) (push : Result Push OutOfMemory) (a popped pruned b : PortView) → is_err r ≡ (wanted_memory pop || (is_err prune || is_err push)) → PopsOne pop a popped → popped.kept ≡ a.kept → Prunes prune popped pruned → PushesAnother push pruned b
+pub turn_of : {A : Type 0} (r : Result A OutOfMemory) (pop : Pop) (prune : Result (Unit {0}) OutOfMemory) (push : Result Push OutOfMemory) (a popped pruned b : PortView) → is_err r ≡ (wanted_memory pop || (is_err prune || is_err push)) → PopsOne pop a popped → FoundNone pop popped → popped.kept ≡ a.kept → Prunes prune popped pruned → PushesAnother push pruned b
     → OnOk r (Turns false a b) × OnErr r (Turns true a b)
-turn_of (Ok u) pop prune push a popped pruned b told pops keeps prunes pushes =
-    (record { pop = pop; popped = popped; pops = pops; keeps = keeps; pruned = pruned; prune = prune; prunes = prunes; push = push; pushes = pushes; told = told }, tt)
-turn_of (Err e) pop prune push a popped pruned b told pops keeps prunes pushes =
-    (tt, record { pop = pop; popped = popped; pops = pops; keeps = keeps; pruned = pruned; prune = prune; prunes = prunes; push = push; pushes = pushes; told = told })
+turn_of (Ok u) pop prune push a popped pruned b told pops found keeps prunes pushes =
+    (record { pop = pop; popped = popped; pops = pops; found = found; keeps = keeps; pruned = pruned; prune = prune; prunes = prunes; push = push; pushes = pushes; told = told }, tt)
+turn_of (Err e) pop prune push a popped pruned b told pops found keeps prunes pushes =
+    (tt, record { pop = pop; popped = popped; pops = pops; found = found; keeps = keeps; pruned = pruned; prune = prune; prunes = prunes; push = push; pushes = pushes; told = told })
 
 pub pushes_or_not : (r : Result Push OutOfMemory) (a b : PortView) → IfOk r (λ push. PushesNext 1048576 push a b) → OnErr r (b ≡ a) → OnErr r (a.kept ≡ []) → PushesAnother r a b
 pushes_or_not (Ok push) a b next same none = next

@@ -4,7 +4,7 @@ use Rattle.std.proofs.Common.{refl, ◌∙◌}
 use Rattle.atomic_table.specs.Seated.{TableId}
 use Rattle.join_core.specs.declared.memory.OutOfMemory.{OutOfMemory}
 use Rattle.mpx_num.specs.declared.own.Operation.{Operation}
-use Rattle.mpx_bus.specs.Answers.{PopsOne, PushesNext}
+use Rattle.mpx_bus.specs.Answers.{FoundNone, PopsOne, PushesNext}
 use Rattle.mpx_bus.specs.declared.act.Act.TheVariants as A
 use Rattle.mpx_bus.specs.declared.act.Setup.{Setup}
 use Rattle.mpx_bus.specs.declared.port.Pop.{Pop}
@@ -74,6 +74,7 @@ pub record Turns (tells_want : Bool) (old new : PortView) : Type 0 where
   pub pop : Pop
   pub popped : PortView
   pub pops : PopsOne pop old popped
+  pub found : FoundNone pop popped
   pub keeps : popped.kept ≡ old.kept
   pub pruned : PortView
   pub prune : Result (Unit {0}) OutOfMemory

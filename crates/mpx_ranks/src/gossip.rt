@@ -1,6 +1,6 @@
 //! What a member's turn does to its port.
 ghost use Rattle.std.specs.Prelude.{◌≡◌, ◌||◌, Some, false, is_err, true, OnErr, OnOk};
-ghost use Rattle.mpx_bus.specs.Answers.{PopsOne};
+ghost use Rattle.mpx_bus.specs.Answers.{FoundNone, PopsOne};
 ghost use Rattle.mpx_bus.specs.Buses.{table_of};
 ghost use Rattle.mpx_bus.specs.Ports.{IsSamePort, node_in};
 ghost use Rattle.mpx_node.specs.Settling.{IsToDrop};
@@ -69,6 +69,7 @@ fn pull<R: Wait>(rt: &R, alloc: Global, bus: &Bus, port: &mut Port) -> Pop
     ensures heard { HasHeard (node_in port.old) (node_in port.new) }
     ensures kept { port.new.kept ≡ port.old.kept }
     ensures answer { PopsOne result port.old port.new }
+    ensures empty { FoundNone result port.new }
 {
     bus.pop(rt, alloc, port)
 }

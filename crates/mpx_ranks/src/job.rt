@@ -1,5 +1,5 @@
 //! A job: so many ranks that all run one program, each in a thread of its own.
-ghost use Rattle.std.specs.Prelude.{◌≡◌, ◌≢◌, ◌+◌, ◌<◌, ◌≤◌, ◌++◌, ◌∷◌, [], ◌⊎◌, map, slice_get, length, take, Some, IfErr, IfOk, OnOk};
+ghost use Rattle.std.specs.Prelude.{◌≡◌, ◌≢◌, ◌+◌, ◌<◌, ◌≤◌, ◌++◌, ◌∷◌, [], ◌⊎◌, map, slice_get, length, take, Some, IfErr, IfOk, IsErrOf, OnOk};
 ghost use Rattle.mpx_bus.specs.Buses.{table_of};
 ghost use Rattle.mpx_bus.specs.Meetings.{HaveAllMet};
 ghost use Rattle.mpx_bus.specs.Ports.{IsFleet, node_in};
@@ -90,6 +90,8 @@ where
     P::Answer: Send + Drop,
     ensures ok { OnOk result ((0 < ranks) × (ranks + relays ≤ 64)) }
     ensures err { IfErr result (λ e. e ≡ RanksError.BadCount → 0 < ranks → 64 < ranks + relays) }
+    ensures none { ranks ≡ 0 → IsErrOf result RanksError.BadCount }
+    ensures many { 64 < ranks + relays → IsErrOf result RanksError.BadCount }
     ensures ran { IfOk result (λ ran. HaveRun (P.gives program.now) (⟦<Ops as Listing>⟧.operations ops.now) ranks (ranks + relays) ran.answers.items (map node_of ran.nodes.items)) }
 {
     if ranks == 0 || ranks > 64 || relays > 64 - ranks {

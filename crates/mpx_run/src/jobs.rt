@@ -22,7 +22,7 @@ use std::thread::Threads;
 const MOST_PROCESSES: u8 = 64;
 
 /// Whether the job is a run in threads. Every other one waits for nobody.
-pub(crate) fn is_in_threads(job: &Job) -> bool
+pub fn is_in_threads(job: &Job) -> bool
     ensures { result ≡ is_in_threads job.now }
 {
     match job.command {

@@ -16,7 +16,7 @@ mod streams;
 mod texts;
 
 pub use end::{Cause, End};
-pub use jobs::{print_job, print_job_in_threads};
+pub use jobs::{is_in_threads, print_job, print_job_in_threads};
 pub use mpx_sim::{
     FrameSeen, InOneThread, InThreads, Observer, Progress, Run, Unobserved, Workers, run_sim,
 };

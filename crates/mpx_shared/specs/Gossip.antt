@@ -9,7 +9,7 @@ use Rattle.mpx_bus.specs.declared.act.Act.TheVariants as A
 use Rattle.mpx_bus.specs.declared.port.Pop.{Pop}
 use Rattle.mpx_bus.specs.declared.port.Pop.TheVariants as O
 use Rattle.mpx_bus.specs.declared.port.Push.{Push}
-use Rattle.mpx_bus.specs.Answers.{PopsOne, PushesNext, TakesIn}
+use Rattle.mpx_bus.specs.Answers.{FoundNone, PopsOne, PushesNext, TakesIn}
 use Rattle.mpx_bus.specs.Ports.{PortView, node_in}
 use Rattle.mpx_shared.specs.declared.pull.Pull.{Pull}
 use Rattle.mpx_shared.specs.declared.pull.Pull.TheVariants as L
@@ -105,6 +105,7 @@ pub record Pulls (pull : Pull) (contexts : List Name) (old new : PortView) : Typ
   pub pop : Pop
   pub popped : PortView
   pub pops : PopsOne pop old popped
+  pub found : FoundNone pop popped
   pub takes_in : TakesIn pop (node_in old) (node_in popped)
   pub kept : popped.kept ≡ old.kept
   pub then : SettlesAs pull contexts popped new

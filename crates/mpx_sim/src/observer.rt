@@ -59,6 +59,9 @@ pub trait Observer: Drop {
     /// statement of this number among its own, from 0 on. Of a turn it is told posts before lines.
     fn posted(&mut self, _turn: u32, _rank: u8, _name: &Name, _call: u32, _statement: usize) {}
 
+    /// Where it follows posts: memory for one that a rank posted was refused, so it isn't told of that one.
+    fn missed(&mut self) {}
+
     /// A rank has new lines in this turn, from 1 on, be it the one that ends the run: all its lines so far.
     fn told(&mut self, _turn: u32, _rank: u8, _lines: &[Line]) {}
 

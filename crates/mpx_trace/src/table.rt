@@ -127,6 +127,10 @@ impl<W: Write + Drop> Observer for Table<W> {
         let _ = self.post(rank, name, call, statement);
     }
 
+    fn missed(&mut self) {
+        self.whole = false;
+    }
+
     fn over(&mut self) {
         if self.cells.iter().any(|cell| cell.is_new) {
             let _ = self.write_row(self.rows.saturating_add(1));

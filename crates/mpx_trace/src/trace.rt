@@ -112,6 +112,10 @@ impl<W: Write + Drop> Observer for Trace<W> {
         let _ = self.tell_post(turn, rank, name, call, statement);
     }
 
+    fn missed(&mut self) {
+        self.whole = false;
+    }
+
     fn told(&mut self, turn: u32, rank: u8, lines: &[Line]) {
         for line in self.news.of(rank, lines) {
             if let Ok(line) = line.text(self.alloc) {

@@ -85,15 +85,11 @@ fn push_rank(
     Ok(())
 }
 
-// The first so many of these.
-fn first_of(calls: &[MissingCall], most: usize) -> &[MissingCall]
-    ensures { result.now ≡ take most calls.now }
+/// The first so many of these.
+pub fn first_of<T>(all: &[T], most: usize) -> &[T]
+    ensures { result.now ≡ take most all.now }
 {
-    if most < calls.len() {
-        &calls[..most]
-    } else {
-        calls
-    }
+    if most < all.len() { &all[..most] } else { all }
 }
 
 // How many calls the ranks wait for.

@@ -112,22 +112,14 @@ pub fn decode(alloc: Global, bytes: &[u8]) -> Result<Board, WireError>
     Ok(Board::from_tidy(parts))
 }
 
-/// Joins the board that these bytes spell to the board, in place, as [`decode`] and then [`Board::take`] do, without a board of
-/// its own for what they say: the numbers of acknowledgements are raised as they are read. That they spell one is the caller's
-/// condition. An `Err`, for want of memory, leaves a board between the old one and the join, each fact of which is one of the board,
-/// of the spelled one or of their join; a frame that tells nothing wants none.
-pub fn take_spelled(alloc: Global, board: &mut Board, bytes: &[u8]) -> Result<(), OutOfMemory>
-    requires { (v : PartsView) × IsSpelled bytes.now v }
-    ensures ok { OnOk result ((v : PartsView) → IsSpelled bytes.now v → look board.new ≡ join (look board.old) (look_of v)) }
-    ensures err { OnErr result ((v : PartsView) → IsSpelled bytes.now v → IsBetween (look board.old) (look_of v) (look board.new)) }
-    ensures some { OnErr result ((v : PartsView) → IsSpelled bytes.now v → look_of v ≢ empty) }
-{
-    take_from(Source::of(alloc), board, &mut Kept::new(alloc), bytes)
-}
-
-/// The same of a frame whose items may be shared: what it joins to the board shares them, and copies none. Where pieces are shared, its
-/// bytes are read where they lie; only where a field isn't found whole there are all copied into one place. What is kept of acknowledgements as they are spelled is passed over where its bytes
-/// stand, and stays right.
+/// Joins the board that a rope spells to the board, in place, as [`decode`] and then [`Board::take`] do, without a board of its own for
+/// what it says: the numbers of acknowledgements are raised as they are read. That it spells one is the caller's condition. An `Err`, for
+/// want of memory, leaves a board between the old one and the join, each fact of which is one of the board, of the spelled one or of
+/// their join; a frame that tells nothing wants none.
+///
+/// What is joined shares the rope's items, and copies none. Where pieces are shared, its bytes are read where they lie; only where a
+/// field isn't found whole there are all copied into one place. What is kept of acknowledgements as they are spelled is passed over where
+/// its bytes stand, and stays right.
 pub fn take_rope(
     alloc: Global,
     board: &mut Board,
@@ -191,7 +183,7 @@ fn take_joined(
     }
 }
 
-// What `take_spelled` says, with the items taken from this source.
+// The same of bytes in one place, with the items taken from this source.
 fn take_from(
     source: Source<'_>,
     board: &mut Board,

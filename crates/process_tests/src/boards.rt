@@ -48,15 +48,30 @@ fn takes_board(alloc: Global, desk: &mut Desk<Node>, part: &Board) -> Result<boo
     took
 }
 
-// It takes the frame too, which then tells nothing new.
-pub fn takes(alloc: Global, desk: &mut Desk<Node>, frame: &[u8]) -> Result<bool, Fail> {
-    let part = decode(alloc, frame)?;
+// It takes the rope of these bytes too, which then tells nothing new.
+fn takes_both(
+    alloc: Global,
+    desk: &mut Desk<Node>,
+    frame: &RopeRef<'_>,
+    bytes: &[u8],
+) -> Result<bool, Fail>
+    requires { bytes.now ≡ frame.now }
+{
+    let part = decode(alloc, bytes)?;
     let took = takes_board(alloc, desk, &part);
-    let again = desk.take_frame(alloc, frame);
+    let again = desk.take_rope(alloc, frame);
     let told = part.leq(desk.host().board());
     drop(part);
     again?;
     Ok(took? && told)
+}
+
+// It takes the board of this frame, and the frame as a rope in one place.
+pub fn takes(alloc: Global, desk: &mut Desk<Node>, frame: &[u8]) -> Result<bool, Fail> {
+    let rope = Rope::from_vec(alloc, Vec::from_slice(alloc, frame)?);
+    let took = takes_both(alloc, desk, &rope.lent(), frame);
+    drop(rope);
+    took
 }
 
 // Each takes the other's board.

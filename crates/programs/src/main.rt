@@ -23,9 +23,9 @@ use desks::sum_by_hand;
 use flight::Flight;
 use hist::Histogram;
 use matrix_product::Product;
-use mpx_job::{GivesUp, RankProgram, job};
+use mpx_job::{GivesUp, job};
 use mpx_num::{Ops, OwnOp};
-use mpx_ranks::{Program, ranks};
+use mpx_ranks::{Program, RanksError, ranks};
 use nodes::sums_of_own_nodes;
 use paths::Paths;
 use pipe::{process, sums_by_lines};
@@ -44,48 +44,28 @@ use why::Why;
 /// So many turns a call waits at most.
 pub const TURNS: u64 = 1_000_000;
 
-// Runs a program by so many ranks, and prints what each answers.
-fn print_job<P, R: Threads + Wait + Sync, W: Write>(
+// Runs a program by its desks, on so many ranks.
+fn desk_job<P, R: Threads + Wait + Sync>(
     rt: &R,
     alloc: Global,
-    out: &mut W,
-    name: &str,
     count: u8,
     program: &P,
     ops: &Ops,
-) -> Result<(), Why>
+) -> Result<Vec<Result<String, Why>>, RanksError>
 where
     P: Program<Answer = Result<String, Why>> + Sync,
 {
-    let answers = ranks(rt, alloc, count, 0, program, ops)?.into_answers();
-    print_answers(out, name, answers)
+    Ok(ranks(rt, alloc, count, 0, program, ops)?.into_answers())
 }
 
-// The same of a program by a rank's calls.
-fn print_rank_job<P, R: Threads + Wait + Sync, W: Write>(
-    rt: &R,
-    alloc: Global,
-    out: &mut W,
-    name: &str,
-    count: u8,
-    program: &P,
-    ops: &Ops,
-) -> Result<(), Why>
-where
-    P: RankProgram<Answer = String, Error = Why> + Sync,
-{
-    let answers = job(rt, alloc, count, program, ops)?;
-    print_answers(out, name, answers)
-}
-
-// Where ranks gave up, the error is one that names no other rank, if there is one: the cause.
+// Prints what each rank of a job answers. Where ranks gave up, the error is one that names no other rank, if there is one: the cause.
 fn print_answers<W: Write>(
     out: &mut W,
     name: &str,
-    answers: Vec<Result<String, Why>>,
+    ran: Result<Vec<Result<String, Why>>, RanksError>,
 ) -> Result<(), Why> {
     let mut named = None;
-    for (rank, answer) in answers.into_iter().enumerate() {
+    for (rank, answer) in ran?.into_iter().enumerate() {
         match answer {
             Ok(text) => writeln!(out, "{name}, rank {rank}: {text}")?,
             Err(why) => {
@@ -108,14 +88,18 @@ fn print_all<R: Threads + Wait + Sync, W: Write>(
     out: &mut W,
     ops: &Ops,
 ) -> Result<(), Why> {
-    print_rank_job(rt, alloc, out, "scan", 6, &Scan, ops)?;
-    print_rank_job(rt, alloc, out, "sort", 16, &Sort { each: 200 }, ops)?;
-    print_rank_job(rt, alloc, out, "paths", 8, &Paths, ops)?;
-    print_rank_job(rt, alloc, out, "flight", 3, &Flight, ops)?;
-    print_rank_job(rt, alloc, out, "hist", 6, &Histogram { each: 1_000 }, ops)?;
-    print_rank_job(rt, alloc, out, "ring", 5, &Ring, ops)?;
-    print_job(rt, alloc, out, "asks", 3, &Asks, ops)?;
-    print_job(rt, alloc, out, "calls", 3, &Calls, ops)?;
+    print_answers(out, "scan", job(rt, alloc, 6, &Scan, ops))?;
+    print_answers(out, "sort", job(rt, alloc, 16, &Sort { each: 200 }, ops))?;
+    print_answers(out, "paths", job(rt, alloc, 8, &Paths, ops))?;
+    print_answers(out, "flight", job(rt, alloc, 3, &Flight, ops))?;
+    print_answers(
+        out,
+        "hist",
+        job(rt, alloc, 6, &Histogram { each: 1_000 }, ops),
+    )?;
+    print_answers(out, "ring", job(rt, alloc, 5, &Ring, ops))?;
+    print_answers(out, "asks", desk_job(rt, alloc, 3, &Asks, ops))?;
+    print_answers(out, "calls", desk_job(rt, alloc, 3, &Calls, ops))?;
     print_by_hand(alloc, out, ops)?;
     Ok(out.flush()?)
 }

@@ -44,7 +44,8 @@ fn group<H: Host>(rank: &mut Rank<'_, H>) -> Result<(u8, u8), CallError> {
 pub fn errors<H: Host>(rank: &mut Rank<'_, H>) -> Result<String, CallError> {
     let refusal = refusal(rank)?;
     let fault = fault(rank)?;
-    Ok(format!(in rank.alloc; "{refusal}; {fault}")?)
+    let question = question(rank)?;
+    Ok(format!(in rank.alloc; "{refusal}; {fault}; {question}")?)
 }
 
 fn refusal<H: Host>(rank: &mut Rank<'_, H>) -> Result<String, CallError> {
@@ -60,5 +61,18 @@ fn fault<H: Host>(rank: &mut Rank<'_, H>) -> Result<String, CallError> {
     match rank.allreduce(rank.world(), Op::Sum, items) {
         Ok(list) => Ok(format!(in rank.alloc; "{list:?}")?),
         Err(e) => Ok(format!(in rank.alloc; "{e}, a fault: {}", e.fault().is_some())?),
+    }
+}
+
+// How many ranks this one hears.
+fn sources<H: Host>(rank: &Rank<'_, H>, comm: &Comm) -> Result<usize, CallError> {
+    Ok(rank.desk.sources(comm)?.len())
+}
+
+// The communicator of all ranks has no graph.
+fn question<H: Host>(rank: &Rank<'_, H>) -> Result<String, CallError> {
+    match sources(rank, rank.world()) {
+        Ok(count) => Ok(format!(in rank.alloc; "{count}")?),
+        Err(e) => Ok(format!(in rank.alloc; "{e}")?),
     }
 }

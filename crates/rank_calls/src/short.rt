@@ -16,9 +16,10 @@ pub fn calls<H: Host>(rank: &mut Rank<'_, H>) -> Result<String, CallError> {
 /// What calls that don't block give.
 pub fn calls_without_waiting<H: Host>(rank: &mut Rank<'_, H>) -> Result<String, CallError> {
     let polled = polled(rank)?;
+    let tested = tested(rank)?;
     let later = later(rank)?;
     let closed = closed(rank)?;
-    Ok(format!(in rank.alloc; "{polled:?} {later:?} {closed}")?)
+    Ok(format!(in rank.alloc; "{polled:?} {tested:?} {later:?} {closed}")?)
 }
 
 // The rank's own number, from 1 on.
@@ -59,10 +60,23 @@ fn ones<H: Host>(rank: &mut Rank<'_, H>) -> Result<(i64, i64), CallError> {
     Ok((sum, cast))
 }
 
-// The product of all numbers, by tests: each makes a turn.
+// The product of all numbers. The rank asks after each piece of its own work, and each question makes a turn.
 fn polled<H: Host>(rank: &mut Rank<'_, H>) -> Result<Vec<i64>, CallError> {
     let mine = mine(rank);
-    let mut pending = rank.iallreduce(rank.world(), Op::Prod, &[mine])?;
+    let pending = rank.iallreduce(rank.world(), Op::Prod, &[mine])?;
+    for _ in 0..1_000_000 {
+        if rank.status(&pending)? {
+            break;
+        }
+        // here stands a piece of the rank's own work
+    }
+    rank.wait(pending)
+}
+
+// The least of all numbers, by tests: each makes a turn.
+fn tested<H: Host>(rank: &mut Rank<'_, H>) -> Result<Vec<i64>, CallError> {
+    let mine = mine(rank);
+    let mut pending = rank.iallreduce(rank.world(), Op::Min, &[mine])?;
     for _ in 0..1_000_000 {
         match rank.test(pending)? {
             Tested::Done(list) => return Ok(list),

@@ -6,14 +6,14 @@ use Rattle.mpx_program.proofs.Answering.{answers_written}
 use Rattle.mpx_program.proofs.Telling.{told_or_wanting}
 use Rattle.mpx_program.proofs.job.answer.Goals as goal
 
-pub returns-in-Ok : goal.returns-in-Ok
-returns-in-Ok g c =
+pub returns-in-Ok-clause-answers : goal.returns-in-Ok-clause-answers
+returns-in-Ok-clause-answers g c =
     let p = c.args.prepared.now in
-    let old = g.W.Write.contents c.args.out.now in
+    let old = g.W.Write.contents c.args.streams.now.out in
     let new = g.W.Write.contents c.write_printed-answer.new.writer in
     let end = c.in-Ok.printed.end in
     let answer = c.write_printed-answer.result in
-    let says = Tells (g.E.Write.contents c.args.err.now) (g.E.Write.contents c.exit_of.new.err) c.exit_of.result.told in
+    let says = Tells (g.E.Write.contents c.args.streams.now.err) (g.E.Write.contents c.exit_of.new.err) c.exit_of.result.told in
     answers_written _ c.args.call.now p.text.items p.script p.complains c.requires.read c.requires.strict p.found c.requires.found old new c.more_of.result.now c.exit_of.result.status says
     (string_bytes c.in-Ok.printed.text) end c.in-Ok.printed.left answer
     (IfOk-at_ok _ c.in-Ok.is c.requires.comes)

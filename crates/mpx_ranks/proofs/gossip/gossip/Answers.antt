@@ -18,9 +18,9 @@ returns-clause-heard g c =
 pub returns-clause-turns : goal.returns-clause-turns
 returns-clause-turns g c =
     (turn_of c.came_to.result c.pull-popped.result c.prune-pruned.result c.push-pushed.result c.args.port.now c.pull-popped.new.port c.prune-pruned.new.port c.push-pushed.new.port
-    c.came_to.ensures c.pull-popped.ensures.answer c.pull-popped.ensures.kept c.prune-pruned.ensures.prunes c.push-pushed.ensures.pushes).0
+    c.came_to.ensures c.pull-popped.ensures.answer c.pull-popped.ensures.empty c.pull-popped.ensures.kept c.prune-pruned.ensures.prunes c.push-pushed.ensures.pushes).0
 
 pub returns-clause-wanted : goal.returns-clause-wanted
 returns-clause-wanted g c =
     (turn_of c.came_to.result c.pull-popped.result c.prune-pruned.result c.push-pushed.result c.args.port.now c.pull-popped.new.port c.prune-pruned.new.port c.push-pushed.new.port
-    c.came_to.ensures c.pull-popped.ensures.answer c.pull-popped.ensures.kept c.prune-pruned.ensures.prunes c.push-pushed.ensures.pushes).1
+    c.came_to.ensures c.pull-popped.ensures.answer c.pull-popped.ensures.empty c.pull-popped.ensures.kept c.prune-pruned.ensures.prunes c.push-pushed.ensures.pushes).1

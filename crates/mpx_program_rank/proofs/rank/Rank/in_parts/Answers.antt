@@ -1,4 +1,4 @@
-use Rattle.std.proofs.Common.{rules, ◌≡◌, ◌+◌, ◌*◌, ◌≤◌, ◌++◌, ◌∷◌, [], length, refl, subst, ◌∙◌, arith}
+use Rattle.std.proofs.Common.{rules, ◌≡◌, ◌+◌, ◌*◌, ◌<◌, ◌≤◌, ◌++◌, ◌∷◌, [], length, refl, subst, ◌∙◌, arith}
 use Rattle.mpx_call.specs.Parts.{cut, put_together}
 use Rattle.mpx_call.proofs.Cuts.{SoFar, none_yet}
 use Rattle.mpx_program_rank.specs.Lengths.{MakesPart, blocks_given, blocks_got, most_of, part_line}
@@ -33,6 +33,8 @@ loop-first-preserved g c =
     let whole : length c.args.items.now ≡ gives * c.args.count = search rules in
     let fits : c.loop-first.first + c.min-each.result ≤ c.args.count = search rules in
     let few : c.min-each.result ≤ most_of c.args.call comm.size = search rules in
+    let some : 0 < c.min-each.result = search rules in
+    let last : c.loop-first.first + c.min-each.result < c.args.count → c.min-each.result ≡ most_of c.args.call comm.size = λ more. search rules in
     let given : c.deref.result.now ≡ cut gives c.args.count c.loop-first.first c.min-each.result c.args.items.now = search rules in
     let more : c.push.new.self.items ≡ c.loop-first.parts.items ++ c.in_ok-part.part ∷ [] = search rules in
     record {
@@ -41,7 +43,7 @@ loop-first-preserved g c =
       turns = c.in_ok-part.ensures.kept.1 ∙ so_far.turns;
       within = fits;
       parts = goes_on (λ h. host.goes_by h []) host.node host.turned host.turn_refused comm.name (λ count part. part_line c.args.call g.T.Item.ty count (numbers part)) numbers _ _ _ gives _ _ _ _ c.deref.result.now _ _ c.in_ok-part.part _ _ _
-          so_far.parts whole fits few given so_far.turns c.in_ok-part.ensures.gives more;
+          so_far.parts whole fits few some last given so_far.turns c.in_ok-part.ensures.gives more;
     }
 
 pub returns-clause-gives : goal.returns-clause-gives

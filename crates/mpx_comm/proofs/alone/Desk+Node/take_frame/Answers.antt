@@ -1,8 +1,0 @@
-use Rattle.mpx_format.specs.Decoding.{decoded, shown}
-use Rattle.mpx_node.specs.Shown.{node_of}
-use Rattle.mpx_comm.proofs.Steps.{later_takes}
-use Rattle.mpx_comm.proofs.Posting.{posted_later}
-use Rattle.mpx_comm.proofs.alone.Desk+Node.take_frame.Goals as goal
-
-pub invariant_of-self : goal.invariant_of-self
-invariant_of-self c = record { posted = posted_later (node_of c.args.self.now.host) (node_of c.take_frame.new.self) c.args.self.now.requests.keys (later_takes c.take_frame.result (shown (decoded c.args.frame.now)) (node_of c.args.self.now.host) (node_of c.take_frame.new.self) c.take_frame.ensures.ok c.take_frame.ensures.err) c.args.self.now.posted }

@@ -1,9 +1,0 @@
-use Rattle.mpx_program.specs.Jobs.{AsFounded, AsPrinted}
-use Rattle.mpx_shell.proofs.Ending.{by_own}
-use Rattle.mpx_shell.proofs.answering.do_job.Goals as goal
-
-pub returns-clause-prints : goal.returns-clause-prints
-returns-clause-prints g c = by_own AsPrinted _ c.args.call.now _ _ _ _ _ _ c.requires.own c.run_job.ensures.prints
-
-pub returns-clause-founded : goal.returns-clause-founded
-returns-clause-founded g c = by_own AsFounded _ c.args.call.now _ _ _ _ _ _ c.requires.own c.run_job.ensures.founded
