@@ -13,7 +13,7 @@ ghost use Rattle.mpx_num.specs.Types.{item_len};
 ghost use Rattle.mpx_fold.specs.Folds.{fold_of};
 ghost use Rattle.mpx_move.specs.Moves.{move_of};
 ghost use Rattle.mpx_parts.specs.Exchanges.{HasEqualBlocks, IsPutTogether, blocks_got};
-ghost use Rattle.mpx_parts.specs.Meeting.{MeetInRows};
+ghost use Rattle.mpx_parts.specs.Meeting.{MeetInExchange, MeetInReduction};
 ghost use Rattle.mpx_parts.specs.Numbers.{AreOfEach, IsOfBlocks};
 ghost use Rattle.mpx_parts.specs.OneCall.{IsOfCount};
 ghost use Rattle.mpx_parts.specs.Rows.{GivesOfEach, IsCutInto, value_numbers};
@@ -49,5 +49,10 @@ pub fn items_have_so_many_numbers<T: Integer>()
 
 /// What a rank's longer exchange gives it, which it made in parts as the others did, is what one call gives it.
 pub fn longer_exchanges_give_what_one_call_gives<T: Item>()
-    ensures { (most count : ℕ) (exchange : Exchange) (row : RowView) (rows : List RowView) (items list : ℕ → List T) (parts : ℕ → List (Part T)) (rank : ℕ) → HasEqualBlocks exchange → AreOfEach (item_len (type_of (first_of row))) T.numbers → MeetInRows T.numbers most count exchange row rows items list parts → rank < length row → T.numbers (list rank) ≡ value_numbers (move_of exchange row rank) }
+    ensures { (most count : ℕ) (exchange : Exchange) (row : RowView) (rows : List RowView) (items list : ℕ → List T) (parts : ℕ → List (Part T)) (rank : ℕ) → HasEqualBlocks exchange → AreOfEach (item_len (type_of (first_of row))) T.numbers → MeetInExchange T.numbers most count exchange row rows items list parts → rank < length row → T.numbers (list rank) ≡ value_numbers (move_of exchange row rank) }
+{}
+
+/// What a rank's longer reduction or scan gives it, which it made in parts as the others did, is what one call gives it.
+pub fn longer_reductions_give_what_one_call_gives<T: Item>()
+    ensures { (each most count : ℕ) (ops : List Operation) (reduction : Reduction) (row : RowView) (rows : List RowView) (items list : ℕ → List T) (parts : ℕ → List (Part T)) (rank : ℕ) → GivesOfEach reduction → AreOfEach each T.numbers → MeetInReduction T.numbers most count ops reduction row rows items list parts → rank < length row → T.numbers (list rank) ≡ value_numbers (fold_of ops reduction row rank) }
 {}
