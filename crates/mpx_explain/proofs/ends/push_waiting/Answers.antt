@@ -20,6 +20,7 @@ returns c =
     record {
       waiting = waiting_pushed run rank w c.args.end.now.waiting.items c.push.new.self.items (record { rank = rank; statement = place; calls = c.in_ok-calls.calls }) c.in_ok-push.ensures.items refl c.statement_with-statement.ensures calls;
       earlier = earlier_appended run rank place w c.args.end.now.earlier.items c.calls_at-calls.new.firsts.items c.append.new.self.items c.statement_with-statement.ensures firsts c.in_ok-append.ensures.items;
-      served = served_at_place run rank place w asked c.in_ok-calls.calls.items c.calls_at-calls.new.firsts.items c.args.end.now.served.items c.push_where.new.places.items c.is_served-served.result c.statement_with-statement.ensures (ap (map asked_view) same) calls firsts (c.is_served-served.ensures (rank, place)) c.in_ok-push_where.ensures;
+      served = served_at_place run rank place w asked c.as_slice.result.now c.as_slice-2.result.now c.args.end.now.served.items c.push_where.new.places.items c.is_served-served.result c.statement_with-statement.ensures (ap (map asked_view) same)
+          (ap (map missing_view) c.as_slice.ensures.value ∙ calls) (ap (map first_view) c.as_slice-2.ensures.value ∙ firsts) (c.is_served-served.ensures (rank, place)) c.in_ok-push_where.ensures;
       unmade = unmade_at_place run rank place w asked c.args.end.now.unmade.items c.push_where-2.new.places.items c.is_empty.result c.statement_with-statement.ensures (ap (map asked_view) same) c.is_empty.ensures c.in_ok-push_where-2.ensures;
     }

@@ -6,12 +6,12 @@ use Rattle.mpx_explain.proofs.past.is_posted.Goals as goal
 
 pub returns-then-many-call : goal.returns-then-many-call
 returns-then-many-call c =
-    let less : length c.one-item.result.items ≤ c.args.call = omega (arith, ap length c.as_slice.ensures.value) in
+    let less : length c.one-item.result.items ≤ c.args.call = omega (arith, ap length c.as_slice-many.ensures.value) in
     posted_less c.args.posts.now c.loop-one.one-index c.args.call c.one-item.result (is_posted (posts_in c.args.posts.now) c.args.call) c.loop-one-test.true c.one-item.is less c.loop-one.invariant
 
 pub loop-one-preserved : goal.loop-one-preserved
 loop-one-preserved c =
-    let more : c.args.call < length c.one-item.result.items = omega (arith, ap length c.as_slice.ensures.value) in
+    let more : c.args.call < length c.one-item.result.items = omega (arith, ap length c.as_slice-many.ensures.value) in
     posted_more c.args.posts.now c.loop-one.one-index c.args.call c.one-item.result (is_posted (posts_in c.args.posts.now) c.args.call) c.loop-one-test.true c.one-item.is more c.loop-one.invariant
 
 pub returns : goal.returns
