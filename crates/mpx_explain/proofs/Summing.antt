@@ -335,6 +335,13 @@ at_any [] i d e within = absurd (omega (arith, within))
 at_any (x ∷ xs) zero d e within = refl
 at_any (x ∷ xs) (suc i) d e within = at_any xs i d e (omega (arith, within))
 
+-- the same by the number that stands there, and the one that is given
+pub combined_step : (times : Bool) (given : List ℤ) (i : ℕ) (old had : List Exact) (item exact : Exact) (gives : Option ℤ) → i < length had → IsCombinedUpto times given i old had → item ≡ slice_index_or had i item → gives ≡ slice_get given i
+    → ((comes : Option ℤ) → IsExact times item comes → IsExact times exact (with_given times comes gives)) → IsCombinedUpto times given (i + 1) old (set had i exact)
+combined_step times given i old had item exact gives within was at is one =
+    let same : slice_index_or had i Unknown ≡ item = at_any had i Unknown item within ∙ sym at in
+    combined_more times given i old had exact within was (λ comes holds. subst (λ (o : Option ℤ). IsExact times exact (with_given times comes o)) is (one comes (subst (λ (e : Exact). IsExact times e comes) same holds)))
+
 -- TWO NUMBERS
 
 -- a number, so many times or with another one
