@@ -62,11 +62,23 @@ def differs(row, answers):
         return "" if (status, text) == (row.status, wanted) else f"check: {status} {text[:200]!r}, and not {row.status} {wanted[:200]!r}"
     if row.words[:1] == [b"eval"] and options in ([], [b"--explain"]) and row.status in (0, 2, 3):
         return of_eval(row, answers, options == [b"--explain"])
-    is_run = row.words[:1] == [b"run"] and row.status == 0 and not {b"--explain", b"--trace", b"--table"} & {*options}
-    if is_run:
+    if row.words[:1] == [b"run"]:
+        return of_run(row, answers, options)
+    return None
+
+
+def of_run(row, answers, options):
+    """A run in threads has the lines of the evaluation; a simulated one has a call of its own."""
+    if any(it.startswith(b"--threads") for it in options):
+        if row.status != 0 or {b"--explain"} & {*options}:
+            return None
         status, text = answers("eval")
         return "" if (status, text) == (0, row.said) else f"run: {status} {text[:200]!r}, and not {row.said[:200]!r}"
-    return None
+    words = b" ".join(options)
+    (status, text), (again, said) = answers("run", words), answers("run_says", words)
+    # The row has both streams, each whole.
+    same = (status, again) == (row.status, row.status) and row.said in (text + said, said + text)
+    return "" if same else f"run: {status} {text[:200]!r} {said[:200]!r}, and not {row.status} {row.said[:400]!r}"
 
 
 def of_eval(row, answers, explains):

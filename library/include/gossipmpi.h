@@ -9,9 +9,9 @@
  *         fwrite(out, 1, needed, stdout);
  *
  * The caller keeps, and nothing checks:
- *   - `script`, `out` and `needed` are never NULL, also where `length` or `room` is 0
- *   - `script` has `length` bytes that can be read, `out` has `room` bytes that can be written
- *   - no two of the three overlap, and no other thread writes to them during the call
+ *   - `script`, `options`, `out` and `needed` are never NULL, also where `length`, `many` or `room` is 0
+ *   - `script` has `length` bytes that can be read, `options` `many`, `out` has `room` bytes that can be written
+ *   - `out` and `needed` overlap none of the others, and no other thread writes to any of them during the call
  *   - malloc, realloc and free are of one allocator, which aligns as glibc's does
  *   - no call comes from a signal handler, or from the forked child of a process with threads
  *
@@ -24,12 +24,14 @@
 extern "C" {
 #endif
 
-/* The exit statuses of the program `gossipmpi eval`. */
+/* The exit statuses of the program `gossipmpi`. */
 enum gossipmpi_status {
     GOSSIPMPI_FINISHED = 0, /* all ranks have finished */
+    GOSSIPMPI_USAGE = 1,    /* of a run: the options ask for none, or there are more than 64 ranks and relays */
     GOSSIPMPI_REFUSED = 2,  /* the script can't be read; docs/MESSAGES.md has the refusals */
-    GOSSIPMPI_WAITING = 3,  /* ranks wait, in every run */
-    GOSSIPMPI_MEMORY = 4    /* malloc or realloc returned NULL */
+    GOSSIPMPI_WAITING = 3,  /* ranks wait: in every run, or of a run at its end */
+    GOSSIPMPI_MEMORY = 4,   /* malloc or realloc returned NULL */
+    GOSSIPMPI_FAULTS = 6    /* of a run with --strict: calls are refused or don't fit together */
 };
 
 /* What each rank gets: lines `RANK: LINE`, each ended by a newline, rank by rank. Of a refused script the text is `script line N: NAME`. */
@@ -41,6 +43,14 @@ uint8_t gossipmpi_check(const uint8_t *script, size_t length, uint8_t *out, size
 /* The lines that `gossipmpi eval --explain` adds: which ranks wait at which line and for whom, which calls are refused or don't fit together, which results
  * are past their types. Of a refused script each refused line, and what is wrong in it. The status is that of gossipmpi_eval. */
 uint8_t gossipmpi_explain(const uint8_t *script, size_t length, uint8_t *out, size_t room, size_t *needed);
+
+/* A simulated run of the script. `options` are `many` bytes: those of the program `gossipmpi run`, with blanks between them, as "--seed 7 --loss 20", or
+ * none. The caller's thread makes the run, so there is no --threads, and --workers changes nothing. The text is what the program prints. */
+uint8_t gossipmpi_run(const uint8_t *script, size_t length, const uint8_t *options, size_t many, uint8_t *out, size_t room, size_t *needed);
+
+/* The same run. The text is what the program says beside: with --trace or --table what happens, then who waits, with --explain also why; of a refused
+ * script or option the refusal. */
+uint8_t gossipmpi_run_says(const uint8_t *script, size_t length, const uint8_t *options, size_t many, uint8_t *out, size_t room, size_t *needed);
 
 #ifdef __cplusplus
 }

@@ -21,6 +21,37 @@ static int gives(call *f, const char *script, int status, const char *text)
     return 0;
 }
 
+typedef uint8_t run(const uint8_t *, size_t, const uint8_t *, size_t, uint8_t *, size_t, size_t *);
+
+/* Whether a run with these options gives this status and just this text. */
+static int runs(run *f, const char *script, const char *options, int status, const char *text)
+{
+    uint8_t out[512];
+    size_t needed = 77, length = strlen(script), many = strlen(options);
+    int got = f((const uint8_t *)script, length, (const uint8_t *)options, many, out, sizeof out, &needed);
+    if (got == status && needed == strlen(text) && needed < sizeof out && !memcmp(out, text, needed)) return 1;
+    fprintf(stderr, "%s of %s\n%d, %zu bytes: %.*s\n", options, script, got, needed, (int)(needed <= sizeof out ? needed : 0), (char *)out);
+    return 0;
+}
+
+#define WAIT "ranks 2\n0: barrier world\n"
+
+/* Runs with options and without, and options that ask for none. */
+static int all_runs(void)
+{
+    return runs(gossipmpi_run, SUMS, "", GOSSIPMPI_FINISHED, "0: 9 12\n1: 9 12\n2: 9 12\n")
+        && runs(gossipmpi_run, MAPS, " --seed  7 --loss=20 --relays 3 ", GOSSIPMPI_FINISHED, "0: 6 7\n1: 6 7\n")
+        && runs(gossipmpi_run, WAIT, "--workers 4", GOSSIPMPI_WAITING, "")
+        && runs(gossipmpi_run_says, WAIT, "", GOSSIPMPI_WAITING, "waiting: 0\n")
+        && runs(gossipmpi_run, SUMS, "--loss 100 --turns 3", GOSSIPMPI_WAITING, "")
+        && runs(gossipmpi_run, SUMS, "--relays 63", GOSSIPMPI_USAGE, "")
+        && runs(gossipmpi_run_says, SUMS, "--relays 63", GOSSIPMPI_USAGE, "too many processes\n")
+        && runs(gossipmpi_run_says, "ranks 65", "", GOSSIPMPI_REFUSED, "script line 1: RanksOutOfRange\n")
+        && runs(gossipmpi_run, SUMS, "--loss 101", GOSSIPMPI_USAGE, "")
+        && runs(gossipmpi_run_says, SUMS, "--threads", GOSSIPMPI_USAGE, "the library starts no threads\n")
+        && runs(gossipmpi_run_says, SUMS, "--seed \xff", GOSSIPMPI_USAGE, "the options are no text\n");
+}
+
 /* Whether with so much room nothing or all is written. */
 static int fits(size_t room)
 {
@@ -56,5 +87,6 @@ int main(void)
     if (!gives(gossipmpi_explain, "ranks 2\n0: barrier world\n", GOSSIPMPI_WAITING, "rank 0, line 2: barrier world, call 0: waits for rank 1 (finished)\n")) return 8;
     for (size_t room = 0; room <= 32; room++) if (!fits(room)) return 9;
     if (!refuses_sizes()) return 10;
+    if (!all_runs()) return 11;
     return 0;
 }

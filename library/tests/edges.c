@@ -1,9 +1,9 @@
-/* Evaluates each script with a page at each end of the script and of the room that nobody may touch: first they end where such a page begins, then they begin
+/* Makes each call on each script, with a page at each end of the script and of the room that nobody may touch: first they end where such a page begins, then they begin
  * where one ends. The text and the status are the same as in a room of malloc.
  *
  *     edges SCRIPT..        the files of scripts */
+#include "calls.h"
 #include "fenced.h"
-#include "gossipmpi.h"
 #include <string.h>
 
 enum { MOST = 1 << 21 };
@@ -23,7 +23,6 @@ static int same(call *f, uint8_t *script, uint8_t *room, const uint8_t *bytes, s
 
 int main(int argc, char **argv)
 {
-    call *calls[] = {gossipmpi_eval, gossipmpi_check, gossipmpi_explain};
     uint8_t *script = fenced(MOST), *room = fenced(MOST), *bytes = malloc(MOST), *wanted = malloc(MOST);
     if (!bytes || !wanted) return 2;
     for (int i = 1; i < argc; i++) {
@@ -31,7 +30,7 @@ int main(int argc, char **argv)
         if (!file) { perror(argv[i]); return 2; }
         size_t length = fread(bytes, 1, MOST, file);
         fclose(file);
-        for (int f = 0; f < 3; f++)
+        for (int f = 0; f < CALLS; f++)
             if (!same(calls[f], script, room, bytes, length, wanted)) { fprintf(stderr, "%s differs\n", argv[i]); return 1; }
     }
     free(bytes);

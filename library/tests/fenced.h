@@ -5,8 +5,6 @@
 #include <sys/mman.h>
 #include <unistd.h>
 
-typedef uint8_t call(const uint8_t *, size_t, uint8_t *, size_t, size_t *);
-
 /* Room of this many bytes, a multiple of a page's. */
 static uint8_t *fenced(size_t bytes)
 {

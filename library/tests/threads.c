@@ -1,17 +1,14 @@
-/* Eight threads make all three calls at once, each with a room of its own: each gets what one thread gets.
+/* Eight threads make all calls at once, each with a room of its own: each gets what one thread gets.
  *
  *     threads SCRIPT..        the files of scripts */
-#include "gossipmpi.h"
+#include "calls.h"
 #include <pthread.h>
 #include <stdio.h>
 #include <stdlib.h>
 #include <string.h>
 
 #define THREADS 8
-#define CALLS 3
 enum { ROOM = 1 << 20 };
-typedef uint8_t call(const uint8_t *, size_t, uint8_t *, size_t, size_t *);
-static call *const calls[CALLS] = {gossipmpi_eval, gossipmpi_check, gossipmpi_explain};
 struct answer { uint8_t *text; size_t needed; int status; };
 struct script { uint8_t *bytes; size_t length; struct answer wanted[CALLS]; };
 static struct script *scripts;

@@ -7,7 +7,7 @@
     >>> job.allreduce([[1, 2], [3, 4], [5, 6]], "sum", "i64").results
     [[9, 12], [9, 12], [9, 12]]
 
-`eval`, `check` and `explain` read a script. `Job` writes one, call by call. `gossipmpi.mpi.Checked` is an mpi4py communicator that checks itself, and the
+`eval`, `check`, `explain` and `run` read a script. `Job` writes one, call by call. `gossipmpi.mpi.Checked` is an mpi4py communicator that checks itself, and the
 fixture `mpi` of pytest runs a program under mpirun.
 """
 from ._version import VERSION as __version__
@@ -15,6 +15,7 @@ from .backend import LibraryMissing, version
 from .evaluation import Evaluation, ScriptError, check, eval, explain
 from .job import Call, Communicator, Job, PerRank, Request
 from .outcomes import Comm, Fault, Idle, NoValue, Null, Ok, Outcome, Refused, outcome_of
+from .runs import Run, run
 
 __all__ = ["Call", "Comm", "Communicator", "Evaluation", "Fault", "Idle", "Job", "LibraryMissing", "NoValue", "Null", "Ok", "Outcome", "PerRank", "Refused",
-           "Request", "ScriptError", "__version__", "check", "eval", "explain", "outcome_of", "version"]
+           "Request", "Run", "ScriptError", "__version__", "check", "eval", "explain", "outcome_of", "run", "version"]

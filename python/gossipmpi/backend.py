@@ -5,9 +5,9 @@ import ctypes
 import os
 import shutil
 import subprocess
-from typing import NamedTuple, Optional, Union
+from typing import List, NamedTuple, Optional, Tuple, Union
 
-FINISHED, REFUSED, WAITING, MEMORY = 0, 2, 3, 4
+FINISHED, USAGE, REFUSED, WAITING, MEMORY, FAULTS = 0, 1, 2, 3, 4, 6
 HERE = os.path.dirname(os.path.abspath(__file__))
 
 
@@ -28,7 +28,7 @@ class Library:
         self.path = path
         try:
             self.library = ctypes.CDLL(path)
-            for name in ("eval", "check", "explain"):
+            for name in ("eval", "check", "explain", "run", "run_says"):
                 self.function(name)
         except (OSError, AttributeError) as why:
             raise LibraryMissing("%s can't be used: %s" % (path, why)) from None
@@ -36,14 +36,21 @@ class Library:
     def function(self, name: str):
         function = getattr(self.library, "gossipmpi_" + name)
         function.restype = ctypes.c_uint8
-        function.argtypes = [ctypes.c_char_p, ctypes.c_size_t, ctypes.c_void_p, ctypes.c_size_t, ctypes.POINTER(ctypes.c_size_t)]
+        given = [ctypes.c_char_p, ctypes.c_size_t] * (2 if name.startswith("run") else 1)
+        function.argtypes = [*given, ctypes.c_void_p, ctypes.c_size_t, ctypes.POINTER(ctypes.c_size_t)]
         return function
 
-    def ask(self, name: str, script: bytes) -> Answer:
+    def run_of(self, script: bytes, options: List[str]) -> Tuple[int, str, str]:
+        words = " ".join(options).encode()
+        (status, text), (again, said) = self.ask("run", script, words), self.ask("run_says", script, words)
+        return MEMORY if MEMORY in (status, again) else status, text, said
+
+    def ask(self, name: str, *given: bytes) -> Answer:
         room, needed, function = 4096, ctypes.c_size_t(0), self.function(name)
+        bytes_given = [it for text in given for it in (text, len(text))]
         while True:
             out = ctypes.create_string_buffer(room)
-            status = function(script, len(script), out, room, ctypes.byref(needed))
+            status = function(*bytes_given, out, room, ctypes.byref(needed))
             if needed.value <= room:
                 return Answer(status, out.raw[:needed.value].decode("utf-8", "replace"))
             room = needed.value
@@ -60,6 +67,12 @@ class Program:
             return subprocess.run([self.path, *words], input=script, stdout=subprocess.PIPE, stderr=subprocess.PIPE)
         except OSError as why:
             raise LibraryMissing("%s can't be run: %s. GOSSIPMPI names the program, GOSSIPMPI_LIBRARY the library" % (self.path, why)) from None
+
+    def run_of(self, script: bytes, options: List[str]) -> Tuple[int, str, str]:
+        ran = self.run(["run", *options], script)
+        if ran.returncode not in (FINISHED, USAGE, REFUSED, WAITING, MEMORY, FAULTS):
+            raise LibraryMissing("%s ended with status %d: %s" % (self.path, ran.returncode, ran.stderr.decode("utf-8", "replace").strip()))
+        return ran.returncode, ran.stdout.decode("utf-8", "replace"), ran.stderr.decode("utf-8", "replace")
 
     def ask(self, name: str, script: bytes) -> Answer:
         ran = self.run(["check"] if name == "check" else ["eval", "--explain"] if name == "explain" else ["eval"], script)

@@ -54,6 +54,22 @@ class Scripts(unittest.TestCase):
         said = gossipmpi.explain("ranks 2\n0: barrier world\n1: allreduce world sum i8 1\n")
         self.assertIn("rank 1, line 3: fault Kind at 1: rank 0 calls barrier, rank 1 calls allreduce\n", said)
 
+    def test_runs(self):
+        found = gossipmpi.run(SUMS, seed=7, loss=40, relays=2)
+        self.assertEqual((found.lines, found.waiting, found.said, found.status), ([["9 12"]] * 3, [], "", 0))
+        traced = gossipmpi.run(SUMS, seed=7, trace=True)
+        self.assertIn("turn 1: rank 2 posts world 0, line 4: allreduce world sum i64 5 6\n", traced.said)
+        waits = gossipmpi.run("ranks 3\n0: barrier world\n2: barrier world\n", explain=True)
+        self.assertEqual((waits.waiting, waits.status), ([0, 2], 3))
+        self.assertIn("deadlock: these ranks wait whatever the network does\n", waits.said)
+        self.assertEqual(gossipmpi.run(SUMS, loss=100, turns=5).waiting, [0, 1, 2])
+
+    def test_runs_that_are_none(self):
+        self.assertRaises(ScriptError, gossipmpi.run, "ranks 65\n")
+        for options in ({"loss": 101}, {"relays": 64}, {"seed": -1}, {"turns": 0}, {"trace": True, "table": True}, {"relays": 62}):
+            self.assertRaises(ValueError, gossipmpi.run, SUMS, **options)
+        self.assertRaises(TypeError, gossipmpi.run, SUMS, seed="7")
+
     def test_outcomes(self):
         lines = {"ok": Ok(), "none": NoValue(), "null": Null(), "comm 3 2": Comm(3, 2), "refused Closed": Refused("Closed"), "fault Op at 1": Fault("Op", 1),
                  "empty": [], "-1 2": [-1, 2], "ident": "ident", "1:7 2:0": "1:7 2:0"}

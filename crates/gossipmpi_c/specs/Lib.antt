@@ -1,2 +1,4 @@
 pub mod Answers
 pub mod Explained
+pub mod Options
+pub mod Runs

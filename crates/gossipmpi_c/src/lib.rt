@@ -5,7 +5,7 @@
 //! anything for the next. Scripts may name the operation `affine`, as those of the program may.
 //!
 //! What an answer is says `specs/Answers.antt`: of [`gossipmpi_eval`] by `IsEvaluatedTo`, of [`gossipmpi_check`] by `IsCheckedTo`, of [`gossipmpi_explain`] by
-//! `IsExplainedTo`.
+//! `IsExplainedTo`; of [`gossipmpi_run`] says `specs/Runs.antt`.
 #![tactic(auto)]
 
 ghost use Rattle.gossipmpi_c.specs.Answers.{Answers, IsCheckedTo, IsEvaluatedTo, IsExplainedTo, IsWritten, own_operations};
@@ -13,9 +13,13 @@ ghost use Rattle.gossipmpi_c.specs.Answers.{Answers, IsCheckedTo, IsEvaluatedTo,
 mod answer;
 mod evaluated;
 mod explained;
+mod options;
+mod ran;
+mod runs;
 mod texts;
 
-use answer::{Answer, Asked, answered};
+use answer::{Asked, answered};
+pub use runs::{gossipmpi_run, gossipmpi_run_says};
 use std::alloc::Global;
 
 /// The lines of all ranks at the end of the script's evaluation, each as `RANK: LINE`. Of a refused script the text is the refusal. In C:
@@ -30,7 +34,7 @@ pub extern "C" fn gossipmpi_eval(
     ensures { Answers (IsEvaluatedTo own_operations script.now) out.old out.new needed.new result }
 {
     let answer = answered(alloc, script, Asked::Evaluation);
-    write_text(&answer, out, needed);
+    write_text(answer.text.as_slice(), out, needed);
     answer.end.status()
 }
 
@@ -46,7 +50,7 @@ pub extern "C" fn gossipmpi_check(
     ensures { Answers (IsCheckedTo own_operations script.now) out.old out.new needed.new result }
 {
     let answer = answered(alloc, script, Asked::Reading);
-    write_text(&answer, out, needed);
+    write_text(answer.text.as_slice(), out, needed);
     answer.end.status()
 }
 
@@ -63,15 +67,14 @@ pub extern "C" fn gossipmpi_explain(
     ensures { Answers (IsExplainedTo own_operations script.now) out.old out.new needed.new result }
 {
     let answer = answered(alloc, script, Asked::Explanation);
-    write_text(&answer, out, needed);
+    write_text(answer.text.as_slice(), out, needed);
     answer.end.status()
 }
 
 // Gives the text's length, and writes the text where it fits.
-fn write_text(answer: &Answer, out: &mut [u8], needed: &mut usize)
-    ensures { IsWritten answer.now.text.items out.old out.new needed.new }
+fn write_text(text: &[u8], out: &mut [u8], needed: &mut usize)
+    ensures { IsWritten text.now out.old out.new needed.new }
 {
-    let text = answer.text.as_slice();
     *needed = text.len();
     if text.len() <= out.len() {
         let (front, _rest) = out.split_at_mut(text.len());

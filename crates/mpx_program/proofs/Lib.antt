@@ -1,4 +1,4 @@
-mod Answering
+mod Doing
 mod Telling
 mod Saying
 mod Ending

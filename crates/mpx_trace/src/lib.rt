@@ -2,7 +2,8 @@
 //! by [`Progress`](mpx_sim::Progress) alone how far the run is.
 //!
 //! In the order of reading: [`Trace`], a line an event; [`Table`], a row a turn. What a board holds is told by
-//! `holding.rt`, and of a table's rank by `cells.rt`. What fails on the writer is let go: a run goes on as if nobody looked on.
+//! `holding.rt`, and of a table's rank by `cells.rt`. What can't be written, for want of memory or since the writer fails, is let go, and a run goes on as if
+//! nobody looked on: `is_whole` says whether something was.
 #![tactic(auto)]
 
 mod cells;

@@ -1,5 +1,5 @@
 //! A simulated run, a row a turn.
-ghost use Rattle.std.specs.Prelude.{◌≡◌};
+ghost use Rattle.std.specs.Prelude.{◌≡◌, ◌&&◌, is_ok, true};
 
 use crate::cells::Cell;
 use crate::columns::Columns;
@@ -25,11 +25,14 @@ pub struct Table<W: Write> {
     columns: Option<Columns>,
     /// How many rows were written.
     rows: u32,
+    /// Whether all that was to be shown so far is written.
+    whole: bool,
 }
 
 impl<W: Write> Table<W> {
     pub fn new(alloc: Global, out: W) -> Table<W>
-        ensures { result.out ≡ out }
+        ensures out { result.out ≡ out }
+        ensures whole { result.whole ≡ true }
     {
         Table {
             alloc,
@@ -39,7 +42,15 @@ impl<W: Write> Table<W> {
             ranks: 0,
             columns: None,
             rows: 0,
+            whole: true,
         }
+    }
+
+    /// Whether all that was to be shown so far is written: neither was memory wanting for it, nor did the writer fail.
+    pub fn is_whole(&self) -> bool
+        ensures { result ≡ self.now.whole }
+    {
+        self.whole
     }
 
     /// Gives the writer back.
@@ -47,6 +58,13 @@ impl<W: Write> Table<W> {
         ensures { result ≡ self.out }
     {
         self.out
+    }
+
+    // Keeps in mind whether this is written.
+    fn note(&mut self, written: &io::Result<()>)
+        ensures { self.new.whole ≡ (self.old.whole && is_ok written.now) }
+    {
+        self.whole = self.whole && written.is_ok();
     }
 
     // There are cells up to this process.
@@ -103,12 +121,14 @@ impl<W: Write> Table<W> {
 
 impl<W: Write + Drop> Observer for Table<W> {
     fn begins(&mut self, text: &[u8]) {
-        let _ = self.script.read(self.alloc, text);
+        let read = self.script.read(self.alloc, text);
+        self.note(&read);
     }
 
     fn turn(&mut self, number: u32, progress: Progress) {
         self.ranks = progress.ranks;
-        let _ = self.write_row(number);
+        let written = self.write_row(number);
+        self.note(&written);
     }
 
     fn follows_frames(&self) -> bool {
@@ -116,7 +136,8 @@ impl<W: Write + Drop> Observer for Table<W> {
     }
 
     fn taken(&mut self, frame: FrameSeen, _again: bool, node: &Node) {
-        let _ = self.take(frame, node);
+        let taken = self.take(frame, node);
+        self.note(&taken);
     }
 
     fn follows_posts(&self) -> bool {
@@ -124,7 +145,8 @@ impl<W: Write + Drop> Observer for Table<W> {
     }
 
     fn posted(&mut self, _turn: u32, rank: u8, name: &Name, call: u32, statement: usize) {
-        let _ = self.post(rank, name, call, statement);
+        let posted = self.post(rank, name, call, statement);
+        self.note(&posted);
     }
 
     fn missed(&mut self) {
@@ -133,8 +155,10 @@ impl<W: Write + Drop> Observer for Table<W> {
 
     fn over(&mut self) {
         if self.cells.iter().any(|cell| cell.is_new) {
-            let _ = self.write_row(self.rows.saturating_add(1));
+            let written = self.write_row(self.rows.saturating_add(1));
+            self.note(&written);
         }
-        let _ = self.out.flush();
+        let flushed = self.out.flush();
+        self.note(&flushed);
     }
 }

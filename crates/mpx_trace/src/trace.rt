@@ -1,5 +1,5 @@
 //! A simulated run, a line an event.
-ghost use Rattle.std.specs.Prelude.{◌≡◌};
+ghost use Rattle.std.specs.Prelude.{◌≡◌, ◌&&◌, is_ok, true};
 
 use crate::holding::{push_held, push_name};
 use crate::news::News;
@@ -21,18 +21,29 @@ pub struct Trace<W: Write> {
     out: W,
     news: News,
     script: ScriptLines,
+    /// Whether all that was to be told so far is written.
+    whole: bool,
 }
 
 impl<W: Write> Trace<W> {
     pub fn new(alloc: Global, out: W) -> Trace<W>
-        ensures { result.out ≡ out }
+        ensures out { result.out ≡ out }
+        ensures whole { result.whole ≡ true }
     {
         Trace {
             alloc,
             out,
             news: News::new(),
             script: ScriptLines::new(alloc),
+            whole: true,
         }
+    }
+
+    /// Whether all that was to be told so far is written: neither was memory wanting for it, nor did the writer fail.
+    pub fn is_whole(&self) -> bool
+        ensures { result ≡ self.now.whole }
+    {
+        self.whole
     }
 
     /// Gives the writer back.
@@ -40,6 +51,13 @@ impl<W: Write> Trace<W> {
         ensures { result ≡ self.out }
     {
         self.out
+    }
+
+    // Keeps in mind whether this is written.
+    fn note(&mut self, written: &io::Result<()>)
+        ensures { self.new.whole ≡ (self.old.whole && is_ok written.now) }
+    {
+        self.whole = self.whole && written.is_ok();
     }
 
     fn tell_sent(&mut self, frame: FrameSeen, lost: bool) -> io::Result<()> {
@@ -78,7 +96,10 @@ impl<W: Write> Trace<W> {
         self.out.write_all(&text)
     }
 
-    fn tell_line(&mut self, turn: u32, rank: u8, line: &str) -> io::Result<()> {
+    fn tell_line(&mut self, turn: u32, rank: u8, line: &Line) -> io::Result<()> {
+        let Ok(line) = line.text(self.alloc) else {
+            return Err(io::Error::from(io::ErrorKind::OutOfMemory));
+        };
         let mut text = Vec::new(self.alloc);
         writeln!(text, "turn {turn}: rank {rank} result {line}")?;
         self.out.write_all(&text)
@@ -87,13 +108,15 @@ impl<W: Write> Trace<W> {
 
 impl<W: Write + Drop> Observer for Trace<W> {
     fn begins(&mut self, text: &[u8]) {
-        let _ = self.script.read(self.alloc, text);
+        let read = self.script.read(self.alloc, text);
+        self.note(&read);
     }
 
     fn turn(&mut self, _number: u32, _progress: Progress) {}
 
     fn sent(&mut self, frame: FrameSeen, lost: bool) {
-        let _ = self.tell_sent(frame, lost);
+        let written = self.tell_sent(frame, lost);
+        self.note(&written);
     }
 
     fn follows_frames(&self) -> bool {
@@ -101,7 +124,8 @@ impl<W: Write + Drop> Observer for Trace<W> {
     }
 
     fn taken(&mut self, frame: FrameSeen, again: bool, node: &Node) {
-        let _ = self.tell_taken(frame, again, node);
+        let written = self.tell_taken(frame, again, node);
+        self.note(&written);
     }
 
     fn follows_posts(&self) -> bool {
@@ -109,7 +133,8 @@ impl<W: Write + Drop> Observer for Trace<W> {
     }
 
     fn posted(&mut self, turn: u32, rank: u8, name: &Name, call: u32, statement: usize) {
-        let _ = self.tell_post(turn, rank, name, call, statement);
+        let written = self.tell_post(turn, rank, name, call, statement);
+        self.note(&written);
     }
 
     fn missed(&mut self) {
@@ -118,13 +143,13 @@ impl<W: Write + Drop> Observer for Trace<W> {
 
     fn told(&mut self, turn: u32, rank: u8, lines: &[Line]) {
         for line in self.news.of(rank, lines) {
-            if let Ok(line) = line.text(self.alloc) {
-                let _ = self.tell_line(turn, rank, line.as_str());
-            }
+            let written = self.tell_line(turn, rank, line);
+            self.note(&written);
         }
     }
 
     fn over(&mut self) {
-        let _ = self.out.flush();
+        let flushed = self.out.flush();
+        self.note(&flushed);
     }
 }

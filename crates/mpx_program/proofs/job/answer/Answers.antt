@@ -2,7 +2,7 @@ use Rattle.std.proofs.Common.{string_bytes, subst}
 use Rattle.std.proofs.lemmas.Result.{IfOk-at_ok}
 use Rattle.mpx_run.specs.Texts.{IsWritten}
 use Rattle.mpx_program.specs.Jobs.{Tells}
-use Rattle.mpx_program.proofs.Answering.{answers_written}
+use Rattle.mpx_program.proofs.Doing.{answers_written}
 use Rattle.mpx_program.proofs.Telling.{told_or_wanting}
 use Rattle.mpx_program.proofs.job.answer.Goals as goal
 

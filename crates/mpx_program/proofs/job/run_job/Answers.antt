@@ -1,6 +1,6 @@
 use Rattle.std.proofs.Common.{refl, subst, sym}
 use Rattle.mpx_run.specs.Texts.{TakesInput}
-use Rattle.mpx_program.proofs.Answering.{does_nothing, does_printed, does_text, explains_refused}
+use Rattle.mpx_program.proofs.Doing.{does_nothing, does_printed, does_text, explains_refused}
 use Rattle.mpx_program.proofs.job.run_job.Goals as goal
 
 pub returns-in-Ok-clause-founded : goal.returns-in-Ok-clause-founded

@@ -1,5 +1,5 @@
 use Rattle.std.proofs.Common.{◌∙◌}
-use Rattle.mpx_program.proofs.Answering.{fails_text, fails_unread, no_refusal}
+use Rattle.mpx_program.proofs.Doing.{fails_text, fails_unread, no_refusal}
 use Rattle.mpx_program.proofs.prepared.prepare.Goals as goal
 
 pub returns-in-Err-with_script-clause-err : goal.returns-in-Err-with_script-clause-err
