@@ -1,4 +1,5 @@
 mod BlamedWords
+pub mod FirstCalls
 pub mod FoundEnds
 pub mod RefusedTexts
 pub mod Summing

@@ -1,9 +1,9 @@
 -- Results that are past their signed type, by what the statements of one call on `world` give.
-use Rattle.std.specs.Prelude.{◌≡◌, ℕ, zero, suc, ◌+◌, ◌-◌, ◌^◌, ◌<◌, ◌≤◌, nat_lt, ◌==◌, ◌&&◌, ◌||◌, not, Bool, true, false, cond, List, [], ◌∷◌, ◌++◌, bytes_eq, codes, is_some, length, map, slice_get, slice_index_or, take, Option, Some, None, option_and_then, ℤ, pos, ◌+ℤ◌, ◌*ℤ◌, unsigned_abs}
-use Rattle.std.specs.List.{All, filter, flat_map, list_any, range_with_len}
-use Rattle.std.specs.Option.{option_map}
+use Rattle.std.specs.Prelude.{◌≡◌, ℕ, zero, suc, ◌+◌, ◌-◌, ◌*◌, ◌^◌, ◌≤◌, nat_le, nat_lt, ◌==◌, ◌&&◌, ◌||◌, not, Bool, true, false, cond, List, [], ◌∷◌, ◌++◌, bytes_eq, codes, is_some, length, map, slice_get, slice_index_or, take, Option, Some, None, option_and_then, ℤ, pos, negsuc, ◌+ℤ◌, ◌*ℤ◌, unsigned_abs}
+use Rattle.std.specs.List.{AllZip, filter, flat_map, list_all, list_any, range_with_len, sum}
+use Rattle.std.specs.Option.{option_map, option_map_or, option_or, option_to_list}
+use Rattle.std.specs.Ordering.{int_eq}
 use Rattle.mpx_num.specs.Text.{number_text}
-use Rattle.mpx_num.specs.Types.{IsOutOfRange}
 use Rattle.mpx_num.specs.Wrapping.{into_range}
 use Rattle.mpx_num.specs.declared.operations.Op.{Op}
 use Rattle.mpx_num.specs.declared.operations.Op.TheVariants.{Sum, Prod}
@@ -12,7 +12,9 @@ use Rattle.mpx_num.specs.declared.types.Ty.TheVariants as T
 use Rattle.mpx_kind.specs.declared.kinds.Call.{Call}
 use Rattle.mpx_kind.specs.declared.kinds.Call.TheVariants as C
 use Rattle.mpx_kind.specs.declared.kinds.Reduction.{Reduction}
-use Rattle.mpx_kind.specs.declared.kinds.Reduction.TheVariants.{Scan, Exscan}
+use Rattle.mpx_kind.specs.declared.kinds.Reduction.TheVariants.{Reduce, ReduceScatterBlock, ReduceScatter, Scan, Exscan}
+use Rattle.mpx_post.specs.Agreement.{count_at}
+use Rattle.mpx_post.specs.Drafts.{is_count, is_of, naturals}
 use Rattle.mpx_post.specs.declared.draft.Draft.{Draft}
 use Rattle.mpx_statement.specs.Statements.{communicator_word, draft_of}
 use Rattle.mpx_statement.specs.declared.statement.Posting.TheVariants.{CreateGroup}
@@ -65,15 +67,26 @@ has_posted e rank place = is_some (posted_at e.statements rank place) && not (wa
 abbrev pub posts_of : Evaluated → (rank : ℕ) → List ℕ
 posts_of e rank = filter (has_posted e rank) (range_with_len 0 (length (slice_index_or e.statements rank [])))
 
+-- the same of each rank
+abbrev pub Posts : Type 0
+Posts = List (List ℕ)
+
+abbrev pub all_posts : Evaluated → Posts
+all_posts e = map (posts_of e) (range_with_len 0 (length e.statements))
+
+-- each rank has posted to the call of this number
+abbrev pub is_posted : Posts → (call : ℕ) → Bool
+is_posted posts call = list_all (λ (places : List ℕ). nat_lt call (length places)) posts
+
 -- WHAT THEY GIVE
 
--- the posts of each rank
-abbrev pub Posts : Type 0
-Posts = (rank : ℕ) → List ℕ
+-- the place of a rank's statement that has posted to the call of this number
+abbrev pub post_to : Posts → (call rank : ℕ) → Option ℕ
+post_to posts call rank = slice_get (slice_index_or posts rank []) call
 
--- what a rank posts to the call of this number
+-- what a rank posts to it
 abbrev pub draft_to : List (List Statement) → Posts → (call rank : ℕ) → Option Draft
-draft_to statements posts call rank = option_and_then (posted_at statements rank) (slice_get (posts rank) call)
+draft_to statements posts call rank = option_and_then (posted_at statements rank) (post_to posts call rank)
 
 -- which of its numbers has this index
 abbrev pub given_to : List (List Statement) → Posts → (call index rank : ℕ) → Option ℤ
@@ -95,35 +108,35 @@ abbrev pub reduction_in : Call → Option Reduction
 reduction_in (C.Reduction reduction mode) = Some reduction
 reduction_in call = None
 
--- each rank has posted to the call of this number, which is a sum or product of signed numbers, as rank 0 has it
-pub record IsSumOn (statements : List (List Statement)) (posts : Posts) (call : ℕ) (draft : Draft) (reduction : Reduction) : Type 0 where
-  pub each : (rank : ℕ) → rank < length statements → call < length (posts rank)
-  pub first : draft_to statements posts call 0 ≡ Some draft
-  pub reduces : reduction_in draft.call ≡ Some reduction
-  pub sums : is_summed draft.op ≡ true
-  pub signed : is_signed draft.ty ≡ true
+-- of which kind it is, where it is a sum or product of signed numbers, with counts within their limit
+abbrev pub summed_in : Draft → Option Reduction
+summed_in draft = cond ((is_signed draft.ty && is_summed draft.op) && list_all is_count draft.rcounts) (reduction_in draft.call) None
 
 -- EXACT SUMS AND PRODUCTS
 
--- whole numbers, which don't wrap
-abbrev pub combined_whole : Op → ℤ → ℤ → ℤ
-combined_whole Prod x y = x *ℤ y
-combined_whole op x y = x +ℤ y
+abbrev pub is_product : Op → Bool
+is_product Prod = true
+is_product op = false
+
+-- a whole number, where it has 128 bits with a sign
+abbrev pub kept : ℤ → Option ℤ
+kept (pos n) = cond (nat_lt n (2 ^ 127)) (Some (pos n)) None
+kept (negsuc n) = cond (nat_lt n (2 ^ 127)) (Some (negsuc n)) None
+
+-- two numbers, without wrapping. A sum past 128 bits isn't told: a rank gives numbers of 64
+abbrev pub combined_kept : (is_product : Bool) → ℤ → ℤ → Option ℤ
+combined_kept true x y = Some (x *ℤ y)
+combined_kept false x y = kept (x +ℤ y)
 
 -- a number that changes none
-abbrev pub neutral : Op → ℤ
-neutral Prod = pos 1
-neutral op = pos 0
+abbrev pub neutral : (is_product : Bool) → ℤ
+neutral true = pos 1
+neutral false = pos 0
 
 -- what the first so many ranks give, combined
-abbrev pub exact_upto : Op → (given : (rank : ℕ) → Option ℤ) → (ranks : ℕ) → Option ℤ
-exact_upto op given zero = Some (neutral op)
-exact_upto op given (suc rank) = option_and_then (λ before. option_map (combined_whole op before) (given rank)) (exact_upto op given rank)
-
--- what is known of a number: the number, or that it is past 128 bits
-abbrev pub IsKnownAs : Option ℤ → ℤ → Type 0
-IsKnownAs (Some z) whole = z ≡ whole
-IsKnownAs None whole = 2 ^ 127 ≤ unsigned_abs whole
+abbrev pub exact_upto : (is_product : Bool) → (given : (rank : ℕ) → Option ℤ) → (ranks : ℕ) → Option ℤ
+exact_upto is_product given zero = Some (neutral is_product)
+exact_upto is_product given (suc rank) = option_and_then (λ before. option_and_then (combined_kept is_product before) (given rank)) (exact_upto is_product given rank)
 
 -- of the first how many of so many ranks a rank gets what they give, combined
 abbrev pub taken : Reduction → (ranks rank : ℕ) → ℕ
@@ -131,25 +144,71 @@ taken Scan ranks rank = rank + 1
 taken Exscan ranks rank = rank
 taken reduction ranks rank = ranks
 
--- OVERFLOWS
+-- WHAT IS PAST ITS TYPE
 
--- a rank's statement is its post to a call that is a sum or product of signed numbers. What the ranks give at an index, as far as the rank gets it, comes to a
--- number that is past the type, be it told or past 128 bits
-pub record IsPast (statements : List (List Statement)) (posts : Posts) (rank statement : ℕ) (ty : Ty) (exact : Option ℤ) : Type 0 where
-  pub call : ℕ
-  pub own : slice_get (posts rank) call ≡ Some statement
-  pub draft : Draft
-  pub reduction : Reduction
-  pub reduced : IsSumOn statements posts call draft reduction
-  pub typed : ty ≡ draft.ty
-  pub index : ℕ
+-- from which number on a rank gets them, and up to which: of a reduction to a root that gets all, of a scattered one each rank its block
+abbrev pub bounds_of : Reduction → Draft → (rank : ℕ) → ℕ × ℕ
+bounds_of Reduce draft rank = (0, cond (int_eq draft.root (pos rank)) (length draft.items) 0)
+bounds_of ReduceScatterBlock draft rank = (rank * count_at (naturals draft.rcounts) 0, rank * count_at (naturals draft.rcounts) 0 + count_at (naturals draft.rcounts) 0)
+bounds_of ReduceScatter draft rank = (sum (take rank (naturals draft.rcounts)), sum (take rank (naturals draft.rcounts)) + count_at (naturals draft.rcounts) rank)
+bounds_of reduction draft rank = (0, length draft.items)
+
+-- a number, where it isn't one of the type
+abbrev pub past_type : Ty → Option ℤ → Option ℤ
+past_type ty None = None
+past_type ty (Some z) = cond (is_of ty z) None (Some z)
+
+-- the same of one with this index, where that is within these bounds
+abbrev pub past_there : Ty → (bounds : ℕ × ℕ) → (index : ℕ) → Option ℤ → Option ℤ
+past_there ty bounds index comes = cond (nat_le bounds.0 index && nat_lt index bounds.1) (past_type ty comes) None
+
+-- the first of so many numbers, within these bounds, that isn't one of the type
+abbrev pub first_past : Ty → (bounds : ℕ × ℕ) → (comes : (index : ℕ) → Option ℤ) → (numbers : ℕ) → Option ℤ
+first_past ty bounds comes zero = None
+first_past ty bounds comes (suc index) = option_or (first_past ty bounds comes index) (past_there ty bounds index (comes index))
+
+-- of a rank's result: at which statement, of which type, and what the first such number comes to
+pub record PastView : Type 0 where
+  pub rank : ℕ
+  pub statement : ℕ
+  pub ty : Ty
   pub whole : ℤ
-  pub comes : exact_upto draft.op (given_to statements posts call index) (taken reduction (length statements) rank) ≡ Some whole
-  pub known : IsKnownAs exact whole
-  pub past : IsOutOfRange ty whole
 
-abbrev pub IsOverflow : List (List Statement) → Posts → Overflow → Type 0
-IsOverflow statements posts o = IsPast statements posts o.rank o.statement o.ty o.exact
+-- the first number of a rank's result that is past its type, where rank 0 posts this to the call of this number. There are as many as rank 0 gives
+abbrev pub past_number : List (List Statement) → Posts → (call : ℕ) → Draft → Reduction → (rank : ℕ) → Option ℤ
+past_number statements posts call draft reduction rank =
+    first_past draft.ty (bounds_of reduction draft rank) (λ index. exact_upto (is_product draft.op) (given_to statements posts call index) (taken reduction (length statements) rank)) (length draft.items)
+
+abbrev pub past_at : (rank statement : ℕ) → Ty → ℤ → PastView
+past_at rank statement ty whole = record { rank = rank; statement = statement; ty = ty; whole = whole }
+
+abbrev pub past_by : List (List Statement) → Posts → (call : ℕ) → Draft → Reduction → (rank : ℕ) → List PastView
+past_by statements posts call draft reduction rank =
+    option_to_list (option_and_then (λ statement. option_map (past_at rank statement draft.ty) (past_number statements posts call draft reduction rank)) (post_to posts call rank))
+
+-- those of all ranks' results, in rank order
+abbrev pub past_in_row : List (List Statement) → Posts → (call : ℕ) → Draft → List PastView
+past_in_row statements posts call draft = option_map_or (λ reduction. flat_map (past_by statements posts call draft reduction) (range_with_len 0 (length statements))) (summed_in draft) []
+
+-- those of the call of this number, where each rank has posted to it
+abbrev pub past_in_call : List (List Statement) → Posts → (call : ℕ) → List PastView
+past_in_call statements posts call = cond (is_posted posts call) (option_map_or (past_in_row statements posts call) (draft_to statements posts call 0) []) []
+
+-- those of all calls, call by call
+abbrev pub all_past : List (List Statement) → Posts → List PastView
+all_past statements posts = flat_map (past_in_call statements posts) (range_with_len 0 (length (slice_index_or posts 0 [])))
+
+-- a number of 128 bits with a sign, or one that is further from 0
+abbrev pub IsKnownAs : Option ℤ → ℤ → Type 0
+IsKnownAs (Some z) whole = z ≡ whole
+IsKnownAs None whole = 2 ^ 127 ≤ unsigned_abs whole
+
+-- it is told, with the number that it comes to, or that this is past 128 bits
+pub record IsToldAs (o : Overflow) (p : PastView) : Type 0 where
+  pub rank : o.rank ≡ p.rank
+  pub statement : o.statement ≡ p.statement
+  pub typed : o.ty ≡ p.ty
+  pub known : IsKnownAs o.exact p.whole
 
 -- LINES
 
@@ -174,8 +233,8 @@ past_result_text ty (Some z) = past_text ty z ++ gives_text ty z
 abbrev pub overflow_text : (text : List ℕ) → Overflow → List ℕ
 overflow_text text o = start_text o.rank (line_at (lines_given o.rank text) o.statement) ++ past_result_text o.ty o.exact ++ codes "\n"
 
--- lines are told behind others: those of the first hundred overflows of such an evaluation, and one of how many more there are
+-- lines are told behind others: of all results that are past their types in such an evaluation the first hundred, and one of how many more there are
 pub record AreOverflows (text : List ℕ) (statements : List (List Statement)) (waiting : List WaitingView) (complaints unheard : List ComplaintView) (old new : List ℕ) : Type 0 where
   pub all : List Overflow
-  pub each : All (IsOverflow statements (posts_of (record { statements = statements; waiting = waiting; complaints = complaints; unheard = unheard }))) all
+  pub each : AllZip IsToldAs all (all_past statements (all_posts (record { statements = statements; waiting = waiting; complaints = complaints; unheard = unheard })))
   pub told : new ≡ (old ++ flat_map (overflow_text text) (take 100 all)) ++ more_text (length all - 100)

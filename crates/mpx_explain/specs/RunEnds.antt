@@ -1,10 +1,10 @@
 -- Where ranks wait in a run that ended early: by how each rank ended, and by what their own processes know.
-use Rattle.std.specs.Prelude.{◌≡◌, ℕ, zero, suc, ◌-◌, ◌&&◌, nat_le, nat_lt, Bool, false, cond, List, [], ◌∷◌, ◌++◌, codes, length, slice_get, slice_index_or, map, Option, Some, None, option_and_then, IsSomeAnd}
+use Rattle.std.specs.Prelude.{◌≡◌, ℕ, zero, suc, ◌-◌, ◌&&◌, ◌||◌, nat_le, nat_lt, Bool, false, cond, is_some, List, [], ◌∷◌, ◌++◌, codes, length, slice_get, slice_index_or, map, Option, Some, None, option_and_then}
 use Rattle.std.specs.Borrow.{Bor}
 use Rattle.std.specs.Fmt.{decimal}
-use Rattle.std.specs.List.{All, flat_map}
-use Rattle.std.specs.Option.{option_map, option_map_or, option_to_list}
-use Rattle.mpx_name.specs.Name.{Name}
+use Rattle.std.specs.List.{flat_map, list_any}
+use Rattle.std.specs.Option.{option_map, option_map_or, option_or, option_to_list}
+use Rattle.mpx_name.specs.Name.{Name, same_name}
 use Rattle.mpx_birth.specs.Births.{BirthView}
 use Rattle.mpx_post.specs.Posts.{Given}
 use Rattle.mpx_board.specs.Boards.{told}
@@ -20,9 +20,9 @@ use Rattle.mpx_eval.specs.Waiting.{MissingCallView, WaitingView}
 use Rattle.mpx_eval.specs.declared.missing.MissingMember.{MissingMember}
 use Rattle.mpx_waiting.specs.ToldLines.{line_at, members_text, place_of, start_text, waiting_told, word_in}
 use Rattle.mpx_explain.specs.declared.ended.EndedRun.{EndedRun}
-use Rattle.mpx_explain.specs.declared.ends.EarlierCall.{EarlierCall}
+use Rattle.mpx_explain.specs.declared.end_lines.Placed.{Placed}
 use Rattle.mpx_explain.specs.declared.ends.RunEnd.{RunEnd}
-use Rattle.mpx_explain.specs.declared.ends.Waiter.{Waiter}
+use Rattle.mpx_explain.specs.declared.firsts.EarlierCall.{EarlierCall}
 
 -- WHERE A RANK WAITS
 
@@ -36,10 +36,6 @@ waits_in run rank = option_and_then (λ (end : RankEnd). (end_view end).waits) (
 -- the place of the statement at which so many are left
 abbrev pub place_with : EndedRun → (rank : ℕ) → WaitsAtView → ℕ
 place_with run rank w = length (statements_of_rank run rank) - w.left
-
--- that of the statement at which a rank waits, if it does
-abbrev pub waiting_place : EndedRun → (rank : ℕ) → Option ℕ
-waiting_place run rank = option_map (place_with run rank) (waits_in run rank)
 
 -- WHOSE POSTS A BOARD LACKS
 
@@ -88,9 +84,43 @@ abbrev pub calls_of : EndedRun → Option NodeView → List Asked → List Missi
 calls_of run None asked = []
 calls_of run (Some node) asked = flat_map (lacking_of run node) asked
 
--- a process has no result of a call, and its board lacks the posts of just these members
-abbrev pub IsLacking : EndedRun → NodeView → MissingCallView → Type 0
-IsLacking run node c = lacking_at run node c.request c.name c.call ≡ Some c
+-- WHICH CALL COMES FIRST
+
+-- of the first so many calls on a context the first one of which a process has no result, and whose posts its board lacks
+abbrev pub first_lacking : EndedRun → NodeView → Name → (calls : ℕ) → Option MissingCallView
+first_lacking run node name zero = None
+first_lacking run node name (suc call) = option_or (first_lacking run node name call) (lacking_at run node None name call)
+
+-- a rank that waits, the place of its statement, and an earlier call that comes first
+pub record FirstView : Type 0 where
+  pub rank : ℕ
+  pub statement : ℕ
+  pub call : MissingCallView
+
+abbrev pub first_at : (place : ℕ × ℕ) → MissingCallView → FirstView
+first_at place call = record { rank = place.0; statement = place.1; call = call }
+
+-- one of these is on this context
+abbrev pub is_told_on : Name → List FirstView → Bool
+is_told_on name told = list_any (λ (f : FirstView). same_name f.call.name name) told
+
+-- what comes before a call that is asked for: nothing where that lacks posts itself, or where one on its context is told already
+abbrev pub before_asked : EndedRun → NodeView → (told : List FirstView) → Asked → Option MissingCallView
+before_asked run node told a = cond (is_some (lacking_at run node a.0 a.1.0 a.1.1) || is_told_on a.1.0 told) None (first_lacking run node a.1.0 a.1.1)
+
+-- behind those that are told, what comes before one that is asked for at this place
+abbrev pub with_first : EndedRun → NodeView → (place : ℕ × ℕ) → (told : List FirstView) → Asked → List FirstView
+with_first run node place told a = told ++ option_to_list (option_map (first_at place) (before_asked run node told a))
+
+-- and what comes before these: of each context one
+abbrev pub with_firsts : EndedRun → NodeView → (place : ℕ × ℕ) → (told : List FirstView) → List Asked → List FirstView
+with_firsts run node place told [] = told
+with_firsts run node place told (a ∷ asked) = with_firsts run node place (with_first run node place told a) asked
+
+-- those that come before the calls that a rank with this process asks for
+abbrev pub firsts_of : EndedRun → (place : ℕ × ℕ) → Option NodeView → List Asked → List FirstView
+firsts_of run place None asked = []
+firsts_of run place (Some node) asked = with_firsts run node place [] asked
 
 -- WHO WAITS
 
@@ -98,41 +128,47 @@ IsLacking run node c = lacking_at run node c.request c.name c.call ≡ Some c
 abbrev pub waits_at : EndedRun → (rank : ℕ) → WaitsAtView → WaitingView
 waits_at run rank w = record { rank = rank; statement = place_with run rank w; calls = calls_of run (process_of run rank) w.calls }
 
--- the same, if it waits
-abbrev pub waits_of : EndedRun → (rank : ℕ) → List WaitingView
-waits_of run rank = option_to_list (option_map (waits_at run rank) (waits_in run rank))
+-- the calls that come first where a rank waits
+abbrev pub firsts_at : EndedRun → (rank : ℕ) → WaitsAtView → List FirstView
+firsts_at run rank w = firsts_of run (rank, place_with run rank w) (process_of run rank) w.calls
+
+-- a place, where a rank asks there for calls, none of them lacks posts, and none comes first
+abbrev pub served_by : (place : ℕ × ℕ) → List Asked → List MissingCallView → List FirstView → List (ℕ × ℕ)
+served_by place [] lacking firsts = []
+served_by place (a ∷ asked) [] [] = place ∷ []
+served_by place (a ∷ asked) [] (first ∷ firsts) = []
+served_by place (a ∷ asked) (call ∷ lacking) firsts = []
+
+-- a place, where a rank asks there for no call's outcome
+abbrev pub unmade_by : (place : ℕ × ℕ) → List Asked → List (ℕ × ℕ)
+unmade_by place [] = place ∷ []
+unmade_by place (a ∷ asked) = []
+
+abbrev pub served_at : EndedRun → (rank : ℕ) → WaitsAtView → List (ℕ × ℕ)
+served_at run rank w = served_by (rank, place_with run rank w) w.calls (calls_of run (process_of run rank) w.calls) (firsts_at run rank w)
+
+abbrev pub unmade_at : EndedRun → (rank : ℕ) → WaitsAtView → List (ℕ × ℕ)
+unmade_at run rank w = unmade_by (rank, place_with run rank w) w.calls
+
+-- what is told of a rank, if it waits
+abbrev pub told_of : {A : Type 0} → EndedRun → (rank : ℕ) → (told : WaitsAtView → List A) → List A
+told_of run rank told = option_map_or told (waits_in run rank) []
 
 -- of the first so many ranks, in their order
-abbrev pub waiting_upto : EndedRun → (ranks : ℕ) → List WaitingView
-waiting_upto run zero = []
-waiting_upto run (suc n) = waiting_upto run n ++ waits_of run n
+abbrev pub told_upto : {A : Type 0} → EndedRun → (told : (rank : ℕ) → WaitsAtView → List A) → (ranks : ℕ) → List A
+told_upto run told zero = []
+told_upto run told (suc n) = told_upto run told n ++ told_of run n (told n)
 
--- a rank waits there, and of an earlier call its board lacks posts
-pub record ComesFirst (run : EndedRun) (e : EarlierCall) : Type 0 where
-  pub waits : waiting_place run e.rank ≡ Some e.statement
-  pub lacks : IsSomeAnd (process_of run e.rank) (λ (node : NodeView). IsLacking run node (missing_view e.call))
+abbrev pub first_view : EarlierCall → FirstView
+first_view e = record { rank = e.rank; statement = e.statement; call = missing_view e.call }
 
--- a rank waits there, for no call whose posts its board lacks
-abbrev pub IsServed : EndedRun → ℕ × ℕ → Type 0
-IsServed run place = waits_of run place.0 ≡ record { rank = place.0; statement = place.1; calls = [] } ∷ []
-
--- a rank stands there, and asks for no call's outcome
-pub record IsUnmade (run : EndedRun) (place : ℕ × ℕ) : Type 0 where
-  pub there : waiting_place run place.0 ≡ Some place.1
-  pub none : IsSomeAnd (waits_in run place.0) (λ (w : WaitsAtView). w.calls ≡ [])
-
--- those are told that wait in a run, in rank order, each at its statement with just those of the calls that are asked for there whose posts the rank's own board
--- lacks, and whose; and all posts have come at those alone that are told with no such call
+-- just those are told that wait in a run, in rank order, each at its statement with just those of the calls that are asked for there whose posts the rank's own
+-- board lacks, and whose; with the calls that come first; the ranks that ask for calls and lack no post of these, and of none that comes first; and those that ask for none
 pub record TellsRun (run : EndedRun) (end : RunEnd) : Type 0 where
-  pub waiting : map waiting_view end.waiting.items ≡ waiting_upto run run.script.now.ranks
-  pub earlier : All (ComesFirst run) end.earlier.items
-  pub served : All (IsServed run) end.served.items
-  pub unmade : All (IsUnmade run) end.unmade.items
-
--- this rank waits at this statement, and this is its process
-pub record Waits (w : Waiter) : Type 0 where
-  pub there : waiting_place w.run.now w.rank ≡ Some w.statement
-  pub own : slice_get w.run.now.nodes.now w.rank ≡ Some w.node
+  pub waiting : map waiting_view end.waiting.items ≡ told_upto run (λ rank w. waits_at run rank w ∷ []) run.script.now.ranks
+  pub earlier : map first_view end.earlier.items ≡ told_upto run (firsts_at run) run.script.now.ranks
+  pub served : end.served.items ≡ told_upto run (served_at run) run.script.now.ranks
+  pub unmade : end.unmade.items ≡ told_upto run (unmade_at run) run.script.now.ranks
 
 -- LINES
 
@@ -140,23 +176,32 @@ pub record Waits (w : Waiter) : Type 0 where
 abbrev pub line_words : (text : List ℕ) → (line : ℕ) → List ℕ
 line_words text line = word_in text line 1 ++ codes " " ++ word_in text line 2
 
--- its line and its number
-abbrev pub number_words : (line call : ℕ) → List ℕ
-number_words line call = codes " of line " ++ decimal line ++ codes ", call " ++ decimal call ++ codes ": waits for "
+-- the same of the statement that made an earlier call, and its line, where it is known
+abbrev pub made_words : (text : List ℕ) → (made : Option ℕ) → List ℕ
+made_words text None = []
+made_words text (Some line) = line_words text line ++ codes " of line " ++ decimal line ++ codes ", "
 
--- a rank that waits at a line, the line of the statement that made an earlier call, and whose posts of that are lacking
+-- its number
+abbrev pub number_words : (call : ℕ) → List ℕ
+number_words call = codes "call " ++ decimal call ++ codes ": waits for "
+
+-- a rank that waits at a line, the line of the statement that made an earlier call, where it is known, and whose posts of that are lacking
 pub record EarlierView : Type 0 where
   pub rank : ℕ
   pub line : ℕ
-  pub made : ℕ
+  pub made : Option ℕ
   pub call : MissingCallView
 
 abbrev pub earlier_view : (text : List ℕ) → EarlierCall → EarlierView
-earlier_view text e = record { rank = e.rank; line = line_at (lines_given e.rank text) e.statement; made = line_at (lines_given e.rank text) e.made; call = missing_view e.call }
+earlier_view text e = record { rank = e.rank; line = line_at (lines_given e.rank text) e.statement; made = option_map (line_at (lines_given e.rank text)) e.made; call = missing_view e.call }
+
+-- what the program's value shows of it
+abbrev pub placed_view : Placed → EarlierView
+placed_view p = record { rank = p.rank; line = p.line; made = p.made; call = missing_view p.call.now }
 
 -- an earlier call by the line of its statement, and whose posts of it are lacking
-abbrev pub first_text : (text : List ℕ) → (places : List (ℕ × ℕ)) → (made : ℕ) → MissingCallView → List ℕ
-first_text text places made c = codes "first comes " ++ line_words text made ++ number_words made c.call ++ members_text places c.missing ++ codes "\n"
+abbrev pub first_text : (text : List ℕ) → (places : List (ℕ × ℕ)) → (made : Option ℕ) → MissingCallView → List ℕ
+first_text text places made c = codes "first comes " ++ made_words text made ++ number_words c.call ++ members_text places c.missing ++ codes "\n"
 
 abbrev pub earlier_text : (text : List ℕ) → (places : List (ℕ × ℕ)) → EarlierView → List ℕ
 earlier_text text places e = start_text e.rank e.line ++ first_text text places e.made e.call

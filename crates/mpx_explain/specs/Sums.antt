@@ -1,36 +1,63 @@
 -- Exact sums and products in the making, by the program's values.
-use Rattle.std.specs.Prelude.{◌≡◌, ℕ, ◌<◌, List, [], Vec, length, slice_get, slice_index_or, Option, Some, None, ℤ}
-use Rattle.std.specs.Option.{option_map_or}
-use Rattle.mpx_num.specs.declared.operations.Op.{Op}
+use Rattle.std.specs.Prelude.{◌≡◌, ℕ, ◌<◌, ◌≤◌, ◌^◌, Bool, true, false, List, ◌++◌, Vec, length, map, slice_get, slice_index_or, Option, Some, None, option_and_then, ℤ, unsigned_abs, IsSomeAnd}
+use Rattle.std.specs.List.{AllZip, flat_map, range_with_len}
 use Rattle.mpx_statement.specs.declared.statement.Statement.{Statement}
-use Rattle.mpx_explain.specs.Overflows.{IsKnownAs, IsSumOn, Posts, combined_whole, exact_upto, given_to}
+use Rattle.mpx_explain.specs.Overflows.{IsToldAs, PastView, Posts, combined_kept, draft_to, exact_upto, given_to, is_posted, is_product, past_by, summed_in, taken}
+use Rattle.mpx_explain.specs.declared.exact.Exact.{Exact}
+use Rattle.mpx_explain.specs.declared.exact.Exact.TheVariants.{Number, Far, Unknown}
+use Rattle.mpx_explain.specs.declared.overflows.Overflow.{Overflow}
 use Rattle.mpx_explain.specs.declared.past.Row.{Row}
 
--- a number that is known so is combined with the one given
-pub record IsAdded (op : Op) (given : Option ℤ) (before after : Option ℤ) : Type 0 where
-  pub number : ℤ
-  pub gives : given ≡ Some number
-  pub known : (b : ℤ) → IsKnownAs before b → IsKnownAs after (combined_whole op b number)
+-- it is what numbers come to; of a product perhaps that this is past 128 bits
+abbrev pub IsExact : (is_product : Bool) → Exact → (comes : Option ℤ) → Type 0
+IsExact is_product (Number z) comes = comes ≡ Some z
+IsExact is_product Unknown comes = comes ≡ None
+IsExact true Far comes = IsSomeAnd comes (λ whole. 2 ^ 127 ≤ unsigned_abs whole)
+IsExact false Far comes = ⊥
 
--- each of the numbers is
-pub record AreAdded (op : Op) (given : List ℤ) (old new : List (Option ℤ)) : Type 0 where
+-- what numbers come to with the one that is given
+abbrev pub with_given : (is_product : Bool) → (comes given : Option ℤ) → Option ℤ
+with_given is_product comes given = option_and_then (λ before. option_and_then (combined_kept is_product before) given) comes
+
+-- each is combined with the number at its place
+pub record AreCombined (is_product : Bool) (given : List ℤ) (old new : List Exact) : Type 0 where
   pub len : length new ≡ length old
-  pub each : (index : ℕ) → index < length old → IsAdded op (slice_get given index) (slice_index_or old index None) (slice_index_or new index None)
+  pub each : (index : ℕ) → index < length old → (comes : Option ℤ) → IsExact is_product (slice_index_or old index Unknown) comes → IsExact is_product (slice_index_or new index Unknown) (with_given is_product comes (slice_get given index))
 
--- what is known of what the first so many ranks give, combined
-pub record ComesTo (op : Op) (given : (rank : ℕ) → Option ℤ) (ranks : ℕ) (exact : Option ℤ) : Type 0 where
-  pub whole : ℤ
-  pub comes : exact_upto op given ranks ≡ Some whole
-  pub known : IsKnownAs exact whole
-
--- the same of each of the numbers that each rank gives
-abbrev pub AreUpto : Op → (given : (index rank : ℕ) → Option ℤ) → (ranks : ℕ) → List (Option ℤ) → Type 0
-AreUpto op given ranks sums = (index : ℕ) → index < length sums → ComesTo op (given index) ranks (slice_index_or sums index None)
-
--- the posts of each rank, as these lists have them
+-- of each rank the places of its posts
 abbrev pub posts_in : {Z : Type 0} → List (Vec ℕ Z) → Posts
-posts_in all rank = option_map_or (λ posts. posts.items) (slice_get all rank) []
+posts_in all = map (λ posts. posts.items) all
 
--- a call that is a sum or product of signed numbers, by these posts
-abbrev pub IsRow : Row → Type 0
-IsRow row = IsSumOn row.script.now.statements (posts_in row.posts.now) row.call row.draft.now row.reduction
+abbrev pub statements_in : Row → List (List Statement)
+statements_in row = row.script.now.statements
+
+-- each rank has posted to the call; rank 0 posts this to it, a sum or product of signed numbers
+pub record IsRow (row : Row) : Type 0 where
+  pub posted : is_posted (posts_in row.posts.now) row.call ≡ true
+  pub draft : draft_to (statements_in row) (posts_in row.posts.now) row.call 0 ≡ Some row.draft.now
+  pub reduces : summed_in row.draft.now ≡ Some row.reduction
+
+-- what is past its type of a rank's result
+abbrev pub past_for : Row → (rank : ℕ) → List PastView
+past_for row rank = past_by (statements_in row) (posts_in row.posts.now) row.call row.draft.now row.reduction rank
+
+-- the same of the first so many ranks
+abbrev pub past_upto : Row → (ranks : ℕ) → List PastView
+past_upto row ranks = flat_map (past_for row) (range_with_len 0 ranks)
+
+-- how many ranks count for a rank
+abbrev pub taken_by : Row → (rank : ℕ) → ℕ
+taken_by row rank = taken row.reduction (length (statements_in row)) rank
+
+-- what the first so many ranks give at an index comes to
+abbrev pub comes_to : Row → (ranks index : ℕ) → Option ℤ
+comes_to row ranks index = exact_upto (is_product row.draft.now.op) (given_to (statements_in row) (posts_in row.posts.now) row.call index) ranks
+
+-- they are what the first so many ranks give, combined
+pub record AreUpto (row : Row) (ranks : ℕ) (sums : List Exact) : Type 0 where
+  pub len : length sums ≡ length row.draft.now.items
+  pub each : (index : ℕ) → index < length sums → IsExact (is_product row.draft.now.op) (slice_index_or sums index Unknown) (comes_to row ranks index)
+
+-- behind those that are told these are
+abbrev pub AreTold : (more : List PastView) → (old new : List Overflow) → Type 0
+AreTold more old new = (told : List PastView) → AllZip IsToldAs old told → AllZip IsToldAs new (told ++ more)

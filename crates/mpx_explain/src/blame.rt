@@ -217,6 +217,7 @@ fn misfit_place(words: &[&str]) -> Option<usize> {
     match misfit_of(form_of(words.get(1)?)?, words)? {
         Misfit::Missing(_, place)
         | Misfit::Surplus(place)
+        | Misfit::Parted(place)
         | Misfit::Joined(place)
         | Misfit::Instead(place) => Some(place),
     }

@@ -1,7 +1,7 @@
 //! What is told of a refused line beside its refusal: which word is missing, one too many or wrong, and what was meant, perhaps.
 
 use crate::blame::{Line, line_in, missing_beside_type, missing_part, place_of};
-use crate::forms::{Form, Misfit, form_of, misfit_of};
+use crate::forms::{Form, Misfit, form_of, goes_on, misfit_of};
 use crate::meant::meant;
 use crate::size::push_value;
 use crate::unknown_names::unknown_name;
@@ -141,12 +141,26 @@ fn push_misfit(words: &[&str], misfit: Misfit, told: &mut String) -> Result<(), 
             told.push_str("a word too many")?;
             push_shown(words, place, ": ", told)
         }
+        Misfit::Parted(place) => push_list(words, place, told),
         Misfit::Joined(_) => Ok(told.push_str("a blank is missing behind ->")?),
         Misfit::Instead(place) => {
             told.push_str("-> belongs in place of the word")?;
             push_shown(words, place, " ", told)
         }
     }
+}
+
+// Adds how a list is given that goes on at this place, behind a blank.
+fn push_list(words: &[&str], place: usize, told: &mut String) -> Result<(), OutOfMemory> {
+    told.push_str("a list has no blanks in it")?;
+    push_shown(words, place.saturating_sub(1), ": ", told)?;
+    for at in place..words.len() {
+        if !goes_on(words, at) {
+            return Ok(());
+        }
+        push_shown(words, at, "", told)?;
+    }
+    Ok(())
 }
 
 // Adds the word at this place of a line, where it can be shown.

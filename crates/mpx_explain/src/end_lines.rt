@@ -1,13 +1,15 @@
 //! The lines that tell where ranks wait at the end of a run.
-ghost use Rattle.std.specs.Prelude.{◌≡◌, ◌++◌, OnOk, map};
+ghost use Rattle.std.specs.Prelude.{◌≡◌, ◌++◌, OnOk, Some, map};
 ghost use Rattle.std.specs.Fmt.{decimal};
 ghost use Rattle.std.specs.List.{flat_map};
+ghost use Rattle.std.specs.Option.{option_map};
 ghost use Rattle.mpx_eval.specs.Found.{missing_view, waiting_view};
-ghost use Rattle.mpx_waiting.specs.ToldLines.{place_of};
-ghost use Rattle.mpx_explain.specs.RunEnds.{IsRunTold, earlier_text, earlier_view, first_text, line_words, number_words, run_text, standing_text};
+ghost use Rattle.mpx_waiting.specs.ToldLines.{line_at, place_of};
+ghost use Rattle.mpx_explain.specs.RunEnds.{IsRunTold, earlier_text, earlier_view, first_text, line_words, made_words, number_words, placed_view, run_text, standing_text};
 
 use crate::ended::EndedRun;
-use crate::ends::{EarlierCall, RunEnd, run_end};
+use crate::ends::{RunEnd, run_end};
+use crate::firsts::EarlierCall;
 use join_core::OutOfMemory;
 use mpx_eval::{MissingCall, WaitingRank};
 use mpx_script::{statement_lines, words_of_line};
@@ -94,25 +96,47 @@ fn push_line(
 {
     let numbers = statement_lines(alloc, text, one.rank)?;
     let line = line_at(numbers.as_slice(), one.statement);
-    let made = line_at(numbers.as_slice(), one.made);
-    push_where(alloc, text, places, one.rank, line, made, &one.call, told)
+    let made = made_line(numbers.as_slice(), one.made);
+    let placed = Placed {
+        rank: one.rank,
+        line,
+        made,
+        call: &one.call,
+    };
+    push_placed(alloc, text, places, &placed, told)
+}
+
+/// An earlier call by the lines of its rank's statements: that at which the rank waits, and that of the one that made it, where it is known.
+#[derive(Clone, Copy, Drop)]
+pub(crate) struct Placed<'e> {
+    rank: u8,
+    line: u32,
+    made: Option<u32>,
+    call: &'e MissingCall,
+}
+
+// The line of a statement, where it is known.
+fn made_line(numbers: &[u32], made: Option<usize>) -> Option<u32>
+    ensures { result ≡ option_map (line_at numbers.now) made }
+{
+    match made {
+        Some(made) => Some(line_at(numbers, made)),
+        None => None,
+    }
 }
 
 // Adds a rank at a line, and the call that comes first.
-fn push_where(
+fn push_placed(
     alloc: Global,
     text: &[u8],
     places: &[(u8, u32)],
-    rank: u8,
-    line: u32,
-    made: u32,
-    call: &MissingCall,
+    placed: &Placed<'_>,
     told: &mut Vec<u8>,
 ) -> Result<(), OutOfMemory>
-    ensures { OnOk result (told.new.items ≡ told.old.items ++ earlier_text text.now places.now (record { rank = rank; line = line; made = made; call = missing_view call.now })) }
+    ensures { OnOk result (told.new.items ≡ told.old.items ++ earlier_text text.now places.now (placed_view placed.now)) }
 {
-    push_start(alloc, rank, line, told)?;
-    push_first(alloc, text, places, made, call, told)
+    push_start(alloc, placed.rank, placed.line, told)?;
+    push_first(alloc, text, places, placed.made, placed.call, told)
 }
 
 // Adds the call of the statement that stands in a line, and whose posts of it are lacking.
@@ -120,17 +144,47 @@ fn push_first(
     alloc: Global,
     text: &[u8],
     places: &[(u8, u32)],
-    made: u32,
+    made: Option<u32>,
     call: &MissingCall,
     told: &mut Vec<u8>,
 ) -> Result<(), OutOfMemory>
     ensures { OnOk result (told.new.items ≡ told.old.items ++ first_text text.now places.now made (missing_view call.now)) }
 {
     told.extend_from_slice(b"first comes ")?;
-    push_words(text, made, told)?;
-    push_number(alloc, made, call.call, told)?;
+    push_made(alloc, text, made, told)?;
+    push_number(alloc, call.call, told)?;
     push_members(alloc, places, call.missing.as_slice(), told)?;
     told.extend_from_slice(b"\n")?;
+    Ok(())
+}
+
+// Adds the words of the statement that made a call, and its line, where it is known.
+fn push_made(
+    alloc: Global,
+    text: &[u8],
+    made: Option<u32>,
+    told: &mut Vec<u8>,
+) -> Result<(), OutOfMemory>
+    ensures { OnOk result (told.new.items ≡ told.old.items ++ made_words text.now made) }
+{
+    match made {
+        Some(line) => push_made_at(alloc, text, line, told),
+        None => Ok(()),
+    }
+}
+
+fn push_made_at(
+    alloc: Global,
+    text: &[u8],
+    line: u32,
+    told: &mut Vec<u8>,
+) -> Result<(), OutOfMemory>
+    ensures { OnOk result (told.new.items ≡ told.old.items ++ made_words text.now (Some line)) }
+{
+    push_words(text, line, told)?;
+    told.extend_from_slice(b" of line ")?;
+    push_decimal(alloc, told, line)?;
+    told.extend_from_slice(b", ")?;
     Ok(())
 }
 
@@ -145,13 +199,11 @@ fn push_words(text: &[u8], line: u32, told: &mut Vec<u8>) -> Result<(), OutOfMem
     Ok(())
 }
 
-// Adds the line and the number of a call.
-fn push_number(alloc: Global, line: u32, call: u32, told: &mut Vec<u8>) -> Result<(), OutOfMemory>
-    ensures { OnOk result (told.new.items ≡ told.old.items ++ number_words line call) }
+// Adds the number of a call.
+fn push_number(alloc: Global, call: u32, told: &mut Vec<u8>) -> Result<(), OutOfMemory>
+    ensures { OnOk result (told.new.items ≡ told.old.items ++ number_words call) }
 {
-    told.extend_from_slice(b" of line ")?;
-    push_decimal(alloc, told, line)?;
-    told.extend_from_slice(b", call ")?;
+    told.extend_from_slice(b"call ")?;
     push_decimal(alloc, told, call)?;
     told.extend_from_slice(b": waits for ")?;
     Ok(())

@@ -1,20 +1,19 @@
 //! Where ranks wait at the end of a run that ended early, and whose posts they lack by what their own boards hold.
-ghost use Rattle.std.specs.Prelude.{◌≡◌, ◌++◌, ◌∷◌, [], IfOk, IfSome, OnOk, Some, map};
-ghost use Rattle.std.specs.List.{All, flat_map};
+ghost use Rattle.std.specs.Prelude.{◌≡◌, ◌-◌, ◌++◌, ◌∷◌, [], ℕ, IfOk, OnOk, cond, length, map};
+ghost use Rattle.std.specs.List.{flat_map};
 ghost use Rattle.std.specs.Option.{option_copied, option_map};
 ghost use Rattle.mpx_node.specs.Shown.{node_of};
 ghost use Rattle.mpx_meaning.specs.Ends.{asked_view, waits_at_view};
 ghost use Rattle.mpx_eval.specs.Found.{missing_view, waiting_view};
-ghost use Rattle.mpx_explain.specs.RunEnds.{ComesFirst, IsLacking, IsServed, IsUnmade, TellsRun, Waits, calls_of, lacking_of, process_of, waiting_place, waits_at, waits_in, waits_of};
+ghost use Rattle.mpx_explain.specs.Firsts.{HasLooked};
+ghost use Rattle.mpx_explain.specs.RunEnds.{TellsRun, calls_of, first_view, firsts_at, firsts_of, lacking_of, process_of, served_at, served_by, statements_of_rank, told_of, unmade_at, waits_at, waits_in, with_first, with_firsts};
 
 use crate::ended::{EndedRun, end_at, node_at};
+use crate::firsts::{EarlierCall, Firsts, Waiter, push_before};
 use crate::lacking::lacking_call;
-use crate::made::made_at;
-use join_core::{Exact, OutOfMemory};
+use join_core::OutOfMemory;
 use mpx_eval::{MissingCall, WaitingRank};
 use mpx_meaning::{AskedCall, WaitsAt};
-use mpx_name::Name;
-use mpx_node::Node;
 use std::alloc::Global;
 use std::collections::BTreeMap;
 
@@ -29,17 +28,6 @@ pub struct RunEnd {
     pub served: Vec<(u8, usize)>,
     /// Those of them that ask for no call's outcome, as they have not come to that statement; of threads alone.
     pub unmade: Vec<(u8, usize)>,
-}
-
-/// An earlier call on the communicator of a call that a rank waits for: its result comes first, and the rank's board lacks posts of it.
-#[derive(Drop)]
-pub struct EarlierCall {
-    pub rank: u8,
-    /// The place of the statement at which the rank waits.
-    pub statement: usize,
-    /// The place of the statement that made the earlier call.
-    pub made: usize,
-    pub call: MissingCall,
 }
 
 /// Where ranks wait at the end of a run, in rank order.
@@ -65,10 +53,10 @@ fn push_rank(
     rank: u8,
     end: &mut RunEnd,
 ) -> Result<(), OutOfMemory>
-    ensures waiting { OnOk result (map waiting_view end.new.waiting.items ≡ map waiting_view end.old.waiting.items ++ waits_of run.now rank) }
-    ensures earlier { OnOk result (All (ComesFirst run.now) end.old.earlier.items → All (ComesFirst run.now) end.new.earlier.items) }
-    ensures served { OnOk result (All (IsServed run.now) end.old.served.items → All (IsServed run.now) end.new.served.items) }
-    ensures unmade { OnOk result (All (IsUnmade run.now) end.old.unmade.items → All (IsUnmade run.now) end.new.unmade.items) }
+    ensures waiting { OnOk result (map waiting_view end.new.waiting.items ≡ map waiting_view end.old.waiting.items ++ told_of run.now rank (λ w. waits_at run.now rank w ∷ [])) }
+    ensures earlier { OnOk result (map first_view end.new.earlier.items ≡ map first_view end.old.earlier.items ++ told_of run.now rank (firsts_at run.now rank)) }
+    ensures served { OnOk result (end.new.served.items ≡ end.old.served.items ++ told_of run.now rank (served_at run.now rank)) }
+    ensures unmade { OnOk result (end.new.unmade.items ≡ end.old.unmade.items ++ told_of run.now rank (unmade_at run.now rank)) }
 {
     match waits_in(run, rank) {
         Some(waits) => push_waiting(alloc, run, rank, waits, end),
@@ -94,200 +82,133 @@ fn push_waiting(
     waits: &WaitsAt,
     end: &mut RunEnd,
 ) -> Result<(), OutOfMemory>
-    requires { waits_in run.now rank ≡ Some (waits_at_view waits.now) }
     ensures waiting { OnOk result (map waiting_view end.new.waiting.items ≡ map waiting_view end.old.waiting.items ++ waits_at run.now rank (waits_at_view waits.now) ∷ []) }
-    ensures earlier { OnOk result (All (ComesFirst run.now) end.old.earlier.items → All (ComesFirst run.now) end.new.earlier.items) }
-    ensures served { OnOk result (All (IsServed run.now) end.old.served.items → All (IsServed run.now) end.new.served.items) }
-    ensures unmade { OnOk result (All (IsUnmade run.now) end.old.unmade.items → All (IsUnmade run.now) end.new.unmade.items) }
+    ensures earlier { OnOk result (map first_view end.new.earlier.items ≡ map first_view end.old.earlier.items ++ firsts_at run.now rank (waits_at_view waits.now)) }
+    ensures served { OnOk result (end.new.served.items ≡ end.old.served.items ++ served_at run.now rank (waits_at_view waits.now)) }
+    ensures unmade { OnOk result (end.new.unmade.items ≡ end.old.unmade.items ++ unmade_at run.now rank (waits_at_view waits.now)) }
 {
-    let many = end.earlier.len();
-    let waiting = waiting_rank(alloc, run, rank, waits, &mut end.earlier)?;
-    let is_served = waiting.calls.is_empty() && end.earlier.len() == many;
-    let place = (rank, waiting.statement);
-    end.waiting.push(waiting)?;
-    if waits.calls.is_empty() {
-        end.unmade.push(place)?;
-    } else if is_served {
-        end.served.push(place)?;
+    let asked = waits.calls.as_slice();
+    let statement = statement_with(run, rank, waits.left);
+    let mut firsts = Vec::new(alloc);
+    let calls = calls_at(alloc, run, (rank, statement), asked, &mut firsts)?;
+    let served = is_served(asked, calls.as_slice(), firsts.as_slice());
+    end.waiting.push(WaitingRank {
+        rank,
+        statement,
+        calls,
+    })?;
+    end.earlier.append(&mut firsts)?;
+    push_where(served, (rank, statement), &mut end.served)?;
+    push_where(asked.is_empty(), (rank, statement), &mut end.unmade)?;
+    Ok(())
+}
+
+// The place of the statement at which so many are left.
+fn statement_with(run: &EndedRun<'_>, rank: u8, left: usize) -> usize
+    ensures { result ≡ length (statements_of_rank run.now rank) - left }
+{
+    run.script.statements(rank).len().saturating_sub(left)
+}
+
+// Whether calls are asked for, none of them lacks posts, and none comes first.
+fn is_served(asked: &[AskedCall], calls: &[MissingCall], firsts: &[EarlierCall]) -> bool
+    ensures { (place : ℕ × ℕ) → cond result (place ∷ []) [] ≡ served_by place (map asked_view asked.now) (map missing_view calls.now) (map first_view firsts.now) }
+{
+    let is_unasked = asked.is_empty();
+    if is_unasked {
+        return false;
+    }
+    let is_held = calls.is_empty();
+    if is_held { firsts.is_empty() } else { false }
+}
+
+// Adds a place where this is so.
+fn push_where(
+    is_so: bool,
+    place: (u8, usize),
+    places: &mut Vec<(u8, usize)>,
+) -> Result<(), OutOfMemory>
+    ensures { OnOk result (places.new.items ≡ places.old.items ++ cond is_so (place ∷ []) []) }
+{
+    if is_so {
+        places.push(place)?;
     }
     Ok(())
 }
 
-// A rank that waits, with the calls of which its board lacks posts. Earlier ones that come first are added to these.
-fn waiting_rank(
-    alloc: Global,
-    run: &EndedRun<'_>,
-    rank: u8,
-    waits: &WaitsAt,
-    earlier: &mut Vec<EarlierCall>,
-) -> Result<WaitingRank, OutOfMemory>
-    requires { waits_in run.now rank ≡ Some (waits_at_view waits.now) }
-    ensures waiting { IfOk result (λ waiting. waiting_view waiting ≡ waits_at run.now rank (waits_at_view waits.now)) }
-    ensures earlier { OnOk result (All (ComesFirst run.now) earlier.old.items → All (ComesFirst run.now) earlier.new.items) }
-{
-    let statement = run.script.statements(rank).len().saturating_sub(waits.left);
-    let calls = calls_at(alloc, run, rank, statement, &waits.calls, earlier)?;
-    Ok(WaitingRank {
-        rank,
-        statement,
-        calls,
-    })
-}
-
-// Those of these calls of which the rank's node has no result and its board lacks posts.
+// Those of these calls of which the rank's node has no result and its board lacks posts; and, behind none, those that come first.
 fn calls_at(
     alloc: Global,
     run: &EndedRun<'_>,
-    rank: u8,
-    statement: usize,
+    place: (u8, usize),
     asked: &[AskedCall],
-    earlier: &mut Vec<EarlierCall>,
+    firsts: &mut Vec<EarlierCall>,
 ) -> Result<Vec<MissingCall>, OutOfMemory>
-    requires { waiting_place run.now rank ≡ Some statement }
-    ensures calls { IfOk result (λ calls. map missing_view calls.items ≡ calls_of run.now (process_of run.now rank) (map asked_view asked.now)) }
-    ensures earlier { OnOk result (All (ComesFirst run.now) earlier.old.items → All (ComesFirst run.now) earlier.new.items) }
+    requires { firsts.old.items ≡ [] }
+    ensures calls { IfOk result (λ calls. map missing_view calls.items ≡ calls_of run.now (process_of run.now place.0) (map asked_view asked.now)) }
+    ensures firsts { OnOk result (map first_view firsts.new.items ≡ firsts_of run.now place (process_of run.now place.0) (map asked_view asked.now)) }
 {
-    match node_at(run, rank) {
+    match node_at(run, place.0) {
         Some(node) => {
             let waiter = Waiter {
                 run,
                 node: *node,
-                rank,
-                statement,
+                rank: place.0,
+                statement: place.1,
             };
-            calls_by(alloc, &waiter, asked, earlier)
+            calls_by(alloc, &waiter, asked, firsts)
         }
         None => Ok(Vec::new(alloc)),
     }
 }
 
-// A rank that waits at the statement with this place, and its node.
-#[derive(Clone, Copy, Drop)]
-struct Waiter<'r> {
-    run: &'r EndedRun<'r>,
-    node: &'r Node,
-    rank: u8,
-    statement: usize,
-}
-
-// The same by this node. Up to which call each context is looked through for an earlier one is kept; None where one is told.
+// The same by this node.
 fn calls_by(
     alloc: Global,
     waiter: &Waiter<'_>,
     asked: &[AskedCall],
-    earlier: &mut Vec<EarlierCall>,
+    firsts: &mut Vec<EarlierCall>,
 ) -> Result<Vec<MissingCall>, OutOfMemory>
-    requires { Waits waiter.now }
+    requires { firsts.old.items ≡ [] }
     ensures calls { IfOk result (λ calls. map missing_view calls.items ≡ flat_map (lacking_of waiter.now.run.now (node_of waiter.now.node.now)) (map asked_view asked.now)) }
-    ensures earlier { OnOk result (All (ComesFirst waiter.now.run.now) earlier.old.items → All (ComesFirst waiter.now.run.now) earlier.new.items) }
+    ensures firsts { OnOk result (map first_view firsts.new.items ≡ with_firsts waiter.now.run.now (node_of waiter.now.node.now) (waiter.now.rank, waiter.now.statement) [] (map asked_view asked.now)) }
 {
     let mut calls = Vec::new(alloc);
-    let mut looked: BTreeMap<Name, Option<u32>> = BTreeMap::new(alloc);
+    let mut found = Firsts {
+        told: Vec::new(alloc),
+        looked: BTreeMap::new(alloc),
+    };
     for one in asked {
-        push_call(alloc, waiter, one, &mut looked, &mut calls, earlier)?;
+        push_call(alloc, waiter, one, &mut calls, &mut found)?;
     }
+    firsts.append(&mut found.told)?;
     Ok(calls)
 }
 
-// Adds a call, where the node has no result of it and its board lacks posts of it; else the first one before it, to the earlier ones.
+// Adds a call, where the node has no result of it and its board lacks posts of it; else the first one before it that comes first.
 fn push_call(
     alloc: Global,
     waiter: &Waiter<'_>,
     asked: &AskedCall,
-    looked: &mut BTreeMap<Name, Option<u32>>,
     calls: &mut Vec<MissingCall>,
-    earlier: &mut Vec<EarlierCall>,
+    firsts: &mut Firsts,
 ) -> Result<(), OutOfMemory>
-    requires { Waits waiter.now }
+    requires { HasLooked waiter.now.run.now (node_of waiter.now.node.now) (map first_view firsts.old.told.items) firsts.old.looked }
     ensures calls { OnOk result (map missing_view calls.new.items ≡ map missing_view calls.old.items ++ lacking_of waiter.now.run.now (node_of waiter.now.node.now) (asked_view asked.now)) }
-    ensures earlier { OnOk result (All (ComesFirst waiter.now.run.now) earlier.old.items → All (ComesFirst waiter.now.run.now) earlier.new.items) }
+    ensures looked { OnOk result (HasLooked waiter.now.run.now (node_of waiter.now.node.now) (map first_view firsts.new.told.items) firsts.new.looked) }
+    ensures firsts { OnOk result (map first_view firsts.new.told.items
+        ≡ with_first waiter.now.run.now (node_of waiter.now.node.now) (waiter.now.rank, waiter.now.statement) (map first_view firsts.old.told.items) (asked_view asked.now)) }
 {
-    let found = lacking_call(alloc, waiter.run, waiter.node, asked, asked.call)?;
+    let found = lacking_call(
+        alloc,
+        waiter.run,
+        waiter.node,
+        &asked.request,
+        &asked.name,
+        asked.call,
+    )?;
     match found {
         Some(call) => Ok(calls.push(call)?),
-        None => push_earlier(alloc, waiter, asked, looked, earlier),
+        None => push_before(alloc, waiter, asked, firsts),
     }
-}
-
-// Adds the first call before that of which the rank's board lacks posts, where there is one, and it isn't told already.
-fn push_earlier(
-    alloc: Global,
-    waiter: &Waiter<'_>,
-    asked: &AskedCall,
-    looked: &mut BTreeMap<Name, Option<u32>>,
-    earlier: &mut Vec<EarlierCall>,
-) -> Result<(), OutOfMemory>
-    requires { Waits waiter.now }
-    ensures { OnOk result (All (ComesFirst waiter.now.run.now) earlier.old.items → All (ComesFirst waiter.now.run.now) earlier.new.items) }
-{
-    let Some(from) = upto(waiter, looked, &asked.name) else {
-        return Ok(());
-    };
-    let name = asked.name.copy(alloc)?;
-    match first_lacking(alloc, waiter, asked, from)? {
-        Some(call) => {
-            drop(looked.insert(name, None)?);
-            push_made(waiter, call, earlier)
-        }
-        None => {
-            drop(looked.insert(name, Some(from.max(asked.call)))?);
-            Ok(())
-        }
-    }
-}
-
-// Up to which call a context is looked through; None where an earlier call is told.
-fn upto(waiter: &Waiter<'_>, looked: &BTreeMap<Name, Option<u32>>, name: &Name) -> Option<u32> {
-    match looked.get(name) {
-        Some(upto) => *upto,
-        None => Some(waiter.node.front(name)),
-    }
-}
-
-// The first call from this one on, before one that is asked for, of which the node's board lacks posts.
-fn first_lacking(
-    alloc: Global,
-    waiter: &Waiter<'_>,
-    asked: &AskedCall,
-    from: u32,
-) -> Result<Option<MissingCall>, OutOfMemory>
-    ensures { IfOk result (λ found. IfSome found (λ c. IsLacking waiter.now.run.now (node_of waiter.now.node.now) (missing_view c))) }
-{
-    for call in from..asked.call {
-        if let Some(found) = lacking_call(alloc, waiter.run, waiter.node, asked, call)? {
-            return Ok(Some(found));
-        }
-    }
-    Ok(None)
-}
-
-// Adds an earlier call, where the statement that made it is known.
-fn push_made(
-    waiter: &Waiter<'_>,
-    call: MissingCall,
-    earlier: &mut Vec<EarlierCall>,
-) -> Result<(), OutOfMemory>
-    requires waits { Waits waiter.now }
-    requires lacks { IsLacking waiter.now.run.now (node_of waiter.now.node.now) (missing_view call) }
-    ensures { OnOk result (All (ComesFirst waiter.now.run.now) earlier.old.items → All (ComesFirst waiter.now.run.now) earlier.new.items) }
-{
-    match statement_of(waiter, &call) {
-        Some(made) => Ok(earlier.push(EarlierCall {
-            rank: waiter.rank,
-            statement: waiter.statement,
-            made,
-            call,
-        })?),
-        None => {
-            drop(call);
-            Ok(())
-        }
-    }
-}
-
-// The place of the statement that made a call of the rank, where it is known.
-fn statement_of(waiter: &Waiter<'_>, call: &MissingCall) -> Option<usize> {
-    let end = end_at(waiter.run, waiter.rank)?;
-    let statements = waiter.run.script.statements(waiter.rank);
-    made_at(statements, end, &call.name, call.call)
 }

@@ -3,6 +3,7 @@
 use crate::amounts::push_unmet;
 use crate::aspects::{Aspect, Share, aspect_of, push_says};
 use crate::naming::operation_in;
+use crate::reasons::Telling;
 use crate::size::push_value;
 use join_core::OutOfMemory;
 use mpx_eval::Complaint;
@@ -29,21 +30,20 @@ struct Saying {
 /// of its call with the same number there.
 pub(crate) fn push_minority(
     alloc: Global,
-    text: &[u8],
-    script: &Script,
+    telling: &Telling<'_>,
     complaint: &Complaint,
     fault: Fault,
-    all: &[Complaint],
     told: &mut String,
 ) -> Result<(), OutOfMemory> {
+    let script = telling.script;
     let Some(draft) = posted_on_world(script, complaint) else {
         return Ok(());
     };
     let Some(aspect) = aspect_of(fault.what, draft) else {
         return Ok(());
     };
-    let shares = shares_of(alloc, script, complaint, all)?;
-    let pushed = push_differing(alloc, text, script.ranks(), aspect, &shares, told);
+    let shares = shares_of(alloc, script, complaint, telling.calls)?;
+    let pushed = push_differing(alloc, telling.text, script.ranks(), aspect, &shares, told);
     drop(shares);
     pushed
 }

@@ -54,6 +54,8 @@ pub(crate) enum Misfit {
     Missing(&'static str, usize),
     /// The word at this place is one too many.
     Surplus(usize),
+    /// The word at this place is one too many, as a list has blanks in it.
+    Parted(usize),
     /// The word at this place begins with an arrow.
     Joined(usize),
     /// The word at this place stands where an arrow belongs.
@@ -89,9 +91,18 @@ fn parts_of(forms: &[(&str, &'static str)], word: &str) -> Option<&'static str> 
 /// first that can't name what the form has there.
 pub(crate) fn misfit_of(form: Form, words: &[&str]) -> Option<Misfit> {
     match misfit_in(form, words)? {
+        Misfit::Surplus(place) if goes_on(words, place) => Some(Misfit::Parted(place)),
         Misfit::Surplus(place) => Some(Misfit::Surplus(nameless(form, words).unwrap_or(place))),
         other => Some(other),
     }
+}
+
+/// Whether the word at this place goes on with a list of the one before: a comma stands between.
+pub(crate) fn goes_on(words: &[&str], place: usize) -> bool {
+    let (Some(word), Some(before)) = (words.get(place), words.get(place.saturating_sub(1))) else {
+        return false;
+    };
+    before.as_bytes().last() == Some(&b',') || word.as_bytes().first() == Some(&b',')
 }
 
 fn misfit_in(form: Form, words: &[&str]) -> Option<Misfit> {

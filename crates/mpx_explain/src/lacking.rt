@@ -10,43 +10,44 @@ use crate::ended::{EndedRun, node_at};
 use join_core::{Exact, OutOfMemory};
 use mpx_eval::{MissingCall, MissingMember};
 use mpx_group::Proc;
-use mpx_meaning::AskedCall;
 use mpx_name::Name;
 use mpx_node::Node;
 use mpx_script::Word;
 use std::alloc::Global;
 
-/// The call with this number on the context of one that is asked for, where the node has no result of it and its board lacks posts of it.
+/// The call with this number on a context, be it asked for by a request, where the node has no result of it and its board lacks posts of it.
 pub(crate) fn lacking_call(
     alloc: Global,
     run: &EndedRun<'_>,
     node: &Node,
-    asked: &AskedCall,
+    request: &Option<Word>,
+    name: &Name,
     call: u32,
 ) -> Result<Option<MissingCall>, OutOfMemory>
-    ensures { IfOk result (λ found. option_map missing_view found ≡ lacking_at run.now (node_of node.now) asked.now.request asked.now.name call) }
+    ensures { IfOk result (λ found. option_map missing_view found ≡ lacking_at run.now (node_of node.now) request.now name.now call) }
 {
-    if call < node.front(&asked.name) {
+    if call < node.front(name) {
         return Ok(None);
     }
-    let missing = lacking(alloc, run, node, &asked.name, call)?;
-    with_missing(alloc, asked, call, missing)
+    let missing = lacking(alloc, run, node, name, call)?;
+    with_missing(alloc, request, name, call, missing)
 }
 
 // A call on that context, with these members, where there are some.
 fn with_missing(
     alloc: Global,
-    asked: &AskedCall,
+    request: &Option<Word>,
+    name: &Name,
     call: u32,
     missing: Vec<MissingMember>,
 ) -> Result<Option<MissingCall>, OutOfMemory>
-    ensures { IfOk result (λ found. option_map missing_view found ≡ with_missing asked.now.request asked.now.name call missing.items) }
+    ensures { IfOk result (λ found. option_map missing_view found ≡ with_missing request.now name.now call missing.items) }
 {
     if missing.is_empty() {
         return Ok(None);
     }
-    let request = word_of(alloc, &asked.request)?;
-    let name = asked.name.copy(alloc)?;
+    let request = word_of(alloc, request)?;
+    let name = name.copy(alloc)?;
     Ok(Some(MissingCall {
         request,
         name,

@@ -105,7 +105,11 @@ fn explain_refusal(
     let is_passed = follows(alloc, text, refusal, unbound.as_slice(), ops)?;
     push_unbound(alloc, text, refusal.line, unbound, ops)?;
     let left = with_line(alloc, text, refusal.line, b"")?;
-    push_line(alloc, text, refusal, nth > 0, is_passed, ops, told)?;
+    let manner = Manner {
+        with_refusal: nth > 0,
+        is_passed,
+    };
+    push_line(alloc, text, refusal, manner, ops, told)?;
     Ok(Some(LeftText {
         text: left,
         is_passed,
@@ -130,24 +134,31 @@ fn push_last(
     push_refused(alloc, text, refusal, false, ops, told)
 }
 
+/// How a refusal is told: whether it stands itself before what is beside it, and whether it is passed over.
+#[derive(Clone, Copy)]
+pub(crate) struct Manner {
+    with_refusal: bool,
+    is_passed: bool,
+}
+
 // Tells the line of a refusal, unless it is passed over.
 fn push_line(
     alloc: Global,
     text: &[u8],
     refusal: ScriptError,
-    with_refusal: bool,
-    is_passed: bool,
+    manner: Manner,
     ops: &Ops,
     told: &mut Vec<u8>,
 ) -> Result<(), OutOfMemory>
-    requires { is_passed ≡ true → refusal.what ≡ NameUnknown }
-    ensures told { OnOk result (IsToldOrPassed is_passed with_refusal refusal told.old.items told.new.items) }
+    requires { manner.is_passed ≡ true → refusal.what ≡ NameUnknown }
+    ensures told { OnOk result (IsToldOrPassed manner.is_passed manner.with_refusal refusal told.old.items told.new.items) }
     ensures err { OnErr result (told.new.items ≡ told.old.items) }
 {
+    let is_passed = manner.is_passed;
     if is_passed {
         return Ok(());
     }
-    push_refused(alloc, text, refusal, with_refusal, ops, told)
+    push_refused(alloc, text, refusal, manner.with_refusal, ops, told)
 }
 
 // Adds that there is more, where the text is refused once more.

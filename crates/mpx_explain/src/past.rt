@@ -1,12 +1,14 @@
 //! Sums and products that are past the range of their signed type.
-ghost use Rattle.std.specs.Prelude.{◌≡◌, ◌+◌, ◌<◌, ◌≤◌, ℕ, ℤ, IfOk, IfSome, None, OnOk, Some, length, slice_get, slice_index_or, true};
-ghost use Rattle.std.specs.List.{All};
+ghost use Rattle.std.specs.Prelude.{◌≡◌, ◌+◌, ◌<◌, ◌&&◌, [], ℕ, Bool, IfOk, IsSomeAnd, MatchOption, None, OnOk, Option, Some, ℤ, cond, length, nat_le, nat_lt, slice_index_or, true};
+ghost use Rattle.std.specs.List.{AllZip};
 ghost use Rattle.std.specs.Option.{option_copied};
-ghost use Rattle.mpx_num.specs.Types.{IsOutOfRange};
-ghost use Rattle.mpx_explain.specs.Overflows.{IsKnownAs, IsOverflow, draft_to, evaluated, given_to, is_signed, is_summed, posts_of, reduction_in, taken};
-ghost use Rattle.mpx_explain.specs.Sums.{AreUpto, IsRow, posts_in};
+ghost use Rattle.mpx_post.specs.Drafts.{is_of};
+ghost use Rattle.mpx_explain.specs.Overflows.{IsKnownAs, IsToldAs, all_past, all_posts, draft_to, evaluated, first_past, is_posted, is_signed, is_summed, past_in_call, past_in_row, past_there, past_type, post_to, reduction_in, summed_in, taken};
+ghost use Rattle.mpx_explain.specs.Sums.{AreTold, AreUpto, IsExact, IsRow, past_for, past_upto, posts_in, statements_in, taken_by};
+ghost use Rattle.mpx_explain.specs.declared.exact.Exact.TheVariants.{Unknown};
 
-use crate::exact::{add, neutral};
+use crate::blocks::{are_counts, bounds_of};
+use crate::exact::{Exact, add, is_product, neutral};
 use crate::overflows::Overflow;
 use crate::posts::{all_posts, posted_at};
 use join_core::OutOfMemory;
@@ -23,7 +25,7 @@ pub(crate) fn results_of(
     script: &Script,
     found: &Findings,
 ) -> Result<Vec<Overflow>, OutOfMemory>
-    ensures { IfOk result (λ all. All (IsOverflow script.now.statements (posts_of (evaluated script.now found.now))) all.items) }
+    ensures { IfOk result (λ all. AllZip IsToldAs all.items (all_past script.now.statements (all_posts (evaluated script.now found.now)))) }
 {
     let posts = all_posts(alloc, script, found)?;
     let results = results_in(alloc, script, &posts);
@@ -37,8 +39,7 @@ fn results_in(
     script: &Script,
     posts: &[Vec<usize>],
 ) -> Result<Vec<Overflow>, OutOfMemory>
-    requires { length posts.now ≡ length script.now.statements }
-    ensures { IfOk result (λ all. All (IsOverflow script.now.statements (posts_in posts.now)) all.items) }
+    ensures { IfOk result (λ all. AllZip IsToldAs all.items (all_past script.now.statements (posts_in posts.now))) }
 {
     let mut all = Vec::new(alloc);
     for call in 0..calls_in(posts) {
@@ -47,15 +48,14 @@ fn results_in(
     Ok(all)
 }
 
-// How many calls all ranks have posted to.
+// How many calls rank 0 has posted to.
 fn calls_in(posts: &[Vec<usize>]) -> usize
-    ensures { (rank : ℕ) → rank < length posts.now → result ≤ length (posts_in posts.now rank) }
+    ensures { result ≡ length (slice_index_or (posts_in posts.now) 0 []) }
 {
-    let mut calls = usize::MAX;
-    for one in posts {
-        calls = calls.min(one.len());
+    match posts.first() {
+        Some(first) => first.as_slice().len(),
+        None => 0,
     }
-    calls
 }
 
 /// A call on `world` that all ranks have posted to: a sum or product of signed numbers, as rank 0 has it.
@@ -68,7 +68,7 @@ pub(crate) struct Row<'r> {
     reduction: Reduction,
 }
 
-// Adds the results of a call that are past their type, where it is a sum or product of signed numbers.
+// Adds the results of a call that are past their type, where each rank has posted to it.
 fn push_call(
     alloc: Global,
     script: &Script,
@@ -76,24 +76,72 @@ fn push_call(
     call: usize,
     all: &mut Vec<Overflow>,
 ) -> Result<(), OutOfMemory>
-    requires { (rank : ℕ) → rank < length script.now.statements → call < length (posts_in posts.now rank) }
-    ensures { OnOk result (All (IsOverflow script.now.statements (posts_in posts.now)) all.old.items
-        → All (IsOverflow script.now.statements (posts_in posts.now)) all.new.items) }
+    ensures { OnOk result (AreTold (past_in_call script.now.statements (posts_in posts.now) call) all.old.items all.new.items) }
 {
-    let Some(draft) = draft_to(script, posts, call, 0) else {
-        return Ok(());
-    };
-    let Some(reduction) = reduced(draft) else {
-        return Ok(());
-    };
-    let row = Row {
-        script,
-        posts,
-        call,
-        draft,
-        reduction,
-    };
-    push_row(alloc, &row, all)
+    let posted = is_posted(posts, call);
+    if posted {
+        push_posted(alloc, script, posts, call, all)
+    } else {
+        Ok(())
+    }
+}
+
+// The same, where each has.
+fn push_posted(
+    alloc: Global,
+    script: &Script,
+    posts: &[Vec<usize>],
+    call: usize,
+    all: &mut Vec<Overflow>,
+) -> Result<(), OutOfMemory>
+    requires { is_posted (posts_in posts.now) call ≡ true }
+    ensures { OnOk result (AreTold (past_in_call script.now.statements (posts_in posts.now) call) all.old.items all.new.items) }
+{
+    match draft_to(script, posts, call, 0) {
+        Some(draft) => push_draft(alloc, script, posts, call, draft, all),
+        None => Ok(()),
+    }
+}
+
+// Whether each rank has posted to a call.
+fn is_posted(posts: &[Vec<usize>], call: usize) -> bool
+    ensures { result ≡ is_posted (posts_in posts.now) call }
+{
+    for one in posts {
+        let many = one.as_slice().len();
+        if many <= call {
+            return false;
+        }
+    }
+    true
+}
+
+// The same, where rank 0 posts this to it.
+fn push_draft(
+    alloc: Global,
+    script: &Script,
+    posts: &[Vec<usize>],
+    call: usize,
+    draft: &Draft,
+    all: &mut Vec<Overflow>,
+) -> Result<(), OutOfMemory>
+    requires posted { is_posted (posts_in posts.now) call ≡ true }
+    requires draft { draft_to script.now.statements (posts_in posts.now) call 0 ≡ Some draft.now }
+    ensures { OnOk result (AreTold (past_in_row script.now.statements (posts_in posts.now) call draft.now) all.old.items all.new.items) }
+{
+    match summed(draft) {
+        Some(reduction) => {
+            let row = Row {
+                script,
+                posts,
+                call,
+                draft,
+                reduction,
+            };
+            push_row(alloc, &row, all)
+        }
+        None => Ok(()),
+    }
 }
 
 // What a rank posts to a call.
@@ -112,7 +160,7 @@ fn draft_to<'s>(
 }
 
 fn place_in(posts: &[Vec<usize>], call: usize, rank: u8) -> Option<usize>
-    ensures { result ≡ slice_get (posts_in posts.now rank) call }
+    ensures { result ≡ post_to (posts_in posts.now) call rank }
 {
     match posts.get(usize::from(rank)) {
         Some(posts) => posts.as_slice().get(call).copied(),
@@ -120,14 +168,24 @@ fn place_in(posts: &[Vec<usize>], call: usize, rank: u8) -> Option<usize>
     }
 }
 
-// The kind of a sum or product of signed numbers.
-fn reduced(draft: &Draft) -> Option<Reduction>
-    ensures { IfSome result (λ r. (reduction_in draft.now.call ≡ Some r) × ((is_summed draft.now.op ≡ true) × (is_signed draft.now.ty ≡ true))) }
+// The kind of a sum or product of signed numbers, with counts within their limit.
+fn summed(draft: &Draft) -> Option<Reduction>
+    ensures { result ≡ summed_in draft.now }
 {
-    match draft.call {
-        Call::Reduction(reduction, _) if is_signed(draft.ty) && is_summed(draft.op) => {
-            Some(reduction)
-        }
+    let counts = are_counts(draft.rcounts.as_slice());
+    let summed = is_signed(draft.ty) & is_summed(draft.op);
+    if summed & counts {
+        reduction_in(draft.call)
+    } else {
+        None
+    }
+}
+
+fn reduction_in(call: Call) -> Option<Reduction>
+    ensures { result ≡ reduction_in call }
+{
+    match call {
+        Call::Reduction(reduction, _) => Some(reduction),
         _ => None,
     }
 }
@@ -154,165 +212,192 @@ fn is_summed(op: Op) -> bool
     }
 }
 
-// The same of one that is: those of each rank once all that count for it are taken into the sums.
+// Adds those of each rank once all that count for it are taken into the sums.
 fn push_row(alloc: Global, row: &Row<'_>, all: &mut Vec<Overflow>) -> Result<(), OutOfMemory>
     requires { IsRow row.now }
-    ensures { OnOk result (All (IsOverflow row.now.script.now.statements (posts_in row.now.posts.now)) all.old.items
-        → All (IsOverflow row.now.script.now.statements (posts_in row.now.posts.now)) all.new.items) }
+    ensures { OnOk result (AreTold (past_upto row.now (length (statements_in row.now))) all.old.items all.new.items) }
+{
+    match row.reduction {
+        Reduction::Scan => push_scanned(alloc, row, all),
+        Reduction::Exscan => push_scanned_before(alloc, row, all),
+        _ => push_reduced(alloc, row, all),
+    }
+}
+
+// Of a scan: to each rank what is given up to its own.
+fn push_scanned(alloc: Global, row: &Row<'_>, all: &mut Vec<Overflow>) -> Result<(), OutOfMemory>
+    requires row { IsRow row.now }
+    requires taken { (ranks rank : ℕ) → taken row.now.reduction ranks rank ≡ rank + 1 }
+    ensures { OnOk result (AreTold (past_upto row.now (length (statements_in row.now))) all.old.items all.new.items) }
 {
     let mut sums = first_sums(alloc, row)?;
     for rank in 0..row.script.ranks() {
-        if !add_given(row, rank, &mut sums) {
-            return Ok(());
-        }
-        push_due(row, usize::from(rank) + 1, &sums, all)?;
+        add_given(row, rank, &mut sums);
+        push_result(row, rank, &sums, all)?;
     }
     Ok(())
 }
 
-// The sums or products of what no rank gives.
-fn first_sums(alloc: Global, row: &Row<'_>) -> Result<Vec<Option<i128>>, OutOfMemory>
-    ensures { IfOk result (λ sums. AreUpto row.now.draft.now.op (given_to row.now.script.now.statements (posts_in row.now.posts.now) row.now.call) 0 sums.items) }
+// Of an exclusive one: to each rank what is given before its own.
+fn push_scanned_before(
+    alloc: Global,
+    row: &Row<'_>,
+    all: &mut Vec<Overflow>,
+) -> Result<(), OutOfMemory>
+    requires row { IsRow row.now }
+    requires taken { (ranks rank : ℕ) → taken row.now.reduction ranks rank ≡ rank }
+    ensures { OnOk result (AreTold (past_upto row.now (length (statements_in row.now))) all.old.items all.new.items) }
 {
-    let sums = vec![in alloc; Some(neutral(row.draft.op)); row.draft.items.as_slice().len()]?;
+    let mut sums = first_sums(alloc, row)?;
+    for rank in 0..row.script.ranks() {
+        push_result(row, rank, &sums, all)?;
+        add_given(row, rank, &mut sums);
+    }
+    Ok(())
+}
+
+// Of another reduction: to each rank what all give.
+fn push_reduced(alloc: Global, row: &Row<'_>, all: &mut Vec<Overflow>) -> Result<(), OutOfMemory>
+    requires row { IsRow row.now }
+    requires taken { (ranks rank : ℕ) → taken row.now.reduction ranks rank ≡ ranks }
+    ensures { OnOk result (AreTold (past_upto row.now (length (statements_in row.now))) all.old.items all.new.items) }
+{
+    let sums = all_sums(alloc, row)?;
+    for rank in 0..row.script.ranks() {
+        push_result(row, rank, &sums, all)?;
+    }
+    Ok(())
+}
+
+// What all ranks give comes to.
+fn all_sums(alloc: Global, row: &Row<'_>) -> Result<Vec<Exact>, OutOfMemory>
+    ensures { IfOk result (λ sums. AreUpto row.now (length (statements_in row.now)) sums.items) }
+{
+    let mut sums = first_sums(alloc, row)?;
+    for rank in 0..row.script.ranks() {
+        add_given(row, rank, &mut sums);
+    }
     Ok(sums)
 }
 
-// Takes what a rank gives into the sums or products, where that can be.
-fn add_given(row: &Row<'_>, rank: u8, sums: &mut Vec<Option<i128>>) -> bool
-    ensures { result ≡ true → AreUpto row.now.draft.now.op (given_to row.now.script.now.statements (posts_in row.now.posts.now) row.now.call) rank sums.old.items
-        → AreUpto row.now.draft.now.op (given_to row.now.script.now.statements (posts_in row.now.posts.now) row.now.call) (rank + 1) sums.new.items }
+// What no rank gives comes to.
+fn first_sums(alloc: Global, row: &Row<'_>) -> Result<Vec<Exact>, OutOfMemory>
+    ensures { IfOk result (λ sums. AreUpto row.now 0 sums.items) }
 {
+    let first = Exact::Number(neutral(is_product(row.draft.op)));
+    let sums = vec![in alloc; first; row.draft.items.as_slice().len()]?;
+    Ok(sums)
+}
+
+// Takes what a rank gives into the sums or products.
+fn add_given(row: &Row<'_>, rank: u8, sums: &mut Vec<Exact>)
+    ensures { AreUpto row.now rank sums.old.items → AreUpto row.now (rank + 1) sums.new.items }
+{
+    let is_product = is_product(row.draft.op);
     match draft_to(row.script, row.posts, row.call, rank) {
-        Some(draft) => add(row.draft.op, draft.items.as_slice(), sums),
-        None => false,
+        Some(draft) => add(is_product, draft.items.as_slice(), sums),
+        None => add(is_product, &[], sums),
     }
 }
 
-// Adds the results of those ranks for which just so many ranks count.
-fn push_due(
-    row: &Row<'_>,
-    ranks: usize,
-    sums: &[Option<i128>],
-    all: &mut Vec<Overflow>,
-) -> Result<(), OutOfMemory>
-    requires row { IsRow row.now }
-    requires sums { AreUpto row.now.draft.now.op (given_to row.now.script.now.statements (posts_in row.now.posts.now) row.now.call) ranks sums.now }
-    ensures { OnOk result (All (IsOverflow row.now.script.now.statements (posts_in row.now.posts.now)) all.old.items
-        → All (IsOverflow row.now.script.now.statements (posts_in row.now.posts.now)) all.new.items) }
-{
-    for rank in 0..row.script.ranks() {
-        push_result(row, rank, ranks, sums, all)?;
-    }
-    Ok(())
-}
-
-// Adds the result of a rank, where just so many ranks count for it and it is past its type.
+// Adds the result of a rank, for which these sums count, where it is past its type.
 fn push_result(
     row: &Row<'_>,
     rank: u8,
-    ranks: usize,
-    sums: &[Option<i128>],
+    sums: &[Exact],
     all: &mut Vec<Overflow>,
 ) -> Result<(), OutOfMemory>
     requires row { IsRow row.now }
-    requires sums { AreUpto row.now.draft.now.op (given_to row.now.script.now.statements (posts_in row.now.posts.now) row.now.call) ranks sums.now }
-    ensures { OnOk result (All (IsOverflow row.now.script.now.statements (posts_in row.now.posts.now)) all.old.items
-        → All (IsOverflow row.now.script.now.statements (posts_in row.now.posts.now)) all.new.items) }
+    requires sums { AreUpto row.now (taken_by row.now rank) sums.now }
+    ensures { OnOk result (AreTold (past_for row.now rank) all.old.items all.new.items) }
 {
-    if taken(row.reduction, usize::from(row.script.ranks()), rank) == ranks {
-        if let Some(overflow) = overflow_of(row, rank, ranks, sums) {
-            all.push(overflow)?;
-        }
-    }
-    Ok(())
-}
-
-// Of the first how many of so many ranks a rank gets what they give.
-fn taken(reduction: Reduction, ranks: usize, rank: u8) -> usize
-    ensures { result ≡ taken reduction ranks rank }
-{
-    match reduction {
-        Reduction::Scan => usize::from(rank) + 1,
-        Reduction::Exscan => usize::from(rank),
-        Reduction::Reduce
-        | Reduction::Allreduce
-        | Reduction::ReduceScatterBlock
-        | Reduction::ReduceScatter => ranks,
+    match place_in(row.posts, row.call, rank) {
+        Some(statement) => push_past(row, rank, statement, sums, all),
+        None => Ok(()),
     }
 }
 
-// The first number of a rank's result that is past its type, where just so many ranks count for it.
-fn overflow_of(row: &Row<'_>, rank: u8, ranks: usize, sums: &[Option<i128>]) -> Option<Overflow>
+// The same, where its statement is this.
+fn push_past(
+    row: &Row<'_>,
+    rank: u8,
+    statement: usize,
+    sums: &[Exact],
+    all: &mut Vec<Overflow>,
+) -> Result<(), OutOfMemory>
     requires row { IsRow row.now }
-    requires counts { taken row.now.reduction (length row.now.script.now.statements) rank ≡ ranks }
-    requires sums { AreUpto row.now.draft.now.op (given_to row.now.script.now.statements (posts_in row.now.posts.now) row.now.call) ranks sums.now }
-    ensures { IfSome result (λ o. IsOverflow row.now.script.now.statements (posts_in row.now.posts.now) o) }
+    requires sums { AreUpto row.now (taken_by row.now rank) sums.now }
+    requires post { Some statement ≡ post_to (posts_in row.now.posts.now) row.now.call rank }
+    ensures { OnOk result (AreTold (past_for row.now rank) all.old.items all.new.items) }
 {
-    let statement = place_in(row.posts, row.call, rank)?;
-    let (start, end) = block_of(row.reduction, row.draft, usize::from(rank), sums.len());
-    let (_, exact) = first_past(row.draft.ty, sums, start, end)?;
-    Some(Overflow {
-        rank,
-        statement,
-        ty: row.draft.ty,
-        exact,
-    })
-}
-
-// From which number on a rank gets those that all give, and up to which: all of a scan, and none where it gets nothing.
-fn block_of(reduction: Reduction, draft: &Draft, rank: usize, numbers: usize) -> (usize, usize) {
-    let counts = draft.rcounts.as_slice();
-    let (start, count) = match reduction {
-        Reduction::Reduce if draft.root != rank as i128 => (0, 0),
-        Reduction::Reduce | Reduction::Allreduce | Reduction::Scan | Reduction::Exscan => {
-            (0, numbers)
-        }
-        Reduction::ReduceScatterBlock => {
-            let count = length_of(counts.first());
-            (rank.saturating_mul(count), count)
-        }
-        Reduction::ReduceScatter => {
-            let before = counts.iter().take(rank).fold(
-                0usize,
-                |sum, count| sum.saturating_add(length_of(Some(count))),
-            );
-            (before, length_of(counts.get(rank)))
-        }
-    };
-    (start, start.saturating_add(count))
-}
-
-fn length_of(count: Option<&i128>) -> usize {
-    match count {
-        Some(count) => usize::try_from(*count).unwrap_or(0),
-        None => 0,
+    let bounds = bounds_of(row.reduction, row.draft, rank);
+    let past = first_past(row.draft.ty, bounds, sums);
+    match past {
+        Some(exact) => Ok(all.push(Overflow {
+            rank,
+            statement,
+            ty: row.draft.ty,
+            exact,
+        })?),
+        None => Ok(()),
     }
 }
 
-// The first of these numbers, from one on and up to one, that is past its type, and its index.
-fn first_past(
-    ty: Ty,
-    numbers: &[Option<i128>],
-    start: usize,
-    end: usize,
-) -> Option<(usize, Option<i128>)>
-    ensures { IfSome result (λ r. (r.0 < length numbers.now) × ((r.1 ≡ slice_index_or numbers.now r.0 None) × ((whole : ℤ) → IsKnownAs r.1 whole → IsOutOfRange ty whole))) }
+// The first of these numbers, within these bounds, that is past its type.
+fn first_past(ty: Ty, bounds: (usize, usize), numbers: &[Exact]) -> Option<Option<i128>>
+    ensures { (is_product : Bool) (comes : ℕ → Option ℤ) → ((index : ℕ) → index < length numbers.now → IsExact is_product (slice_index_or numbers.now index Unknown) (comes index))
+        → MatchOption result (first_past ty bounds comes (length numbers.now) ≡ None) (λ exact. IsSomeAnd (first_past ty bounds comes (length numbers.now)) (IsKnownAs exact)) }
 {
-    for index in start..end.min(numbers.len()) {
-        if is_past(ty, numbers[index]) {
-            return Some((index, numbers[index]));
+    for index in 0..numbers.len() {
+        let past = past_within(ty, bounds, index, numbers[index]);
+        if past.is_some() {
+            return past;
         }
     }
     None
 }
 
-// Whether a number is past its type; one that is past 128 bits is.
-fn is_past(ty: Ty, exact: Option<i128>) -> bool
-    ensures { result ≡ true → (whole : ℤ) → IsKnownAs exact whole → IsOutOfRange ty whole }
+// A number with this index that is past its type, where it is within these bounds.
+fn past_within(
+    ty: Ty,
+    bounds: (usize, usize),
+    index: usize,
+    exact: Exact,
+) -> Option<Option<i128>>
+    ensures { (is_product : Bool) (comes : Option ℤ) → IsExact is_product exact comes
+        → MatchOption result (past_there ty bounds index comes ≡ None) (λ exact. IsSomeAnd (past_there ty bounds index comes) (IsKnownAs exact)) }
+{
+    let is_within = is_within(bounds, index);
+    if is_within {
+        past_type(ty, exact)
+    } else {
+        None
+    }
+}
+
+fn is_within(bounds: (usize, usize), index: usize) -> bool
+    ensures { result ≡ (nat_le bounds.0 index && nat_lt index bounds.1) }
+{
+    bounds.0 <= index && index < bounds.1
+}
+
+// A number that is past its type; one that is past 128 bits is.
+fn past_type(ty: Ty, exact: Exact) -> Option<Option<i128>>
+    ensures { (is_product : Bool) (comes : Option ℤ) → IsExact is_product exact comes → MatchOption result (past_type ty comes ≡ None) (λ exact. IsSomeAnd (past_type ty comes) (IsKnownAs exact)) }
 {
     match exact {
-        Some(exact) => !is_in_range(ty, exact),
-        None => true,
+        Exact::Number(number) => past_number(ty, number),
+        Exact::Far => Some(None),
+        Exact::Unknown => None,
+    }
+}
+
+fn past_number(ty: Ty, number: i128) -> Option<Option<i128>>
+    ensures { result ≡ cond (is_of ty number) None (Some (Some number)) }
+{
+    if is_in_range(ty, number) {
+        None
+    } else {
+        Some(Some(number))
     }
 }

@@ -65,15 +65,7 @@ fn push_reason(
             outcome: Outcome::Fault(fault),
             ..
         } => {
-            return push_minority(
-                alloc,
-                telling.text,
-                telling.script,
-                call,
-                *fault,
-                telling.calls,
-                told,
-            );
+            return push_minority(alloc, telling, call, *fault, told);
         }
         Line::Refused(refusal) => Refusal::Post(*refusal),
         Line::StrayRank => Refusal::StrayRank,
