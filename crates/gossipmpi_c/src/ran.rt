@@ -253,17 +253,12 @@ fn observed(
     if is_starved(&exit) {
         return Err(OutOfMemory);
     }
-    let Streams {
-        reader: _,
-        out: printed,
-        err: said,
-    } = streams;
-    if is_unexplained(said.as_slice()) {
+    if is_unexplained(streams.err.as_slice()) {
         return Err(OutOfMemory);
     }
     Ok(Ran {
         status: exit.status,
-        printed,
-        said,
+        printed: streams.out,
+        said: streams.err,
     })
 }

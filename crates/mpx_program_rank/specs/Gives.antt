@@ -85,9 +85,9 @@ IsDone (Ok finished) (Err e) = IsUnread (numbers_given finished.outcome) e.cause
 IsDone (Err why) (Ok u) = ⊥
 IsDone (Err why) (Err e) = desk_error e.cause ≡ Some why
 
--- the new communicator that the call gave this rank, or none; or why it isn't had
+-- the new communicator that the call gave this rank, or none, and no fault; or why it isn't had
 abbrev pub IsComm : Result Finished DeskError → Result (Option Comm) CallError → Type 0
-IsComm (Ok finished) (Ok comm) = comm ≡ comm_of finished.outcome
+IsComm (Ok finished) (Ok comm) = (comm ≡ comm_of finished.outcome) × IsOk (numbers_given finished.outcome)
 IsComm (Ok finished) (Err e) = IsUnread (numbers_given finished.outcome) e.cause
 IsComm (Err why) (Ok comm) = ⊥
 IsComm (Err why) (Err e) = desk_error e.cause ≡ Some why
@@ -95,7 +95,7 @@ IsComm (Err why) (Err e) = desk_error e.cause ≡ Some why
 -- the new communicator that the call gave this rank; or why it isn't had
 abbrev pub IsNewComm : Result Finished DeskError → Result Comm CallError → Type 0
 IsNewComm (Ok finished) (Ok comm) = comm_of finished.outcome ≡ Some comm
-IsNewComm (Ok finished) (Err e) = IsUnread (numbers_given finished.outcome) e.cause ⊎ ((e.cause ≡ NoComm) × (comm_of finished.outcome ≡ None))
+IsNewComm (Ok finished) (Err e) = IsUnread (numbers_given finished.outcome) e.cause ⊎ ((e.cause ≡ NoComm) × (comm_of finished.outcome ≡ None) × IsOk (numbers_given finished.outcome))
 IsNewComm (Err why) (Ok comm) = ⊥
 IsNewComm (Err why) (Err e) = desk_error e.cause ≡ Some why
 

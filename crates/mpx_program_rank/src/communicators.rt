@@ -1,5 +1,5 @@
 //! The calls that make communicators, and the one that frees them.
-ghost use Rattle.std.specs.Prelude.{◌≡◌, [], IfErr, IfOk, Ok, Some, map, pos};
+ghost use Rattle.std.specs.Prelude.{◌≡◌, [], IfErr, IfOk, IsOk, Ok, OnOk, Some, map, pos};
 ghost use Rattle.mpx_comm.specs.Comms.{comm_of};
 ghost use Rattle.mpx_comm.specs.Given.{numbers_given};
 ghost use Rattle.mpx_comm.specs.Lines as line;
@@ -227,6 +227,7 @@ impl<'a, H: Host> Rank<'a, H> {
 // The communicator that a call gave, or none; or why it isn't had.
 fn comm_in(alloc: Global, finished: &Finished) -> Result<Option<Comm>, Cause>
     ensures comm { IfOk result (λ comm. comm ≡ comm_of finished.now.outcome) }
+    ensures fine { OnOk result (IsOk (numbers_given finished.now.outcome)) }
     ensures none { IfErr result (λ cause. IsUnread (numbers_given finished.now.outcome) cause) }
 {
     match numbers_of(finished) {

@@ -153,10 +153,6 @@ impl<W: Write + Drop> Observer for Table<W> {
         self.whole = false;
     }
 
-    fn missed(&mut self) {
-        self.whole = false;
-    }
-
     fn over(&mut self) {
         if self.cells.iter().any(|cell| cell.is_new) {
             let written = self.write_row(self.rows.saturating_add(1));

@@ -141,10 +141,6 @@ impl<W: Write + Drop> Observer for Trace<W> {
         self.whole = false;
     }
 
-    fn missed(&mut self) {
-        self.whole = false;
-    }
-
     fn told(&mut self, turn: u32, rank: u8, lines: &[Line]) {
         for line in self.news.of(rank, lines) {
             let written = self.tell_line(turn, rank, line);
