@@ -11,6 +11,7 @@ use Rattle.std.proofs.lemmas.Grind.{flat_map-append}
 use Rattle.std.proofs.lemmas.Int.{ints}
 use Rattle.std.proofs.lemmas.List.{get_or-replicate, get_or-set_other, get_or-set_same, length-replicate, length-set, map-append, map-id, nil_from_length}
 use Rattle.std.proofs.lemmas.List.Folds.{list_any_more}
+use Rattle.std.proofs.lemmas.List.Sums.{sum_by-cons}
 use Rattle.std.proofs.lemmas.List.FromFn.{filter_of_map_range_with_len_more, map-range_with_len_more}
 use Rattle.std.proofs.lemmas.Slice.Zip.{all_zipped_more}
 use Rattle.mpx_kind.specs.declared.kinds.Reduction.{Reduction}
@@ -62,7 +63,7 @@ posts_more p n had new was more =
     ∙ same (n + 1)
 
 -- the posts of one rank more
-pub all_more : {Z : Type 0} (posts : Posts) (n : ℕ) (had new : List (Vec ℕ Z)) (one : Vec ℕ Z) → map (λ (p : Vec ℕ Z). p.items) had ≡ map posts (range_with_len 0 n) → one.items ≡ posts n → new ≡ had ++ one ∷ []
+pub all_more : {Z : Type 0} (posts : ℕ → List ℕ) (n : ℕ) (had new : List (Vec ℕ Z)) (one : Vec ℕ Z) → map (λ (p : Vec ℕ Z). p.items) had ≡ map posts (range_with_len 0 n) → one.items ≡ posts n → new ≡ had ++ one ∷ []
     → map (λ (p : Vec ℕ Z). p.items) new ≡ map posts (range_with_len 0 (n + 1))
 all_more {Z} posts n had new one was own more =
     let items : Vec ℕ Z → List ℕ = λ (p : Vec ℕ Z). p.items in
@@ -373,7 +374,7 @@ kept_none (negsuc n) never = lost_by n (negsuc n) (nat_lt n (2 ^ 127)) refl (λ 
 
 -- a sum that is checked is kept
 pub kept_by : (r : Option ℤ) (z : ℤ) → SomeIff r (FitsSigned w128 z) z → r ≡ kept z
-kept_by (Some x) z is = ap Some (sym is.1) ∙ sym (kept_is z is.0)
+kept_by (Some x) z is = ap Some is.1 ∙ sym (kept_is z is.0)
 kept_by None z never = kept_none z never
 
 -- BLOCKS
@@ -385,9 +386,14 @@ some_is : (x y : ℤ) → Some x ≡ Some y → x ≡ y
 some_is x y is = cc
 
 sum_take : (xs : List ℕ) (n : ℕ) → sum (take (suc n) xs) ≡ sum (take n xs) + count_at xs n
-sum_take [] n = refl
+sum_take [] zero = refl
+sum_take [] (suc n) = refl
 sum_take (x ∷ xs) zero = omega arith
-sum_take (x ∷ xs) (suc n) = omega (arith, sum_take xs n)
+sum_take (x ∷ xs) (suc n) =
+    let all : sum (take (suc (suc n)) (x ∷ xs)) ≡ x + sum (take (suc n) xs) = sum_by-cons (λ (y : ℕ). y) x (take (suc n) xs) in
+    let some : sum (take (suc n) (x ∷ xs)) ≡ x + sum (take n xs) = sum_by-cons (λ (y : ℕ). y) x (take n xs) in
+    let last : count_at (x ∷ xs) (suc n) ≡ count_at xs n = refl in
+    omega (arith, all, some, last, sum_take xs n)
 
 count_there : (counts : List ℤ) (place : ℕ) → count_at (naturals counts) place ≡ option_map_or natural (slice_get counts place) 0
 count_there [] place = refl
