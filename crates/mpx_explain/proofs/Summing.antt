@@ -91,9 +91,9 @@ range_more n = sym (map-id (range_with_len 0 (n + 1))) ∙ map-range_with_len_mo
 pub told_more : (f : ℕ → List PastView) (n : ℕ) (old mid new : List Overflow) → AreTold (flat_map f (range_with_len 0 n)) old mid → AreTold (f n) mid new → AreTold (flat_map f (range_with_len 0 (n + 1))) old new
 told_more f n old mid new had one =
     let same : flat_map f (range_with_len 0 n) ++ f n ≡ flat_map f (range_with_len 0 (n + 1)) =
-        ap (λ (xs : List PastView). flat_map f (range_with_len 0 n) ++ xs) (sym (append-nil (f n)))
-        ∙ sym (flat_map-append f (range_with_len 0 n) (n ∷ []))
-        ∙ ap (flat_map f) (sym (range_more n)) in
+    ap (λ (xs : List PastView). flat_map f (range_with_len 0 n) ++ xs) (sym (append-nil (f n)))
+    ∙ sym (flat_map-append f (range_with_len 0 n) (n ∷ []))
+    ∙ ap (flat_map f) (sym (range_more n)) in
     subst (λ (xs : List PastView). AreTold xs old new) same (told_then (flat_map f (range_with_len 0 n)) (f n) old mid new had one)
 
 -- the same of two numbers that are one
@@ -231,14 +231,14 @@ pub past_here : (row : Row) (rank statement numbers : ℕ) (bounds : ℕ × ℕ)
 past_here row rank statement numbers bounds exact old new bound many there known is =
     one_past (record { rank = rank; statement = statement; ty = row.draft.now.ty; exact = exact }) (past_number (statements_in row) (posts_in row.posts.now) row.call row.draft.now row.reduction rank) (post_to (posts_in row.posts.now) row.call rank) old new there is
     (subst (λ (b : ℕ × ℕ). IsSomeAnd (first_past row.draft.now.ty b (comes_to row (taken_by row rank)) (length row.draft.now.items)) (IsKnownAs exact)) bound
-      (subst (λ (n : ℕ). IsSomeAnd (first_past row.draft.now.ty bounds (comes_to row (taken_by row rank)) n) (IsKnownAs exact)) many known))
+    (subst (λ (n : ℕ). IsSomeAnd (first_past row.draft.now.ty bounds (comes_to row (taken_by row rank)) n) (IsKnownAs exact)) many known))
 
 pub past_nowhere : (row : Row) (rank statement numbers : ℕ) (bounds : ℕ × ℕ) (all : List Overflow) → bounds ≡ bounds_of row.reduction row.draft.now rank → numbers ≡ length row.draft.now.items → Some statement ≡ post_to (posts_in row.posts.now) row.call rank
     → first_past row.draft.now.ty bounds (comes_to row (taken_by row rank)) numbers ≡ None → AreTold (past_for row rank) all all
 past_nowhere row rank statement numbers bounds all bound many there none =
     none_past rank statement row.draft.now.ty (past_number (statements_in row) (posts_in row.posts.now) row.call row.draft.now row.reduction rank) (post_to (posts_in row.posts.now) row.call rank) all there
     (subst (λ (b : ℕ × ℕ). first_past row.draft.now.ty b (comes_to row (taken_by row rank)) (length row.draft.now.items) ≡ None) bound
-      (subst (λ (n : ℕ). first_past row.draft.now.ty bounds (comes_to row (taken_by row rank)) n ≡ None) many none))
+    (subst (λ (n : ℕ). first_past row.draft.now.ty bounds (comes_to row (taken_by row rank)) n ≡ None) many none))
 
 -- ROWS
 
@@ -284,7 +284,7 @@ upto_more row rank given old new gives added had = record {
       let k : suc rank ≡ rank + 1 = omega arith in
       let inside : index < length old = subst (λ (n : ℕ). index < n) added.len within in
       let more : with_given times (comes_to row rank index) (slice_get given index) ≡ comes_to row (rank + 1) index =
-          ap (with_given times (comes_to row rank index)) (sym (gives index)) ∙ ap (λ (n : ℕ). comes_to row n index) k in
+      ap (with_given times (comes_to row rank index)) (sym (gives index)) ∙ ap (λ (n : ℕ). comes_to row n index) k in
       subst (IsExact times (slice_index_or new index Unknown)) more (added.each index inside (comes_to row rank index) (had.each index inside));
 }
 

@@ -13,9 +13,7 @@ use mpx_post::Draft;
 pub(crate) fn are_counts(counts: &[i128]) -> bool
     ensures { result ≡ list_all is_count counts.now }
 {
-    counts
-        .iter()
-        .all(|&number| 0 <= number && number <= 4096)
+    counts.iter().all(|&number| 0 <= number && number <= 4096)
 }
 
 /// From which number on a rank gets those that all give, and up to which: of a reduction to a root that gets all, of a scattered one each
@@ -27,7 +25,14 @@ pub(crate) fn bounds_of(reduction: Reduction, draft: &Draft, rank: u8) -> (usize
     let counts = draft.rcounts.as_slice();
     let numbers = draft.items.as_slice().len();
     match reduction {
-        Reduction::Reduce => (0, if draft.root == i128::from(rank) { numbers } else { 0 }),
+        Reduction::Reduce => (
+            0,
+            if draft.root == i128::from(rank) {
+                numbers
+            } else {
+                0
+            },
+        ),
         Reduction::ReduceScatterBlock => {
             let count = count_at(counts, 0);
             let start = usize::from(rank) * count;

@@ -1,6 +1,5 @@
 //! The lines that tell where ranks wait at the end of a run.
 ghost use Rattle.std.specs.Prelude.{◌≡◌, ◌++◌, OnOk, Some, map};
-ghost use Rattle.std.specs.Fmt.{decimal};
 ghost use Rattle.std.specs.List.{flat_map};
 ghost use Rattle.std.specs.Option.{option_map};
 ghost use Rattle.mpx_eval.specs.Found.{missing_view, waiting_view};
@@ -13,7 +12,7 @@ use crate::firsts::EarlierCall;
 use join_core::OutOfMemory;
 use mpx_eval::{MissingCall, WaitingRank};
 use mpx_script::{statement_lines, words_of_line};
-use mpx_waiting::{line_at, places_of, push_members, push_start, push_waiting};
+use mpx_waiting::{line_at, places_of, push_decimal, push_members, push_start, push_waiting};
 use std::alloc::Global;
 
 /// Adds where ranks wait at the end of a run: a line for each call of which a rank's board lacks posts, at most a hundred; one for each earlier
@@ -206,14 +205,6 @@ fn push_number(alloc: Global, call: u32, told: &mut Vec<u8>) -> Result<(), OutOf
     told.extend_from_slice(b"call ")?;
     push_decimal(alloc, told, call)?;
     told.extend_from_slice(b": waits for ")?;
-    Ok(())
-}
-
-fn push_decimal(alloc: Global, told: &mut Vec<u8>, number: u32) -> Result<(), OutOfMemory>
-    ensures { OnOk result (told.new.items ≡ told.old.items ++ decimal number) }
-{
-    let digits = format!(in alloc; "{number}")?;
-    told.extend_from_slice(digits.as_bytes())?;
     Ok(())
 }
 

@@ -1,5 +1,5 @@
 //! Exact sums and products of many numbers at once.
-ghost use Rattle.std.specs.Prelude.{◌≡◌, ◌+ℤ◌, ◌*ℤ◌, ℤ, None, Option, Some, false, true};
+ghost use Rattle.std.specs.Prelude.{◌≡◌, ◌+ℤ◌, ◌*ℤ◌, ℤ, None, Option, Some, false, slice_get, true};
 ghost use Rattle.mpx_explain.specs.Overflows.{IsKnownAs, is_product, kept, neutral};
 ghost use Rattle.mpx_explain.specs.Sums.{AreCombined, IsExact, with_given};
 
@@ -37,8 +37,14 @@ pub(crate) fn add(is_product: bool, given: &[i128], sums: &mut Vec<Exact>)
     ensures { AreCombined is_product given.now sums.old.items sums.new.items }
 {
     for index in 0..sums.len() {
-        sums[index] = combined(is_product, sums[index], given.get(index).copied());
+        sums[index] = combined(is_product, sums[index], number_at(given, index));
     }
+}
+
+fn number_at(given: &[i128], index: usize) -> Option<i128>
+    ensures { result ≡ slice_get given.now index }
+{
+    given.get(index).copied()
 }
 
 fn combined(is_product: bool, before: Exact, given: Option<i128>) -> Exact

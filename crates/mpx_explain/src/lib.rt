@@ -37,6 +37,7 @@ mod past;
 mod posts;
 mod reasons;
 mod size;
+mod summed;
 mod trials;
 mod unknown_names;
 

@@ -3,18 +3,19 @@ ghost use Rattle.std.specs.Prelude.{◌≡◌, ◌+◌, ◌<◌, ◌&&◌, [], �
 ghost use Rattle.std.specs.List.{AllZip};
 ghost use Rattle.std.specs.Option.{option_copied};
 ghost use Rattle.mpx_post.specs.Drafts.{is_of};
-ghost use Rattle.mpx_explain.specs.Overflows.{IsKnownAs, IsToldAs, all_past, all_posts, draft_to, evaluated, first_past, is_posted, is_signed, is_summed, past_in_call, past_in_row, past_there, past_type, post_to, reduction_in, summed_in, taken};
+ghost use Rattle.mpx_explain.specs.Overflows.{IsKnownAs, IsToldAs, all_past, all_posts, draft_to, evaluated, first_past, is_posted, past_in_call, past_in_row, past_there, past_type, post_to, taken};
 ghost use Rattle.mpx_explain.specs.Sums.{AreTold, AreUpto, IsExact, IsRow, past_for, past_upto, posts_in, statements_in, taken_by};
 ghost use Rattle.mpx_explain.specs.declared.exact.Exact.TheVariants.{Unknown};
 
-use crate::blocks::{are_counts, bounds_of};
+use crate::blocks::bounds_of;
 use crate::exact::{Exact, add, is_product, neutral};
 use crate::overflows::Overflow;
 use crate::posts::{all_posts, posted_at};
+use crate::summed::summed;
 use join_core::OutOfMemory;
 use mpx_eval::Findings;
-use mpx_kind::{Call, Reduction};
-use mpx_num::{Op, Ty, is_in_range};
+use mpx_kind::Reduction;
+use mpx_num::{Ty, is_in_range};
 use mpx_post::Draft;
 use mpx_script::Script;
 use std::alloc::Global;
@@ -168,50 +169,6 @@ fn place_in(posts: &[Vec<usize>], call: usize, rank: u8) -> Option<usize>
     }
 }
 
-// The kind of a sum or product of signed numbers, with counts within their limit.
-fn summed(draft: &Draft) -> Option<Reduction>
-    ensures { result ≡ summed_in draft.now }
-{
-    let counts = are_counts(draft.rcounts.as_slice());
-    let summed = is_signed(draft.ty) & is_summed(draft.op);
-    if summed & counts {
-        reduction_in(draft.call)
-    } else {
-        None
-    }
-}
-
-fn reduction_in(call: Call) -> Option<Reduction>
-    ensures { result ≡ reduction_in call }
-{
-    match call {
-        Call::Reduction(reduction, _) => Some(reduction),
-        _ => None,
-    }
-}
-
-fn is_signed(ty: Ty) -> bool
-    ensures { result ≡ is_signed ty }
-{
-    match ty {
-        Ty::I8 => true,
-        Ty::I16 => true,
-        Ty::I32 => true,
-        Ty::I64 => true,
-        _ => false,
-    }
-}
-
-fn is_summed(op: Op) -> bool
-    ensures { result ≡ is_summed op }
-{
-    match op {
-        Op::Sum => true,
-        Op::Prod => true,
-        _ => false,
-    }
-}
-
 // Adds those of each rank once all that count for it are taken into the sums.
 fn push_row(alloc: Global, row: &Row<'_>, all: &mut Vec<Overflow>) -> Result<(), OutOfMemory>
     requires { IsRow row.now }
@@ -349,7 +306,7 @@ fn first_past(ty: Ty, bounds: (usize, usize), numbers: &[Exact]) -> Option<Optio
         → MatchOption result (first_past ty bounds comes (length numbers.now) ≡ None) (λ exact. IsSomeAnd (first_past ty bounds comes (length numbers.now)) (IsKnownAs exact)) }
 {
     for index in 0..numbers.len() {
-        let past = past_within(ty, bounds, index, numbers[index]);
+        let past = past_within(ty, bounds, index, number_at(numbers, index));
         if past.is_some() {
             return past;
         }
@@ -357,13 +314,17 @@ fn first_past(ty: Ty, bounds: (usize, usize), numbers: &[Exact]) -> Option<Optio
     None
 }
 
+fn number_at(numbers: &[Exact], index: usize) -> Exact
+    ensures { result ≡ slice_index_or numbers.now index Unknown }
+{
+    match numbers.get(index) {
+        Some(number) => *number,
+        None => Exact::Unknown,
+    }
+}
+
 // A number with this index that is past its type, where it is within these bounds.
-fn past_within(
-    ty: Ty,
-    bounds: (usize, usize),
-    index: usize,
-    exact: Exact,
-) -> Option<Option<i128>>
+fn past_within(ty: Ty, bounds: (usize, usize), index: usize, exact: Exact) -> Option<Option<i128>>
     ensures { (is_product : Bool) (comes : Option ℤ) → IsExact is_product exact comes
         → MatchOption result (past_there ty bounds index comes ≡ None) (λ exact. IsSomeAnd (past_there ty bounds index comes) (IsKnownAs exact)) }
 {

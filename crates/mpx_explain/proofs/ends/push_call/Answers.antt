@@ -20,5 +20,5 @@ pub returns-in-None-clause-firsts : goal.returns-in-None-clause-firsts
 returns-in-None-clause-firsts c =
     ok_then c.push_before.result _ _
     (first_at_other c.args.waiter.now.run.now (node_of c.args.waiter.now.node.now) (c.args.waiter.now.rank, c.args.waiter.now.statement) (map first_view c.args.firsts.now.told.items) (map first_view c.push_before.new.firsts.told.items) (asked_view c.args.asked.now)
-      (sym c.in_ok-found.ensures ∙ ap (option_map missing_view) c.in-None.is))
+    (sym c.in_ok-found.ensures ∙ ap (option_map missing_view) c.in-None.is))
     c.push_before.ensures.told

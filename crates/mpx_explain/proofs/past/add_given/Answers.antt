@@ -13,5 +13,5 @@ returns-in-Some c =
 pub returns-in-None : goal.returns-in-None
 returns-in-None c =
     let row = c.args.row.now in
-    upto_more row c.args.rank [] c.args.sums.now.items c.add-2.new.sums.items (gives_none (statements_in row) (posts_in row.posts.now) row.call c.args.rank c.in-None.ensures)
-    (subst (λ (b : Bool). AreCombined b [] c.args.sums.now.items c.add-2.new.sums.items) c.is_product-is_product.ensures c.add-2.ensures)
+    upto_more row c.args.rank [] c.args.sums.now.items c.add-in-None.new.sums.items (gives_none (statements_in row) (posts_in row.posts.now) row.call c.args.rank c.in-None.ensures)
+    (subst (λ (b : Bool). AreCombined b [] c.args.sums.now.items c.add-in-None.new.sums.items) c.is_product-is_product.ensures c.add-in-None.ensures)

@@ -14,16 +14,16 @@ pub returns-then-is_some : goal.returns-then-is_some
 returns-then-is_some c times comes are =
     let i = c.loop-index.index in
     let xs = c.args.numbers.now in
-    let at : slice_index_or xs i Unknown ≡ c.past_within-arg-1.result = at_any xs i Unknown c.past_within-arg-1.result c.loop-index-test.true ∙ sym c.past_within-arg-1.is in
-    past_first c.args.ty c.args.bounds comes i (length xs) c.past_within-past.result (sym c.if-is_some.ensures ∙ c.if-is_some.true) c.loop-index-test.true (c.loop-index.invariant times comes are)
+    let at : slice_index_or xs i Unknown ≡ c.number_at.result = sym c.number_at.ensures in
+    past_first c.args.ty c.args.bounds comes i (length xs) c.past_within-past.result (sym c.if-is_some.ensures) c.loop-index-test.true (c.loop-index.invariant times comes are)
     (c.past_within-past.ensures times (comes i) (subst (λ (e : Exact). IsExact times e (comes i)) at (are i c.loop-index-test.true)))
 
 pub loop-index-preserved : goal.loop-index-preserved
 loop-index-preserved c times comes are =
     let i = c.loop-index.index in
     let xs = c.args.numbers.now in
-    let at : slice_index_or xs i Unknown ≡ c.past_within-arg-1.result = at_any xs i Unknown c.past_within-arg-1.result c.loop-index-test.true ∙ sym c.past_within-arg-1.is in
-    past_not c.args.ty c.args.bounds comes i c.past_within-past.result (sym c.if-is_some.ensures ∙ c.if-is_some.false) (c.loop-index.invariant times comes are)
+    let at : slice_index_or xs i Unknown ≡ c.number_at.result = sym c.number_at.ensures in
+    past_not c.args.ty c.args.bounds comes i c.past_within-past.result (sym c.if-is_some.ensures) (c.loop-index.invariant times comes are)
     (c.past_within-past.ensures times (comes i) (subst (λ (e : Exact). IsExact times e (comes i)) at (are i c.loop-index-test.true)))
 
 pub returns : goal.returns

@@ -8,8 +8,8 @@ use Rattle.mpx_explain.proofs.past.push_past.Goals as goal
 pub bounds_of-bounds-requires : goal.bounds_of-bounds-requires
 bounds_of-bounds-requires c = counted c.args.row.now.draft.now c.args.row.now.reduction c.requires.row.reduces
 
-pub returns-in-Some : goal.returns-in-Some
-returns-in-Some c =
+pub returns-in_ok-push-in-Some : goal.returns-in_ok-push-in-Some
+returns-in_ok-push-in-Some c =
     let row = c.args.row.now in
     let comes = comes_to row (taken_by row c.args.rank) in
     let sums = c.args.sums.now in

@@ -7,7 +7,7 @@ use Rattle.mpx_explain.proofs.Summing.{told_all, told_more, told_start, told_upt
 use Rattle.mpx_explain.proofs.past.results_in.Goals as goal
 
 pub loop-call-init : goal.loop-call-init
-loop-call-init c = told_start c.new.result.items c.new.ensures.items
+loop-call-init c = told_start c.new-all.result.items c.new-all.ensures.items
 
 pub loop-call-preserved : goal.loop-call-preserved
 loop-call-preserved c = told_more (past_in_call c.args.script.now.statements (posts_in c.args.posts.now)) c.loop-call.call [] c.loop-call.all.items c.push_call.new.all.items c.loop-call.invariant c.in_ok-push_call.ensures
