@@ -1,6 +1,6 @@
 """A rank's file as lines of text. library/file.c says how its blocks lie, library/lines.c what a line of a block may have; older records, and those
 that were written without zlib, are text."""
-import array, os, re, struct, zlib
+import array, functools, os, re, struct, sys, zlib
 
 HEAD = b'record 2\n'
 BLOCK = re.compile(rb'block (\d+) (\d+) (\d+) (\d+) ([zs])\n')
@@ -14,8 +14,21 @@ class Damaged(Exception):
     """Why a file isn't whole."""
 
 
+class Pairs(dict):
+    """Two bytes as text, by the number that they are."""
+
+    def __missing__(self, pair):
+        self[pair] = '%d %d' % tuple(pair.to_bytes(2, sys.byteorder))
+        return self[pair]
+
+
+PAIRS = Pairs()
+
+
+@functools.lru_cache(maxsize=16)        # what a rank gave is often what it got
 def numbers_of(letter, data):
     """As text, with blanks between."""
+    if letter == 'B': return ' '.join([*map(PAIRS.__getitem__, array.array('H', data[:len(data) & ~1])), *map(str, data[len(data) & ~1:])])
     if letter in PLAIN: return ' '.join(map(str, array.array(letter, data)))
     return ' '.join(str(number) for item in struct.iter_unpack(PACKED[letter], data) for number in item)
 

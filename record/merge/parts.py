@@ -27,6 +27,14 @@ NUMBERS = re.compile(r'-?\d+( -?\d+)*')
 NAME = re.compile('[a-z][a-z0-9_]{0,31}')
 
 
+def are_numbers(text):
+    """Whether NUMBERS fits. Of many it is seen without a look at each."""
+    if len(text) < 64: return bool(NUMBERS.fullmatch(text))
+    if not text.isascii() or text.encode().translate(None, b'-0123456789 '): return False
+    within = ' %s ' % text
+    return '  ' not in within and '- ' not in within and within.count('-') == within.count(' -')
+
+
 class Unreadable(Exception):
     """The record can't be merged, and why."""
 
@@ -91,7 +99,7 @@ class Part:
             elif field == 'T': self.type = word
             else: self.lists.append(word)
         self.items = words[1 + len(fields)] if len(words) > 1 + len(fields) else ''
-        if self.items and not NUMBERS.fullmatch(self.items): raise ValueError('words of ' + self.kind)
+        if self.items and not are_numbers(self.items): raise ValueError('words of ' + self.kind)
         if self.items and not self.type or amount_of(self.items) % self.numbers_an_item(): raise ValueError('items of ' + self.kind)
 
     def numbers_an_item(self): return numbers_each(self.type)
