@@ -1,5 +1,7 @@
 """Calls on more items than one of a script has: as several calls, each on a block of the items. Of each block of items that goes from one rank to
 another, the k-th of these calls has the items from k times a step on."""
+import functools
+
 from .parts import amount_of
 
 ITEMS = 4096            # of one call of a script, at one rank
@@ -59,6 +61,7 @@ def cut(text, counts, numbers, step, width):
     return found
 
 
+@functools.lru_cache(maxsize=256)       # ranks of one script have the same
 def parted(text, most):
     """So many of its first numbers, and the others."""
     words = text.split(' ', most) if most else ['', text]

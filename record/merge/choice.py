@@ -27,6 +27,7 @@ class Choice:
         self.bounded, self.held, self.unjudged, self.amounts, self.folded = collections.Counter(), set(), 0, {}, collections.Counter()
         self.left_calls = collections.defaultdict(set)
         self.digested, self.shortened, self.across = collections.Counter(), collections.Counter(), collections.Counter()
+        self.bases, self.matching = {}, set()
         for key in sorted(calls.rows, key=lambda key: (len(key[0]), key[1])):
             reason = self.reason_for(key, calls.rows[key])
             if key in self.faults and reason: self.gone.update(calls.made_by(key))
@@ -57,10 +58,10 @@ class Choice:
 
     def base_of(self, communicator):
         """The communicator that is a script's world for this one: the first on the way from the world that has few enough members."""
-        for length in range(len(communicator) + 1):
-            base = communicator[:length]
-            if self.calls.order[base] and len(self.calls.members[base]) <= RANKS: return base
-        return None
+        if communicator not in self.bases:
+            ways = (communicator[:length] for length in range(len(communicator) + 1))
+            self.bases[communicator] = next((base for base in ways if self.calls.order[base] and len(self.calls.members[base]) <= RANKS), None)
+        return self.bases[communicator]
 
     def reason_for(self, key, row):
         communicator, part = key[0], next(iter(row.values()))
@@ -69,7 +70,7 @@ class Choice:
             self.cross_grid(key, row)
             self.compare_types(key, row)
             self.compare_own_amounts(key, row)
-        if any(communicator[:length] in self.gone for length in range(1, len(communicator) + 1)): return 'its communicator is left out'
+        if self.gone and any(communicator[:length] in self.gone for length in range(1, len(communicator) + 1)): return 'its communicator is left out'
         base = self.base_of(communicator)
         if base is None:
             if part.kind in MAKERS: self.count_left(key, part.name_of_kind() + ': more than 64 members')
@@ -132,16 +133,21 @@ class Choice:
         named = {part.type for part in row.values() if part.type}
         is_fold = row[min(row)].kind in FOLDS
         if all(part.sent is None for part in row.values()) and (is_fold or len(named) < 2 or named <= set(WIDTH) - {'2int'}): return
-        found = self.mismatch(key)
-        if found is None: return
+        words = key[0], *((rank, part.kind, part.root, part.sent, part.awaited) for rank, part in row.items())
+        found = None if words in self.matching else self.mismatch(key)
+        if found is None: return self.note_matching(words, row)
         is_left = any(part.tag != 'call' for part in row.values())
         if found[0] == 'types': self.tell(key, 'has types that don\'t match: ' + found[1])
         elif is_left: self.tell(key, 'doesn\'t fit together: ' + found[1])
         else: self.amounts[key] = found[1]
 
+    def note_matching(self, words, row):
+        """Calls of the same words on one communicator match as these do, where nothing but their lines `types` is compared."""
+        if all(part.sent is not None and not part.kind.startswith('neighbor') for part in row.values()): self.matching.add(words)
+
     def compare_own_amounts(self, key, row):
         """What one rank tells of itself twice, and otherwise."""
-        if self.is_told(key): return
+        if not self.record.amounts or self.is_told(key): return
         for rank in sorted(row):
             told = self.record.amounts.get((rank, row[rank].id))
             if told: return self.tell_fault(key, 'doesn\'t fit together: rank %d %s of itself' % (rank, told))

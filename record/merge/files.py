@@ -25,7 +25,7 @@ class Pairs(dict):
 PAIRS = Pairs()
 
 
-@functools.lru_cache(maxsize=16)        # what a rank gave is often what it got
+@functools.lru_cache(maxsize=8192)      # what one rank gave is often what others got
 def numbers_of(letter, data):
     """As text, with blanks between."""
     if letter == 'B': return ' '.join([*map(PAIRS.__getitem__, array.array('H', data[:len(data) & ~1])), *map(str, data[len(data) & ~1:])])
@@ -44,9 +44,9 @@ class Lines:
             end = data.find(b'\n', at)
             if end < 0: raise Damaged('a line has no end')
             line, at = data[at:end], end + 1
-            again = AGAIN.fullmatch(line)
-            if again: self.repeat(int(again[1])); continue
             mark = line.find(b'\1')
+            again = AGAIN.fullmatch(line) if mark < 0 else None
+            if again: self.repeat(int(again[1])); continue
             numbers = None
             if mark >= 0:
                 word = line[mark + 1:].split(b' ', 1)[0]
@@ -67,7 +67,8 @@ class Lines:
         self.say(*words)
 
     def say(self, tag, ident, rest):
-        if ident == '+': self.last += 1
+        if ident == '.': pass
+        elif ident == '+': self.last += 1
         elif ident.isdigit() and tag.partition('/')[0] in ('call', 'left', 'begun', 'unknown', 'unseen', 'abort', 'operation'): self.last = int(ident)
         self.text.append('%s %s%s' % (tag, self.last if ident in ('+', '.') else ident, rest) if ident else tag)
 

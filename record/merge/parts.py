@@ -1,5 +1,5 @@
 """Lines of a rank's record: its part of a call, a wait, or the end of the run. library/opening.c says how they are spelled."""
-import re
+import functools, re
 
 from . import floats
 
@@ -27,9 +27,12 @@ NUMBERS = re.compile(r'-?\d+( -?\d+)*')
 NAME = re.compile('[a-z][a-z0-9_]{0,31}')
 
 
-def are_numbers(text):
-    """Whether NUMBERS fits. Of many it is seen without a look at each."""
-    if len(text) < 64: return bool(NUMBERS.fullmatch(text))
+def are_numbers(text): return bool(NUMBERS.fullmatch(text)) if len(text) < 64 else are_many(text)
+
+
+@functools.lru_cache(maxsize=8192)      # what one rank gave is often what others got
+def are_many(text):
+    """Whether NUMBERS fits, without a look at each."""
     if not text.isascii() or text.encode().translate(None, b'-0123456789 '): return False
     within = ' %s ' % text
     return '  ' not in within and '- ' not in within and within.count('-') == within.count(' -')
@@ -39,6 +42,7 @@ class Unreadable(Exception):
     """The record can't be merged, and why."""
 
 
+@functools.lru_cache(maxsize=1024)
 def amount_of(numbers): return numbers.count(' ') + 1 if numbers else 0
 
 
@@ -122,8 +126,8 @@ class Part:
 
     def fields(self, type_word):
         if self.kind in MAKERS: return self.lists
-        lists = iter(self.lists)
-        return [{'R': self.root, 'O': self.operation, 'T': type_word}.get(field) or next(lists) for field in FIELDS.get(self.kind, '')]
+        lists, words = iter(self.lists), {'R': self.root, 'O': self.operation, 'T': type_word}
+        return [words.get(field) or next(lists) for field in FIELDS.get(self.kind, '')]
 
     def told(self, most):
         """For a report, with so many numbers at most."""

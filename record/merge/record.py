@@ -164,10 +164,9 @@ class Record:
     def find_places(self):
         """Source lines, by addr2line where there is one."""
         wanted, found = collections.defaultdict(set), {}
-        for parts in self.parts + [self.operations.values()]:
-            for part in parts:
-                for path, offset in (self.module_of(part.rank, place) for place in part.place.split('<')):
-                    if path: wanted[path].add(offset)
+        for rank, places in {(part.rank, part.place) for parts in self.parts + [self.operations.values()] for part in parts}:
+            for path, offset in (self.module_of(rank, place) for place in places.split('<')):
+                if path: wanted[path].add(offset)
         for path, offsets in wanted.items():
             offsets, lines = sorted(offsets), []
             if os.path.exists(path):
