@@ -3,7 +3,7 @@ import collections
 
 from . import across, blocks, digests, folds, grids, own, types
 from .asked import ROOTS
-from .moved import make_one_type
+from .moved import make_one_type, pack
 from .parts import AS_BYTES, FOLDS, MAKERS, WIDTH
 from .slips import Slips, ranks_of, root_of
 
@@ -18,16 +18,16 @@ class Choice:
     what is said of them, and `held` has the keys of the first, of whose numbers so many are `unjudged`. `reports` has calls of which something
     is told already: key, title, and parts with more lines; `faults` has the keys of those that can't be right whatever the MPI does; `amounts` those
     of which two ranks' don't fit, with the words for it; `folded` counts those that were held against the program's own operation;
-    `left_calls` has the keys of those that `left` counts; `digested` counts those that are held by hashes, `shortened` those of which the record has
+    `packs` whether many bytes become fewer numbers; `left_calls` has the keys of those that `left` counts; `digested` counts those that are held by hashes, `shortened` those of which the record has
     the first items; `across` those that are held between the groups of an intercommunicator."""
 
-    def __init__(self, record, calls, without_idup=False):
+    def __init__(self, record, calls, without_idup=False, packs=False):
         self.record, self.calls, self.gone, self.without_idup, self.slips = record, calls, set(), without_idup, Slips(record, calls)
         self.taken, self.blocks, self.left, self.reports, self.faults, self.crossed = set(), {}, collections.Counter(), [], set(), set()
         self.bounded, self.held, self.unjudged, self.amounts, self.folded = collections.Counter(), set(), 0, {}, collections.Counter()
         self.left_calls = collections.defaultdict(set)
         self.digested, self.shortened, self.across = collections.Counter(), collections.Counter(), collections.Counter()
-        self.bases, self.matching = {}, set()
+        self.bases, self.matching, self.packs = {}, set(), packs
         for key in sorted(calls.rows, key=lambda key: (len(key[0]), key[1])):
             reason = self.reason_for(key, calls.rows[key])
             if key in self.faults and reason: self.gone.update(calls.made_by(key))
@@ -265,12 +265,18 @@ class Choice:
 
     def reason_of_length(self, key, row):
         """A call on more items than one of a script has is cut into blocks."""
-        if max(part.greatest() for part in row.values()) <= blocks.ITEMS: return None
-        if len({part.kind for part in row.values()}) > 1: return 'more than 4,096 items'
-        cut = blocks.plan(row, lambda part: folds.words_of(self.calls, part), len(self.calls.members[key[0]]))
-        if cut is None: return 'more than 4,096 items, of blocks that don\'t come out even'
-        self.blocks[key] = cut
+        if max(part.greatest() for part in row.values()) > blocks.ITEMS:
+            if len({part.kind for part in row.values()}) > 1: return 'more than 4,096 items'
+            cut = blocks.plan(row, lambda part: folds.words_of(self.calls, part), len(self.calls.members[key[0]]))
+            if cut is None: return 'more than 4,096 items, of blocks that don\'t come out even'
+            self.blocks[key] = cut
+        if self.packs: self.pack(key, row)
         return None
+
+    def pack(self, key, row):
+        """The pieces stay: each has the same bytes."""
+        length, step = self.blocks.get(key, (0, 0))
+        if step % 8 == 0 and pack(self.calls, row) and step: self.blocks[key] = length // 8, step // 8
 
     def compare_totals(self, key, row):
         """Of a reduction of which the record has the first items only: how many there were, and a hash of the whole result."""

@@ -22,15 +22,27 @@ class Pairs(dict):
         return self[pair]
 
 
-PAIRS = Pairs()
+PAIRS, KNOWN, MOST_KNOWN = Pairs(), {}, 8192
 
 
 @functools.lru_cache(maxsize=8192)      # what one rank gave is often what others got
 def numbers_of(letter, data):
     """As text, with blanks between."""
-    if letter == 'B': return ' '.join([*map(PAIRS.__getitem__, array.array('H', data[:len(data) & ~1])), *map(str, data[len(data) & ~1:])])
+    if letter == 'B': return text_of_bytes(data)
     if letter in PLAIN: return ' '.join(map(str, array.array(letter, data)))
     return ' '.join(str(number) for item in struct.iter_unpack(PACKED[letter], data) for number in item)
+
+
+def text_of_bytes(data):
+    text = ' '.join([*map(PAIRS.__getitem__, array.array('H', data[:len(data) & ~1])), *map(str, data[len(data) & ~1:])])
+    if len(KNOWN) == MOST_KNOWN: KNOWN.clear()
+    KNOWN[text] = data
+    return text
+
+
+def bytes_of(text):
+    """The bytes of a text of numbers; ValueError where one is none."""
+    return KNOWN[text] if text in KNOWN else bytes(map(int, text.split()))
 
 
 class Lines:
