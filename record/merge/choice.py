@@ -8,6 +8,7 @@ from .parts import AS_BYTES, FOLDS, MAKERS, WIDTH
 from .slips import Slips, ranks_of, root_of
 
 EDGES, RANKS, DEPTH = 512, 64, 8           # gossipmpi's limits
+PACKED = 64                                # from so many bytes on eight are one number
 REASONS = dict(kind='scripts have no such call', root='its root is out of range', topology='its communicator has no neighbours',
                operation=own.LEFT, in_place='MPI_IN_PLACE at a rank that isn\'t the root', type='a type that is none', items='more items than RECORD_ITEMS',
                members='more than 64 members', count='a negative count', buffer='a buffer that can\'t be read',      # by the recorder's words
@@ -265,12 +266,13 @@ class Choice:
 
     def reason_of_length(self, key, row):
         """A call on more items than one of a script has is cut into blocks."""
-        if max(part.greatest() for part in row.values()) > blocks.ITEMS:
+        greatest = max(part.greatest() for part in row.values())
+        if greatest > blocks.ITEMS:
             if len({part.kind for part in row.values()}) > 1: return 'more than 4,096 items'
             cut = blocks.plan(row, lambda part: folds.words_of(self.calls, part), len(self.calls.members[key[0]]))
             if cut is None: return 'more than 4,096 items, of blocks that don\'t come out even'
             self.blocks[key] = cut
-        if self.packs: self.pack(key, row)
+        if self.packs and greatest >= PACKED: self.pack(key, row)
         return None
 
     def pack(self, key, row):

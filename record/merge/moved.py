@@ -85,7 +85,7 @@ def eighth(word):
 def pack(calls, row):
     """Gives the parts of an exchange of many bytes an eighth of the numbers for the script, and tells whether it did; a report has the program's."""
     kinds, parts = {part.kind for part in row.values()}, list(row.values())
-    if len(kinds) > 1 or kinds & set(FOLDS) or any(part.type != 'u8' or part.spelled for part in parts) or max(part.greatest() for part in parts) < 64: return False
+    if len(kinds) > 1 or kinds & set(FOLDS) or any(part.type != 'u8' or part.spelled for part in parts): return False
     try:
         lists = [[words if words == '-' else ','.join(map(eighth, words.split(','))) for words in part.lists] for part in parts]
         items = [packed(part.items) for part in parts]
