@@ -42,7 +42,8 @@ def text_of_bytes(data):
 
 def bytes_of(text):
     """The bytes of a text of numbers; ValueError where one is none."""
-    return KNOWN[text] if text in KNOWN else bytes(map(int, text.split()))
+    data = KNOWN.get(text)
+    return bytes(map(int, text.split())) if data is None else data
 
 
 class Lines:
