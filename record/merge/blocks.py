@@ -1,5 +1,7 @@
 """Calls on more items than one of a script has: as several calls, each on a block of the items. Of each block of items that goes from one rank to
 another, the k-th of these calls has the items from k times a step on."""
+import functools
+
 from .parts import amount_of
 
 ITEMS = 4096            # of one call of a script, at one rank
@@ -47,6 +49,25 @@ def taken(numbers, counts, start, end, width):
     return found
 
 
+def cut(text, counts, numbers, step, width):
+    """Of each numbered piece its numbers, as text: of each block the items from number times step on."""
+    if len(counts) != 1:
+        words = text.split()
+        return [' '.join(taken(words, counts, number * step, number * step + step, width)) for number in numbers]
+    found, rest = [], parted(text, numbers[0] * step * width)[1]
+    for _ in numbers:
+        piece, rest = parted(rest, step * width)
+        found.append(piece)
+    return found
+
+
+@functools.lru_cache(maxsize=256)       # ranks of one script have the same
+def parted(text, most):
+    """So many of its first numbers, and the others."""
+    words = text.split(' ', most) if most else ['', text]
+    return (text[:-len(words[-1]) - 1], words[-1]) if len(words) > most else (text, '')
+
+
 def plan(row, result_of, size):
     """How many items the longest block of a call has, and how many of each go into one call of a script; None where its blocks don't come out even."""
     longest = most = 1
@@ -59,10 +80,10 @@ def plan(row, result_of, size):
     return longest, max(1, ITEMS // most)
 
 
-def piece_of(part, result, size, start, end):
-    """Lists, numbers, and what came out, of the items from start to end."""
+def pieces_of(part, result, size, numbers, step):
+    """Of each numbered piece the lists, the numbers, and what came out."""
     counts, width = sides(part, result, size), part.numbers_an_item()
-    lists = [words if words == '-' else ','.join(map(str, clipped(counts_in(words), start, end))) for words in part.lists]
-    items = ' '.join(taken(part.items.split(), counts[0], start, end, width))
-    if not has_numbers(result): return lists, items, result
-    return lists, items, ' '.join(taken(result.split(), counts[1], start, end, width)) or 'empty'
+    lists = [[words if words == '-' else ','.join(map(str, clipped(counts_in(words), number * step, number * step + step))) for words in part.lists] for number in numbers]
+    items, out = cut(part.items, counts[0], numbers, step, width), [result] * len(numbers)
+    if has_numbers(result): out = [block or 'empty' for block in cut(result, counts[1], numbers, step, width)]
+    return zip(numbers, lists, items, out)

@@ -3,11 +3,12 @@ import collections
 
 from . import across, blocks, digests, folds, grids, own, types
 from .asked import ROOTS
-from .moved import make_one_type
+from .moved import make_one_type, pack
 from .parts import AS_BYTES, FOLDS, MAKERS, WIDTH
 from .slips import Slips, ranks_of, root_of
 
 EDGES, RANKS, DEPTH = 512, 64, 8           # gossipmpi's limits
+PACKED = 64                                # from so many bytes on eight are one number
 REASONS = dict(kind='scripts have no such call', root='its root is out of range', topology='its communicator has no neighbours',
                operation=own.LEFT, in_place='MPI_IN_PLACE at a rank that isn\'t the root', type='a type that is none', items='more items than RECORD_ITEMS',
                members='more than 64 members', count='a negative count', buffer='a buffer that can\'t be read',      # by the recorder's words
@@ -18,15 +19,16 @@ class Choice:
     what is said of them, and `held` has the keys of the first, of whose numbers so many are `unjudged`. `reports` has calls of which something
     is told already: key, title, and parts with more lines; `faults` has the keys of those that can't be right whatever the MPI does; `amounts` those
     of which two ranks' don't fit, with the words for it; `folded` counts those that were held against the program's own operation;
-    `left_calls` has the keys of those that `left` counts; `digested` counts those that are held by hashes, `shortened` those of which the record has
+    `packs` whether many bytes become fewer numbers; `left_calls` has the keys of those that `left` counts; `digested` counts those that are held by hashes, `shortened` those of which the record has
     the first items; `across` those that are held between the groups of an intercommunicator."""
 
-    def __init__(self, record, calls, without_idup=False):
+    def __init__(self, record, calls, without_idup=False, packs=False):
         self.record, self.calls, self.gone, self.without_idup, self.slips = record, calls, set(), without_idup, Slips(record, calls)
         self.taken, self.blocks, self.left, self.reports, self.faults, self.crossed = set(), {}, collections.Counter(), [], set(), set()
         self.bounded, self.held, self.unjudged, self.amounts, self.folded = collections.Counter(), set(), 0, {}, collections.Counter()
         self.left_calls = collections.defaultdict(set)
         self.digested, self.shortened, self.across = collections.Counter(), collections.Counter(), collections.Counter()
+        self.bases, self.matching, self.packs = {}, set(), packs
         for key in sorted(calls.rows, key=lambda key: (len(key[0]), key[1])):
             reason = self.reason_for(key, calls.rows[key])
             if key in self.faults and reason: self.gone.update(calls.made_by(key))
@@ -57,10 +59,10 @@ class Choice:
 
     def base_of(self, communicator):
         """The communicator that is a script's world for this one: the first on the way from the world that has few enough members."""
-        for length in range(len(communicator) + 1):
-            base = communicator[:length]
-            if self.calls.order[base] and len(self.calls.members[base]) <= RANKS: return base
-        return None
+        if communicator not in self.bases:
+            ways = (communicator[:length] for length in range(len(communicator) + 1))
+            self.bases[communicator] = next((base for base in ways if self.calls.order[base] and len(self.calls.members[base]) <= RANKS), None)
+        return self.bases[communicator]
 
     def reason_for(self, key, row):
         communicator, part = key[0], next(iter(row.values()))
@@ -69,7 +71,7 @@ class Choice:
             self.cross_grid(key, row)
             self.compare_types(key, row)
             self.compare_own_amounts(key, row)
-        if any(communicator[:length] in self.gone for length in range(1, len(communicator) + 1)): return 'its communicator is left out'
+        if self.gone and any(communicator[:length] in self.gone for length in range(1, len(communicator) + 1)): return 'its communicator is left out'
         base = self.base_of(communicator)
         if base is None:
             if part.kind in MAKERS: self.count_left(key, part.name_of_kind() + ': more than 64 members')
@@ -132,16 +134,21 @@ class Choice:
         named = {part.type for part in row.values() if part.type}
         is_fold = row[min(row)].kind in FOLDS
         if all(part.sent is None for part in row.values()) and (is_fold or len(named) < 2 or named <= set(WIDTH) - {'2int'}): return
-        found = self.mismatch(key)
-        if found is None: return
+        words = key[0], *((rank, part.kind, part.root, part.sent, part.awaited) for rank, part in row.items())
+        found = None if words in self.matching else self.mismatch(key)
+        if found is None: return self.note_matching(words, row)
         is_left = any(part.tag != 'call' for part in row.values())
         if found[0] == 'types': self.tell(key, 'has types that don\'t match: ' + found[1])
         elif is_left: self.tell(key, 'doesn\'t fit together: ' + found[1])
         else: self.amounts[key] = found[1]
 
+    def note_matching(self, words, row):
+        """Calls of the same words on one communicator match as these do, where nothing but their lines `types` is compared."""
+        if all(part.sent is not None and not part.kind.startswith('neighbor') for part in row.values()): self.matching.add(words)
+
     def compare_own_amounts(self, key, row):
         """What one rank tells of itself twice, and otherwise."""
-        if self.is_told(key): return
+        if not self.record.amounts or self.is_told(key): return
         for rank in sorted(row):
             told = self.record.amounts.get((rank, row[rank].id))
             if told: return self.tell_fault(key, 'doesn\'t fit together: rank %d %s of itself' % (rank, told))
@@ -259,12 +266,19 @@ class Choice:
 
     def reason_of_length(self, key, row):
         """A call on more items than one of a script has is cut into blocks."""
-        if max(part.greatest() for part in row.values()) <= blocks.ITEMS: return None
-        if len({part.kind for part in row.values()}) > 1: return 'more than 4,096 items'
-        cut = blocks.plan(row, lambda part: folds.words_of(self.calls, part), len(self.calls.members[key[0]]))
-        if cut is None: return 'more than 4,096 items, of blocks that don\'t come out even'
-        self.blocks[key] = cut
+        greatest = max(part.greatest() for part in row.values())
+        if greatest > blocks.ITEMS:
+            if len({part.kind for part in row.values()}) > 1: return 'more than 4,096 items'
+            cut = blocks.plan(row, lambda part: folds.words_of(self.calls, part), len(self.calls.members[key[0]]))
+            if cut is None: return 'more than 4,096 items, of blocks that don\'t come out even'
+            self.blocks[key] = cut
+        if self.packs and greatest >= PACKED: self.pack(key, row)
         return None
+
+    def pack(self, key, row):
+        """The pieces stay: each has the same bytes."""
+        length, step = self.blocks.get(key, (0, 0))
+        if step % 8 == 0 and pack(self.calls, row) and step: self.blocks[key] = length // 8, step // 8
 
     def compare_totals(self, key, row):
         """Of a reduction of which the record has the first items only: how many there were, and a hash of the whole result."""

@@ -1,6 +1,6 @@
 """A rank's file as lines of text. library/file.c says how its blocks lie, library/lines.c what a line of a block may have; older records, and those
 that were written without zlib, are text."""
-import array, os, re, struct, zlib
+import array, functools, os, re, struct, sys, zlib
 
 HEAD = b'record 2\n'
 BLOCK = re.compile(rb'block (\d+) (\d+) (\d+) (\d+) ([zs])\n')
@@ -14,10 +14,36 @@ class Damaged(Exception):
     """Why a file isn't whole."""
 
 
+class Pairs(dict):
+    """Two bytes as text, by the number that they are."""
+
+    def __missing__(self, pair):
+        self[pair] = '%d %d' % tuple(pair.to_bytes(2, sys.byteorder))
+        return self[pair]
+
+
+PAIRS, KNOWN, MOST_KNOWN = Pairs(), {}, 8192
+
+
+@functools.lru_cache(maxsize=8192)      # what one rank gave is often what others got
 def numbers_of(letter, data):
     """As text, with blanks between."""
+    if letter == 'B': return text_of_bytes(data)
     if letter in PLAIN: return ' '.join(map(str, array.array(letter, data)))
     return ' '.join(str(number) for item in struct.iter_unpack(PACKED[letter], data) for number in item)
+
+
+def text_of_bytes(data):
+    text = ' '.join([*map(PAIRS.__getitem__, array.array('H', data[:len(data) & ~1])), *map(str, data[len(data) & ~1:])])
+    if len(KNOWN) == MOST_KNOWN: KNOWN.clear()
+    KNOWN[text] = data
+    return text
+
+
+def bytes_of(text):
+    """The bytes of a text of numbers; ValueError where one is none."""
+    data = KNOWN.get(text)
+    return bytes(map(int, text.split())) if data is None else data
 
 
 class Lines:
@@ -31,9 +57,9 @@ class Lines:
             end = data.find(b'\n', at)
             if end < 0: raise Damaged('a line has no end')
             line, at = data[at:end], end + 1
-            again = AGAIN.fullmatch(line)
-            if again: self.repeat(int(again[1])); continue
             mark = line.find(b'\1')
+            again = AGAIN.fullmatch(line) if mark < 0 else None
+            if again: self.repeat(int(again[1])); continue
             numbers = None
             if mark >= 0:
                 word = line[mark + 1:].split(b' ', 1)[0]
@@ -54,7 +80,8 @@ class Lines:
         self.say(*words)
 
     def say(self, tag, ident, rest):
-        if ident == '+': self.last += 1
+        if ident == '.': pass
+        elif ident == '+': self.last += 1
         elif ident.isdigit() and tag.partition('/')[0] in ('call', 'left', 'begun', 'unknown', 'unseen', 'abort', 'operation'): self.last = int(ident)
         self.text.append('%s %s%s' % (tag, self.last if ident in ('+', '.') else ident, rest) if ident else tag)
 

@@ -1,6 +1,6 @@
 """Numbers by their bits. What is greatest or least is exact by a map of the bits that keeps the order; of sums and products it is told whether
 they are within the reach of any order of the operands. This arithmetic is the tool's own, by exact fractions, and nothing of it is proved."""
-import math, struct
+import array, functools, math, struct
 from fractions import Fraction
 
 SINGLE = struct.Struct('=f')
@@ -96,6 +96,24 @@ def sum_of(values):
     except OverflowError: return math.inf
 
 
+def doubles_of(numbers): return array.array('d', array.array('Q', numbers).tobytes())
+
+
+def are_sums(operands, result):
+    """Whether all these doubles are sums, one rank's after the other, as the first test of `within_sum` has it."""
+    try:
+        columns, values = [doubles_of(numbers) for numbers in operands], doubles_of(result)
+        if any(len(column) != len(values) or not all(map(math.isfinite, column)) for column in columns): return False
+        near = list(map(math.fsum, zip(*columns)))
+        if values.tolist() == near: return True
+        wholes = map(math.fsum, zip(*(map(abs, column) for column in columns)))
+        return len(columns) > 2 and all(map(functools.partial(is_near, len(columns), 'f64'), values, near, wholes))
+    except OverflowError: return False
+
+
+def is_near(number, form, value, near, whole): return value == near or number > 2 and abs(value - near) <= (number - 2) * whole * 2.0 ** -DIGITS[form] * (1 - 1e-9)
+
+
 def within_sum(operands, result, form):
     """Whether any order of the operands may give this sum: None, or how far it is off, and how far it may be; UNJUDGED where that can't be said."""
     digits, number = DIGITS[form], len(operands)
@@ -103,7 +121,7 @@ def within_sum(operands, result, form):
     if form != 'f80' and is_finite(result, form):
         values, value = [plain(bits, form) for bits in operands], plain(result, form)
         near, whole = sum_of(values), sum_of(map(abs, values))
-        if value == near or number > 2 and abs(value - near) <= (number - 2) * whole * 2.0 ** -digits * (1 - 1e-9): return None
+        if is_near(number, form, value, near, whole): return None
     values = [exact(bits, form) for bits in operands]
     whole = sum(map(abs, values))
     if whole >= LARGEST[form] / 2: return UNJUDGED

@@ -1,8 +1,9 @@
 """Exchanges of types that scripts don't have, as types that they have: a double as its 64 bits, types that differ as bytes."""
-import struct, sys
+import array, functools, struct, sys
 
 from . import floats, folds
 from .blocks import has_numbers
+from .files import bytes_of
 from .parts import BITS, FOLDS, WIDTH
 
 # The script's type for each number of an item, and how an item's numbers lie in bytes.
@@ -60,6 +61,41 @@ def retake(calls, part, convert, by):
     part.lists, part.items = scaled(part.lists, by), convert(part.items, part.type)
     for teller in folds.tellers(calls, part):
         if has_numbers(teller.result): teller.result = convert(teller.result, part.type)
+
+
+class Packed:
+    """Numbers of a script, of which each is eight bytes of the program."""
+
+    def line(self, words): return [str(byte) for byte in array.array('Q', map(int, words)).tobytes()] if all(word.isdigit() for word in words) else words
+
+    def __call__(self, word): return word
+
+
+@functools.lru_cache(maxsize=64)        # what one rank gives is often what others get
+def packed(text):
+    """Each eight bytes as a number; ValueError where they don't come out even."""
+    return ' '.join(map(str, array.array('Q', bytes_of(text))))
+
+
+def eighth(word):
+    if int(word) % 8: raise ValueError('no eights')
+    return str(int(word) // 8)
+
+
+def pack(calls, row):
+    """Gives the parts of an exchange of many bytes an eighth of the numbers for the script, and tells whether it did; a report has the program's."""
+    kinds, parts = {part.kind for part in row.values()}, list(row.values())
+    if len(kinds) > 1 or kinds & set(FOLDS) or any(part.type != 'u8' or part.spelled for part in parts): return False
+    try:
+        lists = [[words if words == '-' else ','.join(map(eighth, words.split(','))) for words in part.lists] for part in parts]
+        items = [packed(part.items) for part in parts]
+        told = [(teller, packed(teller.result)) for part in parts for teller in folds.tellers(calls, part) if has_numbers(teller.result)]
+    except ValueError: return False
+    for part, counts, numbers in zip(parts, lists, items):
+        part.shown = part.shown or (part.type, part.lists, part.items)
+        part.type, part.lists, part.items, part.spelled = 'u64', counts, numbers, Packed()
+    for teller, result in told: teller.result = result
+    return True
 
 
 def make_one_type(calls, row):

@@ -1,5 +1,5 @@
 """Lines of a rank's record: its part of a call, a wait, or the end of the run. library/opening.c says how they are spelled."""
-import re
+import functools, re
 
 from . import floats
 
@@ -27,10 +27,22 @@ NUMBERS = re.compile(r'-?\d+( -?\d+)*')
 NAME = re.compile('[a-z][a-z0-9_]{0,31}')
 
 
+def are_numbers(text): return bool(NUMBERS.fullmatch(text)) if len(text) < 64 else are_many(text)
+
+
+@functools.lru_cache(maxsize=8192)      # what one rank gave is often what others got
+def are_many(text):
+    """Whether NUMBERS fits, without a look at each."""
+    if not text.isascii() or text.encode().translate(None, b'-0123456789 '): return False
+    within = ' %s ' % text
+    return '  ' not in within and '- ' not in within and within.count('-') == within.count(' -')
+
+
 class Unreadable(Exception):
     """The record can't be merged, and why."""
 
 
+@functools.lru_cache(maxsize=1024)
 def amount_of(numbers): return numbers.count(' ') + 1 if numbers else 0
 
 
@@ -91,7 +103,7 @@ class Part:
             elif field == 'T': self.type = word
             else: self.lists.append(word)
         self.items = words[1 + len(fields)] if len(words) > 1 + len(fields) else ''
-        if self.items and not NUMBERS.fullmatch(self.items): raise ValueError('words of ' + self.kind)
+        if self.items and not are_numbers(self.items): raise ValueError('words of ' + self.kind)
         if self.items and not self.type or amount_of(self.items) % self.numbers_an_item(): raise ValueError('items of ' + self.kind)
 
     def numbers_an_item(self): return numbers_each(self.type)
@@ -114,8 +126,8 @@ class Part:
 
     def fields(self, type_word):
         if self.kind in MAKERS: return self.lists
-        lists = iter(self.lists)
-        return [{'R': self.root, 'O': self.operation, 'T': type_word}.get(field) or next(lists) for field in FIELDS.get(self.kind, '')]
+        lists, words = iter(self.lists), {'R': self.root, 'O': self.operation, 'T': type_word}
+        return [words.get(field) or next(lists) for field in FIELDS.get(self.kind, '')]
 
     def told(self, most):
         """For a report, with so many numbers at most."""

@@ -1,7 +1,7 @@
 """The record of a run: a file of each rank."""
 import collections, os, re, subprocess
 
-from .parts import NUMBERS, Part, TAGS, Unreadable
+from .parts import are_numbers, Part, TAGS, Unreadable
 
 RESULT = re.compile(r'ok|none|null|empty|reordered|-|error \d+( .*)?|refused \w+( .*)?|comm \d+ \d+')
 NEIGHBOURS = re.compile(r'-w?|\d+(:\d+)?(,\d+(:\d+)?)*')
@@ -68,7 +68,7 @@ class Record:
         if tag in TAGS: self.read_part(rank, tag, int(thread or 1), rest, parts)
         elif tag == 'gave':
             ident, result = rest.split(' ', 1)
-            if not NUMBERS.fullmatch(result) and not RESULT.fullmatch(result): raise ValueError('no result')
+            if not are_numbers(result) and not RESULT.fullmatch(result): raise ValueError('no result')
             parts[int(ident)].result = result
         elif tag == 'types':
             ident, sent, awaited = rest.split()
@@ -94,7 +94,7 @@ class Record:
             parts[int(ident)].own = self.operations[rank, int(number)]
         elif tag == 'fold':
             ident, numbers = rest.split(' ', 1)
-            if not NUMBERS.fullmatch(numbers): raise ValueError('no numbers')
+            if not are_numbers(numbers): raise ValueError('no numbers')
             parts[int(ident)].fold = numbers
         elif tag == 'graph':
             name, *lists = rest.split()
@@ -164,10 +164,9 @@ class Record:
     def find_places(self):
         """Source lines, by addr2line where there is one."""
         wanted, found = collections.defaultdict(set), {}
-        for parts in self.parts + [self.operations.values()]:
-            for part in parts:
-                for path, offset in (self.module_of(part.rank, place) for place in part.place.split('<')):
-                    if path: wanted[path].add(offset)
+        for rank, places in {(part.rank, part.place) for parts in self.parts + [self.operations.values()] for part in parts}:
+            for path, offset in (self.module_of(rank, place) for place in places.split('<')):
+                if path: wanted[path].add(offset)
         for path, offsets in wanted.items():
             offsets, lines = sorted(offsets), []
             if os.path.exists(path):

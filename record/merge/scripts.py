@@ -164,10 +164,10 @@ class Script:
         """A call on many items as calls on blocks of items: statements, requests' names, and what this MPI gave."""
         length, step = self.choice.blocks[part.key]
         size, found = len(self.calls.members[part.key[0]]), []
-        for number in self.have[part.key] or range(-(-length // step)):
+        for number, lists, items, block in blocks.pieces_of(part, result, size, self.have[part.key] or range(-(-length // step)), step):
             piece = Part(part.rank, part.id, 'call', part.place, 'barrier', part.communicator)
             piece.kind, piece.root, piece.operation, piece.type, piece.nonblocking = part.kind, part.root, part.operation, part.type, part.nonblocking
-            piece.lists, piece.items, block = blocks.piece_of(part, result, size, number * step, number * step + step)
+            piece.lists, piece.items = lists, items
             if part.nonblocking: piece.name = '%s_%d' % (part.name, number)
             found.append((piece.text(communicator), piece.name, block))
         return found

@@ -1,9 +1,12 @@
-/* a communicator is used that was freed, by a second variable for it */
+/* A communicator is used that was freed, by a second variable for it. Under Open MPI each rank dies of that, and mpirun ends those that come late:
+ * they don't heed it before they are there, too. */
 #include <mpi.h>
+#include <signal.h>
 int main(int argc, char **argv)
 {
     MPI_Comm copy, same, other;
     int x = 1, y;
+    signal(SIGTERM, SIG_IGN);
     MPI_Init(&argc, &argv);
     MPI_Comm_set_errhandler(MPI_COMM_WORLD, MPI_ERRORS_RETURN);
     MPI_Comm_dup(MPI_COMM_WORLD, &copy);
