@@ -6,7 +6,7 @@ ghost use Rattle.mpx_name.specs.Order.{name_cmp};
 ghost use Rattle.mpx_node.specs.Shown.{node_of};
 ghost use Rattle.mpx_eval.specs.Found.{missing_view};
 ghost use Rattle.mpx_explain.specs.Firsts.{HasLooked, is_told_in};
-ghost use Rattle.mpx_explain.specs.RunEnds.{first_at, first_lacking, first_view, is_told_on, with_first};
+ghost use Rattle.mpx_explain.specs.RunEnds.{first_at, first_lacking, first_view, is_told_on, lacking_at, with_first};
 
 use crate::ended::{EndedRun, end_at};
 use crate::lacking::lacking_call;
@@ -113,6 +113,18 @@ fn later(one: u32, other: u32) -> u32
     if one < other { other } else { one }
 }
 
+// A call of which the node's board lacks posts, if it does.
+fn lacking_on(
+    alloc: Global,
+    waiter: &Waiter<'_>,
+    name: &Name,
+    call: u32,
+) -> Result<Option<MissingCall>, OutOfMemory>
+    ensures { IfOk result (λ found. option_map missing_view found ≡ lacking_at waiter.now.run.now (node_of waiter.now.node.now) None name.now call) }
+{
+    lacking_call(alloc, waiter.run, waiter.node, &None, name, call)
+}
+
 // The first of so many calls of which the node's board lacks posts, where none before this one does.
 fn first_from(
     alloc: Global,
@@ -124,9 +136,8 @@ fn first_from(
     requires { first_lacking waiter.now.run.now (node_of waiter.now.node.now) name.now from ≡ None }
     ensures { IfOk result (λ found. option_map missing_view found ≡ first_lacking waiter.now.run.now (node_of waiter.now.node.now) name.now calls) }
 {
-    let request = None;
     for call in from..calls {
-        let found = lacking_call(alloc, waiter.run, waiter.node, &request, name, call)?;
+        let found = lacking_on(alloc, waiter, name, call)?;
         if found.is_some() {
             return Ok(found);
         }

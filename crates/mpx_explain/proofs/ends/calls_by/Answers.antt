@@ -1,5 +1,6 @@
-use Rattle.std.proofs.Common.{◌∙◌, List, ap, drop, map}
+use Rattle.std.proofs.Common.{◌∙◌, ◌++◌, List, ap, drop, map}
 use Rattle.mpx_eval.specs.Found.{missing_view}
+use Rattle.std.specs.List.{flat_map}
 use Rattle.mpx_meaning.specs.Ends.{asked_view}
 use Rattle.mpx_node.specs.Shown.{node_of}
 use Rattle.mpx_explain.specs.RunEnds.{first_view, lacking_of}
@@ -7,11 +8,12 @@ use Rattle.mpx_explain.proofs.FirstCalls.{firsts_all, firsts_more, looked_none, 
 use Rattle.mpx_explain.proofs.FoundEnds.{flat_more}
 use Rattle.mpx_explain.proofs.ends.calls_by.Goals as goal
 
-pub loop-one-init-clause-looked : goal.loop-one-init-clause-looked
-loop-one-init-clause-looked c = looked_none c.args.waiter.now.run.now (node_of c.args.waiter.now.node.now) (map first_view c.new-2.result.items) c.new-3.result (ap (map first_view) c.new-2.ensures.items) c.new-3.ensures.empty
-
-pub loop-one-init-clause-firsts : goal.loop-one-init-clause-firsts
-loop-one-init-clause-firsts c = with_none_told c.args.waiter.now.run.now (node_of c.args.waiter.now.node.now) (c.args.waiter.now.rank, c.args.waiter.now.statement) (map first_view c.new-2.result.items) (map asked_view c.args.asked.now) (ap (map first_view) c.new-2.ensures.items)
+pub loop-one-init : goal.loop-one-init
+loop-one-init c = record {
+  calls = ap (λ xs. map missing_view xs ++ flat_map (lacking_of c.args.waiter.now.run.now (node_of c.args.waiter.now.node.now)) (map asked_view c.args.asked.now)) c.new.ensures.items;
+  looked = looked_none c.args.waiter.now.run.now (node_of c.args.waiter.now.node.now) (map first_view c.new-2.result.items) c.new-3.result (ap (map first_view) c.new-2.ensures.items) c.new-3.ensures.empty;
+  firsts = with_none_told c.args.waiter.now.run.now (node_of c.args.waiter.now.node.now) (c.args.waiter.now.rank, c.args.waiter.now.statement) (map first_view c.new-2.result.items) (map asked_view c.args.asked.now) (ap (map first_view) c.new-2.ensures.items);
+}
 
 pub loop-one-preserved : goal.loop-one-preserved
 loop-one-preserved c =

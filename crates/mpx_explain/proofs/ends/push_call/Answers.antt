@@ -7,8 +7,8 @@ use Rattle.mpx_explain.specs.RunEnds.{first_view}
 use Rattle.mpx_explain.proofs.FirstCalls.{first_at_lacking, first_at_other, none_lacking, ok_so, ok_then}
 use Rattle.mpx_explain.proofs.ends.push_call.Goals as goal
 
-pub returns-in-Some-clause-firsts : goal.returns-in-Some-clause-firsts
-returns-in-Some-clause-firsts c =
+pub returns-in_ok-push-in-Some-clause-firsts : goal.returns-in_ok-push-in-Some-clause-firsts
+returns-in_ok-push-in-Some-clause-firsts c =
     first_at_lacking c.args.waiter.now.run.now (node_of c.args.waiter.now.node.now) (c.args.waiter.now.rank, c.args.waiter.now.statement) (map first_view c.args.firsts.now.told.items) (asked_view c.args.asked.now) (missing_view c.in-Some.call)
     (sym c.in_ok-found.ensures ∙ ap (option_map missing_view) c.in-Some.is)
 

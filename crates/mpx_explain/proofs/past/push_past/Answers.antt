@@ -15,7 +15,7 @@ returns-in_ok-push-in-Some c =
     let sums = c.args.sums.now in
     let found = first_past row.draft.now.ty c.bounds_of-bounds.result comes (length sums) in
     let told = subst (λ (p : Option (Option ℤ)). MatchOption p (found ≡ None) (λ e. IsSomeAnd found (IsKnownAs e))) c.in-Some.is (c.first_past-past.ensures (is_product row.draft.now.op) comes c.requires.sums.each) in
-    past_here row c.args.rank c.args.statement (length sums) c.bounds_of-bounds.result c.in-Some.exact c.args.all.now.items c.push.new.self.items c.bounds_of-bounds.ensures c.requires.sums.len c.requires.post told c.in_ok-push.ensures.items
+    past_here row c.args.rank c.args.statement (length sums) c.bounds_of-bounds.result c.in-Some.exact c.args.all.now.items c.push.new.self.items c.bounds_of-bounds.ensures c.requires.sums.len c.requires.post told c.in_ok-push-in-Some.ensures.items
 
 pub returns-in-None : goal.returns-in-None
 returns-in-None c =
