@@ -10,9 +10,9 @@ use Rattle.mpx_explain.proofs.ends.calls_by.Goals as goal
 
 pub loop-one-init : goal.loop-one-init
 loop-one-init c = record {
-  calls = ap (λ xs. map missing_view xs ++ flat_map (lacking_of c.args.waiter.now.run.now (node_of c.args.waiter.now.node.now)) (map asked_view c.args.asked.now)) c.new.ensures.items;
-  looked = looked_none c.args.waiter.now.run.now (node_of c.args.waiter.now.node.now) (map first_view c.new-2.result.items) c.new-3.result (ap (map first_view) c.new-2.ensures.items) c.new-3.ensures.empty;
-  firsts = with_none_told c.args.waiter.now.run.now (node_of c.args.waiter.now.node.now) (c.args.waiter.now.rank, c.args.waiter.now.statement) (map first_view c.new-2.result.items) (map asked_view c.args.asked.now) (ap (map first_view) c.new-2.ensures.items);
+  calls = ap (λ xs. map missing_view xs ++ flat_map (lacking_of c.args.waiter.now.run.now (node_of c.args.waiter.now.node.now)) (map asked_view c.args.asked.now)) c.new-calls.ensures.items;
+  looked = looked_none c.args.waiter.now.run.now (node_of c.args.waiter.now.node.now) (map first_view c.new.result.items) c.new-2.result (ap (map first_view) c.new.ensures.items) c.new-2.ensures.empty;
+  firsts = with_none_told c.args.waiter.now.run.now (node_of c.args.waiter.now.node.now) (c.args.waiter.now.rank, c.args.waiter.now.statement) (map first_view c.new.result.items) (map asked_view c.args.asked.now) (ap (map first_view) c.new.ensures.items);
 }
 
 pub loop-one-preserved : goal.loop-one-preserved
