@@ -1,16 +1,19 @@
 -- Calls of more items than one call takes.
-use Rattle.std.specs.Prelude.{ℕ, ℤ, pos, ◌/◌, ◌==◌, if◌then◌else◌, ◌≡◌, List, [], ◌∷◌, map, Result, Ok, Err, Vec}
+use Rattle.std.specs.Prelude.{ℕ, ℤ, pos, ◌*◌, ◌/◌, ◌==◌, if◌then◌else◌, ◌≡◌, ◌≢◌, ◌⊎◌, length, Option, Some, List, [], ◌∷◌, map, Result, Ok, Err, Vec}
 use Rattle.std.specs.List.{All}
 use Rattle.std.specs.declared.alloc.Global.{Global}
 use Rattle.mpx_kind.specs.declared.kinds.Mode.TheVariants.{Blocking}
+use Rattle.mpx_match.specs.declared.faults.FaultKind.TheVariants.{Amount}
 use Rattle.mpx_name.specs.Name.{Name}
 use Rattle.mpx_num.specs.declared.own.Operation.{Operation}
 use Rattle.mpx_num.specs.declared.types.Ty.{Ty}
 use Rattle.mpx_num.specs.declared.types.Ty.TheVariants.{U64}
 use Rattle.mpx_post.specs.declared.draft.Draft.{Draft}
+use Rattle.mpx_post.specs.declared.draft.PostError.TheVariants.{ItemsLength}
 use Rattle.mpx_node.specs.declared.finished.Finished.{Finished}
 use Rattle.mpx_node.specs.Nodes.{NodeView}
 use Rattle.mpx_request.specs.declared.answers.TurnError.{TurnError}
+use Rattle.mpx_comm.specs.declared.answers.CallError.TheVariants as C
 use Rattle.mpx_comm.specs.declared.desk.Desk.{Desk}
 use Rattle.mpx_comm.specs.Desks.{DeskCalls}
 use Rattle.mpx_comm.specs.Given.{numbers_given}
@@ -19,7 +22,8 @@ use Rattle.mpx_call.specs.Parts.{AreParts, Follow, Part}
 use Rattle.mpx_program_rank.specs.declared.lengths.Parted.{Parted}
 use Rattle.mpx_program_rank.specs.declared.lengths.Parted.TheVariants.{Bcast, Gather, Allgather, Scatter, Alltoall, Reduce, Allreduce, Scan, Exscan}
 use Rattle.mpx_program_rank.specs.declared.call_error.CallError.{CallError}
-use Rattle.mpx_program_rank.specs.Gives.{Gives, IsRead}
+use Rattle.mpx_program_rank.specs.declared.call_error.Cause.TheVariants.{Fault, OutOfMemory}
+use Rattle.mpx_program_rank.specs.Gives.{Gives, IsRead, desk_error}
 
 -- how many items for each rank one call takes, in a communicator of so many ranks
 abbrev pub block_of : ℕ → ℕ
@@ -66,15 +70,35 @@ abbrev pub HaveAgreed : {H : Type 0} {g : _} → (ops_of : H → List Operation)
 HaveAgreed ops_of node turned refused name count turns old new =
     (counts : Vec ℕ Global) × Gives (ops_of old.host) node turned refused name (line.allgather Blocking U64 (pos count ∷ [])) turns (IsRead (map pos)) (Ok counts) old new × All (λ n. n ≡ count) counts.items
 
+-- the error is that of the question; or some rank says another number, and it is this fault
+abbrev pub IsDisagreed : (count : ℕ) → Result (Vec ℕ Global) CallError → CallError → Type 0
+IsDisagreed count (Ok counts) e = (All (λ n. n ≡ count) counts.items → ⊥) × ((rank : ℕ) × (e.cause ≡ Fault (record { what = Amount; rank = rank })))
+IsDisagreed count (Err why) e = e ≡ why
+
+-- before its parts ranks don't agree
+abbrev pub HaveDisagreed : {H : Type 0} {g : _} → (ops_of : H → List Operation) → (node : H → NodeView) → (turned : H → ℕ → H → Type 0) → (refused : H → TurnError → H → Type 0) → Name → (count turns : ℕ) → CallError → (old new : Desk H g) → Type 0
+HaveDisagreed ops_of node turned refused name count turns e old new =
+    (counts : Result (Vec ℕ Global) CallError) × Gives (ops_of old.host) node turned refused name (line.allgather Blocking U64 (pos count ∷ [])) turns (IsRead (map pos)) counts old new × IsDisagreed count counts e
+
 -- one call of the desk, of the items of a part, which gives that part's
 abbrev pub MakesPart : {H : Type 0} {g : _} {T : Type 0} → (ops_of : H → List Operation) → (node : H → NodeView) → (turned : H → ℕ → H → Type 0) → (refused : H → TurnError → H → Type 0) → Name → (draft_of : ℕ → List T → Draft) → (numbers : List T → List ℤ) → (turns : ℕ) → Part T → (old new : Desk H g) → Type 0
 MakesPart ops_of node turned refused name draft_of numbers turns part old new =
     (finished : Finished) × DeskCalls (ops_of old.host) node turned refused name (draft_of part.count part.given) turns (Ok finished) old new × (numbers_given finished.outcome ≡ Ok (numbers part.got))
 
+-- it stops with an error: for want of memory, or as the slice isn't of so many blocks, and then no more is called; or the next part's call gives the error
+abbrev pub Stops : {H : Type 0} {g : _} {T : Type 0} → (ops_of : H → List Operation) → (node : H → NodeView) → (turned : H → ℕ → H → Type 0) → (refused : H → TurnError → H → Type 0) → Name → (draft_of : ℕ → List T → Draft) → (numbers : List T → List ℤ) → (turns gives count : ℕ) → List T → CallError → (old new : Desk H g) → Type 0
+Stops {H} {g} {T} ops_of node turned refused name draft_of numbers turns gives count items e old new =
+    ((new ≡ old) × (e.cause ≡ OutOfMemory)) ⊎ ((new ≡ old) × (desk_error e.cause ≡ Some (C.Refused ItemsLength)) × (length items ≢ gives * count))
+    ⊎ ((each : ℕ) × (given : List T) × Gives (ops_of old.host) node turned refused name (draft_of each given) turns (IsRead numbers) (Err e) old new)
+
 -- a call of any length that gives its list: all ranks gave this number of items of a block, and then there is one call of each part, in order.
--- `most` is how many items of a block each part but the last has, `gives` how many blocks this rank gives, and `gets` how many it gets
+-- `most` is how many items of a block each part but the last has, `gives` how many blocks this rank gives, and `gets` how many it gets. One that gives an
+-- error has made no call of a part, as ranks don't agree; or calls of some parts, in order, and stops
 abbrev pub GivesInParts : {H : Type 0} {g : _} {T : Type 0} → (ops_of : H → List Operation) → (node : H → NodeView) → (turned : H → ℕ → H → Type 0) → (refused : H → TurnError → H → Type 0) → Name → (draft_of : ℕ → List T → Draft) → (numbers : List T → List ℤ) → (turns most gives gets count : ℕ) → (items : List T) → Result (Vec T Global) CallError → (old new : Desk H g) → Type 0
 GivesInParts {H} {g} {T} ops_of node turned refused name draft_of numbers turns most gives gets count items (Ok list) old new =
     (agreed : Desk H g) × (parts : List (Part T)) × HaveAgreed ops_of node turned refused name count turns old agreed
     × Follow (MakesPart ops_of node turned refused name draft_of numbers turns) parts agreed new × AreParts most gives gets count items list.items parts
-GivesInParts ops_of node turned refused name draft_of numbers turns most gives gets count items (Err e) old new = Unit {0}
+GivesInParts {H} {g} {T} ops_of node turned refused name draft_of numbers turns most gives gets count items (Err e) old new =
+    HaveDisagreed ops_of node turned refused name count turns e old new
+    ⊎ ((agreed : Desk H g) × (parts : List (Part T)) × (made : Desk H g) × HaveAgreed ops_of node turned refused name count turns old agreed
+    × Follow (MakesPart ops_of node turned refused name draft_of numbers turns) parts agreed made × Stops ops_of node turned refused name draft_of numbers turns gives count items e made new)

@@ -105,18 +105,24 @@ impl CallError {
 }
 
 impl From<AllocError> for CallError {
+    ghost from_gives = { λ _ e. e.cause ≡ C.OutOfMemory };
+
     fn from(_e: AllocError) -> CallError {
         CallError::bare(Cause::OutOfMemory)
     }
 }
 
 impl<T: Drop> From<AllocFailed<T>> for CallError {
+    ghost from_gives = { λ _ e. e.cause ≡ C.OutOfMemory };
+
     fn from(_e: AllocFailed<T>) -> CallError {
         CallError::bare(Cause::OutOfMemory)
     }
 }
 
 impl From<join_core::OutOfMemory> for CallError {
+    ghost from_gives = { λ _ e. e.cause ≡ C.OutOfMemory };
+
     fn from(_e: join_core::OutOfMemory) -> CallError {
         CallError::bare(Cause::OutOfMemory)
     }

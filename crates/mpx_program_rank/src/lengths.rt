@@ -2,10 +2,12 @@
 //!
 //! Before these calls the ranks say how many items they give, by an `allgather`. Where the numbers differ, each rank gets the fault that one call
 //! would give, and none goes on by itself. A rank whose items fit into one call makes that call, which then meets the `allgather`: a fault too.
-ghost use Rattle.std.specs.Prelude.{◌≡◌, ◌<◌, ◌*◌, ◌↔◌, [], IsTrue, OnOk};
+ghost use Rattle.std.specs.Prelude.{◌≡◌, ◌≢◌, ◌<◌, ◌*◌, ◌↔◌, [], IfErr, IsTrue, OnOk, Some};
 ghost use Rattle.std.specs.List.{All};
-ghost use Rattle.mpx_program_rank.specs.Gives.{Gives, IsRead};
-ghost use Rattle.mpx_program_rank.specs.Lengths.{GivesInParts, HaveAgreed, at_root, block_of, blocks_given, blocks_got, most_of, part_line};
+ghost use Rattle.mpx_comm.specs.declared.answers.CallError.TheVariants as C;
+ghost use Rattle.mpx_post.specs.declared.draft.PostError.TheVariants.{ItemsLength};
+ghost use Rattle.mpx_program_rank.specs.Gives.{Gives, IsRead, desk_error};
+ghost use Rattle.mpx_program_rank.specs.Lengths.{GivesInParts, HaveAgreed, HaveDisagreed, at_root, block_of, blocks_given, blocks_got, most_of, part_line};
 
 use crate::call_error::{CallError, Cause};
 use crate::rank::Rank;
@@ -155,6 +157,7 @@ impl<'a, H: Host> Rank<'a, H> {
     // That all ranks give this number of items, else the fault that one call would give.
     fn agree(&mut self, name: &'static str, comm: &Comm, count: usize) -> Result<(), CallError>
         ensures agreed { OnOk result (HaveAgreed (λ host. H.goes_by host []) H.node H.turned H.turn_refused comm.now.name count self.old.turns self.old.desk.now self.new.desk.now) }
+        ensures disagreed { IfErr result (λ e. HaveDisagreed (λ host. H.goes_by host []) H.node H.turned H.turn_refused comm.now.name count self.old.turns e self.old.desk.now self.new.desk.now) }
         ensures same { self.new.desk.ghost_name ≡ self.old.desk.ghost_name }
         ensures kept { (self.new.world ≡ self.old.world) × (self.new.turns ≡ self.old.turns) }
     {
@@ -175,7 +178,8 @@ impl<'a, H: Host> Rank<'a, H> {
 
     // That a call is given as many items as it takes.
     fn takes(&self, call: Parted, comm: &Comm, count: usize, items: usize) -> Result<(), CallError>
-        ensures { OnOk result (items ≡ blocks_given call comm.now.rank comm.now.size * count) }
+        ensures fits { OnOk result (items ≡ blocks_given call comm.now.rank comm.now.size * count) }
+        ensures not { IfErr result (λ e. (desk_error e.cause ≡ Some (C.Refused ItemsLength)) × (items ≢ blocks_given call comm.now.rank comm.now.size * count)) }
     {
         let taken = call.gives(comm).checked_mul(count);
         if taken == Some(items) {
